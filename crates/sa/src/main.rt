@@ -1,7 +1,7 @@
 //! `sa`: reads a workload from standard input, runs it, and writes its trace to standard output.
 #![tactic(auto)]
 
-use sa_cli::{Status, Words, top};
+use sa_cli::{Status, Words, limits_of, run_one, run_threads};
 use sa_io::{StdSink, StdSource};
 use sa_workers::FreeGate;
 use std::env;
@@ -14,7 +14,12 @@ fn main(rt: HostRuntime) -> ExitCode {
         Ok(words) => {
             let mut source = StdSource::new(rt.reader());
             let mut sink = StdSink::new(io::writer(&rt));
-            top(&rt, rt.alloc(), &words, &mut source, &mut sink, &FreeGate).status
+            let alloc = rt.alloc();
+            let outcome = match limits_of(&words) {
+                Some(limits) => run_threads(&rt, alloc, limits, &mut source, &mut sink, &FreeGate),
+                None => run_one(alloc, &words, &mut source, &mut sink),
+            };
+            outcome.status
         }
         Err(status) => status,
     };

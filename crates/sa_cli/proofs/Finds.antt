@@ -19,8 +19,8 @@ use Rattle.sa_check.specs.Verdict.{IsVerdict}
 use Rattle.sa_check.proofs.VerdictLemmas.{one-verdict}
 use Rattle.sa_cli.specs.declared.found.Found.{Found}
 use Rattle.sa_cli.specs.declared.found.Found.TheVariants.{Judged, BadWorkload, BadTrace}
-use Rattle.sa_cli.specs.declared.input.TheConstants.{TEXTS_LIMIT}
-use Rattle.sa_cli.specs.Input.{ReadsInput}
+use Rattle.sa_cli.specs.declared.limits.TheConstants.{TEXTS_LIMIT}
+use Rattle.sa_io.specs.Input.{ReadsInput}
 use Rattle.sa_cli.specs.Refusals.{too_long}
 use Rattle.sa_cli.specs.Texts.{workload_part, trace_part, HasWorkload, last_told, IsJudged, HasBadWorkload, HasBadTrace, IsFound}
 use Rattle.sa_cli.proofs.Inputs.{all-parted, refused-once, text-not_refused}

@@ -6,7 +6,7 @@ use Rattle.sa_spaces.specs.Workload.{WorkloadView}
 use Rattle.sa_workload.specs.Text.{IsText, IsText1}
 use Rattle.sa_workload.specs.Bad.{BadAt, BadAt1}
 use Rattle.sa_workload.proofs.whole.Whole.{answers, answers1}
-use Rattle.sa_cli.specs.declared.input.TheConstants.{INPUT_LIMIT}
+use Rattle.sa_cli.specs.declared.limits.TheConstants.{INPUT_LIMIT}
 use Rattle.sa_cli.specs.Input.{Texts, GaveText}
 use Rattle.sa_cli.specs.Refusals.{Badness, IsInputRefused, IsRefused}
 

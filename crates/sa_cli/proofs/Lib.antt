@@ -1,4 +1,3 @@
-mod Told
 mod TracePieces
 mod Refusals
 mod Inputs

@@ -1,10 +1,10 @@
 -- The two parts of an input.
-use Rattle.std.proofs.Common.{◌≡◌, ◌≢◌, ℕ, ◌+◌, ◌<◌, ◌≤◌, List, [], ◌∷◌, ◌++◌, length, take, drop, get_or, Bool, true, false, refl, ap, ◌∙◌, arith, ◌-◌, length-drop}
+use Rattle.std.proofs.Common.{◌≡◌, ◌≢◌, ℕ, ◌+◌, ◌<◌, ◌≤◌, List, [], ◌∷◌, ◌++◌, length, take, drop, get_or, Bool, true, false, refl, ap, ◌∙◌, arith, ◌-◌, length-drop, sym, subst}
 use Rattle.std.proofs.lemmas.Bool.Decides.{nat_tests}
 use Rattle.std.proofs.Math.Nat.{sub_self}
 use Rattle.std.proofs.lemmas.List.{drop_more, take_more, get_or-drop}
 use Rattle.std.specs.List.{slice_range}
-use Rattle.std.specs.Prelude.{◌==◌, codes, if◌then◌else◌}
+use Rattle.std.specs.Prelude.{◌==◌, codes, if◌then◌else◌, Result, Ok, Err, IfErr, IsErrAnd}
 use Rattle.std.specs.Str.{bytes_eq}
 use Rattle.sa_cli.specs.Texts.{through_close, workload_part, trace_part}
 
@@ -74,3 +74,8 @@ byte-more input start i n forward within other rest =
     let len = ap length goes in
     let line = line-byte input start i forward within in
     rw line (omega arith)
+
+-- what holds of an error holds of the result that has it
+pub err-along : {A E : Type 0} (P : E → Type 0) (why : E) (result : Result A E) → P why → IsErrAnd result (λ e. e ≡ why) → IfErr result P
+err-along P why (Ok x) holds is = absurd is
+err-along P why (Err e) holds is = subst P (sym is) holds

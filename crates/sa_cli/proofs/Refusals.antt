@@ -10,9 +10,9 @@ use Rattle.sa_base.specs.declared.refusal.Unread.TheVariants as unread
 use Rattle.sa_workload.specs.Answer.{IfBad}
 use Rattle.sa_cli.specs.declared.outcome.Status.{Status}
 use Rattle.sa_cli.specs.Outcome.{status_of_unread}
-use Rattle.sa_cli.specs.declared.input.TheConstants.{INPUT_LIMIT}
+use Rattle.sa_cli.specs.declared.limits.TheConstants.{INPUT_LIMIT}
 use Rattle.sa_cli.specs.Refusals.{Badness, IsInputRefused, IsRefused, NothingRead, too_long}
-use Rattle.sa_cli.specs.Input.{ReadsInput}
+use Rattle.sa_io.specs.Input.{ReadsInput}
 
 -- the line is told by what comes before the limit
 pub long-front : (limit : ℕ) (bytes more : List ℕ) → limit ≤ length bytes → too_long limit (bytes ++ more) ≡ too_long limit bytes

@@ -7,7 +7,7 @@ use Rattle.sa_base.specs.declared.record.End.TheVariants as end
 use Rattle.sa_spaces.specs.Workload.{WorkloadView, IsWorkload}
 use Rattle.sa_workload.specs.Text.{IsText}
 use Rattle.sa_workload.specs.Bad.{BadAt, BadAt1}
-use Rattle.sa_run.specs.Run.{RunsTo, RunsSoFar}
+use Rattle.sa_run.specs.Run.{RunsTo, RunsUnended}
 use Rattle.sa_command.specs.declared.command.Command.{Command}
 use Rattle.sa_command.specs.declared.command.Command.TheVariants.{Run, Threads, Load, Migrate, Check, Vp, Debug}
 use Rattle.sa_cli.specs.declared.outcome.Status.{Status}
@@ -73,10 +73,10 @@ module _ (mine : WorkloadView → Type 0) (plan : Plan) (kept : AreKept plan.run
       let both = kept.ended w (plan.order w) plan.budget items e events ok runs in
       record { workload = w; is = is; events = events; run = runs; legal = both.0; ends = both.1; went = went }
 
-  came-so : (items : List Item) (w : WorkloadView) → mine w → IsWorkload w → RunsSoFar plan.runs.calls w (plan.order w) plan.budget items
+  came-so : (items : List Item) (w : WorkloadView) → mine w → IsWorkload w → RunsUnended plan.runs.calls w (plan.order w) plan.budget items
       → Came mine plan items
   came-so items w is ok runs =
-      record { workload = w; is = is; run = runs; legal = kept.came w (plan.order w) plan.budget items ok runs }
+      record { workload = w; is = is; run = runs; legal = kept.came w (plan.order w) plan.budget items ok runs.so_far; unended = kept.unended w (plan.order w) plan.budget items ok runs }
 
   written-answers : (items : List Item) (w : WorkloadView) (e : End) (events : ℕ) (status : Status) → mine w → IsWorkload w
       → RunsTo plan.runs.calls w (plan.order w) plan.budget items e events
@@ -100,7 +100,7 @@ module _ (mine : WorkloadView → Type 0) (plan : Plan) (kept : AreKept plan.run
 
   -- what is answered where memory ran out on the way
   pub stopped-answers : (ran : Ran) (trace : Recorded) (w : WorkloadView) (status : Status) → ran ≡ Plain trace → status ≡ OutOfMemory
-      → mine w → IsWorkload w → (trace.items ≡ []) ⊎ RunsSoFar plan.runs.calls w (plan.order w) plan.budget trace.items
+      → mine w → IsWorkload w → (trace.items ≡ []) ⊎ RunsUnended plan.runs.calls w (plan.order w) plan.budget trace.items
       → RunAnswers mine plan old new (history ran) status
   stopped-answers ran trace w status plain out is ok runs =
       subst (λ (r : Ran). RunAnswers mine plan old new (history r) status) (sym plain)

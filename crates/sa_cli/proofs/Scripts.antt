@@ -9,7 +9,7 @@ use Rattle.sa_workload.specs.Text.{IsText}
 use Rattle.sa_workload.proofs.whole.OneBad.{texts_differ}
 use Rattle.sa_script.specs.declared.command.DebugCommand.{DebugCommand}
 use Rattle.sa_script.specs.Reading.{script_of}
-use Rattle.sa_cli.specs.declared.debug.TheConstants.{SCRIPTS_LIMIT}
+use Rattle.sa_cli.specs.declared.limits.TheConstants.{SCRIPTS_LIMIT}
 use Rattle.sa_cli.specs.declared.outcome.Ran.{Ran}
 use Rattle.sa_cli.specs.declared.outcome.Status.{Status}
 use Rattle.sa_cli.specs.declared.outcome.Status.TheVariants as status
@@ -17,7 +17,7 @@ use Rattle.sa_cli.specs.Answers.{World}
 use Rattle.sa_cli.specs.Complete.{Debugs}
 use Rattle.sa_cli.specs.Debugging.{BeginsWith, IsScriptOf, RefusesWorkload, RefusesScript, Scripted, IsScripted, status_of_scripted, GaveScripted, AnswersDebug}
 use Rattle.sa_cli.specs.Debugging.Scripted.{Accepted, BadWorkload, BadScript}
-use Rattle.sa_cli.specs.Input.{ReadsInput}
+use Rattle.sa_io.specs.Input.{ReadsInput}
 use Rattle.sa_cli.specs.Refusals.{too_long}
 use Rattle.sa_cli.specs.Texts.{workload_part, trace_part}
 use Rattle.sa_cli.proofs.Inputs.{all-parted, refused-once, text-not_refused}

@@ -8,9 +8,9 @@ use Rattle.sa_io.specs.Pieces.{GoesOut}
 use Rattle.sa_io.proofs.PieceLemmas.{out-none, out-cut}
 use Rattle.sa_trace.specs.TraceText.{trace_text}
 use Rattle.sa_cli.specs.declared.debug.Stopped.TheVariants as stopped
-use Rattle.sa_cli.specs.declared.debug.TheConstants.{SCRIPTS_LIMIT}
-use Rattle.sa_cli.specs.declared.input.ReadError.{ReadError}
-use Rattle.sa_cli.specs.declared.input.ReadError.TheVariants as read
+use Rattle.sa_cli.specs.declared.limits.TheConstants.{SCRIPTS_LIMIT}
+use Rattle.sa_io.specs.declared.input.ReadError.{ReadError}
+use Rattle.sa_io.specs.declared.input.ReadError.TheVariants as read
 use Rattle.sa_cli.specs.declared.outcome.Ran.{Ran}
 use Rattle.sa_cli.specs.declared.outcome.Ran.TheVariants.{Nothing, Plain}
 use Rattle.sa_cli.specs.declared.outcome.Status.{Status}
@@ -18,7 +18,7 @@ use Rattle.sa_cli.specs.declared.outcome.Status.TheVariants as status
 use Rattle.sa_cli.specs.Answers.{World, TookAll, TookSome, Writes}
 use Rattle.sa_cli.specs.Debugging.{Debugged, DebuggedSoFar, AnswersDebug}
 use Rattle.sa_cli.specs.Debugging.Scripted.{Accepted, BadWorkload, BadScript}
-use Rattle.sa_cli.specs.Input.{ReadsInput}
+use Rattle.sa_io.specs.Input.{ReadsInput}
 use Rattle.sa_cli.specs.Outcome.{history, status_of}
 use Rattle.sa_cli.specs.Scripted.{IsDone, IsStopped}
 use Rattle.sa_cli.proofs.Scripts.{gave-scripted}

@@ -10,10 +10,7 @@ use Rattle.sa_workload.specs.Bad.{BadAt}
 use Rattle.sa_package_model.specs.Step.{fast_calls}
 use Rattle.sa_seat.specs.Closed.{ClosedView}
 use Rattle.sa_workers.specs.Run.{HasRun}
-use Rattle.sa_fast_runs.proofs.Shared.{shared-legal}
-use Rattle.sa_workers.specs.declared.runs.Limits.{Limits}
-use Rattle.sa_command.specs.declared.command.Command.{Command}
-use Rattle.sa_command.specs.declared.command.Command.TheVariants.{Run, Threads, Load, Migrate, Check, Vp, Debug}
+use Rattle.sa_package_runs.proofs.Shared.{shared-legal}
 use Rattle.sa_cli.specs.declared.outcome.Ran.{Ran}
 use Rattle.sa_cli.specs.declared.outcome.Ran.TheVariants.{Nothing, Shared}
 use Rattle.sa_cli.specs.declared.outcome.Status.{Status}
@@ -23,19 +20,8 @@ use Rattle.sa_cli.specs.Refusals.{NothingRead}
 use Rattle.sa_cli.specs.Outcome.{status_of_end, HasEnded}
 use Rattle.sa_cli.specs.Answers.{World, TookAll, Writes}
 use Rattle.sa_cli.specs.Complete.{Takes, Refuses}
-use Rattle.sa_cli.specs.Shared.{limits_of, WritesClosed, SharedRun, SharedEnded, AnswersThreads}
+use Rattle.sa_cli.specs.Shared.{WritesClosed, SharedRun, SharedEnded, AnswersThreads}
 use Rattle.sa_cli.proofs.Inputs.{all-parted, told-not_refused, told-refused_once, gave-not_refused}
-
--- the limits are those of the command
-pub is-threads : (o : Option Command) (limits : Limits) → limits_of o ≡ Some limits → o ≡ Some (Threads limits.budget limits.burst)
-is-threads None limits e = absurd cc
-is-threads (Some (Run schedule budget user_level)) limits e = absurd cc
-is-threads (Some (Threads budget burst)) limits e = cc
-is-threads (Some (Load number budget)) limits e = absurd cc
-is-threads (Some (Migrate slice)) limits e = absurd cc
-is-threads (Some Check) limits e = absurd cc
-is-threads (Some (Vp schedule budget)) limits e = absurd cc
-is-threads (Some (Debug budget)) limits e = absurd cc
 
 module _ (budget : ℕ) (old new : World) where
   -- where nothing was read, nothing ran
@@ -82,7 +68,7 @@ module _ (budget : ℕ) (old new : World) where
           let stops : status ≡ OutOfMemory =
           subst (λ (o : Option End). MatchOption o (status ≡ OutOfMemory)
           (λ e. Writes old.taken new.taken old.writes new.writes (trace_text closed.items e (sum closed.turns)) (status_of_end e) status)) none writes in
-          subst (λ (v : Status). AnswersThreads budget old new ran v) (sym stops) (inr shared)
+          subst (λ (v : Status). AnswersThreads budget old new ran v) (sym stops) (inr (record { shared = shared; unended = none }))
       go (Some e) some =
           written-shared ran shared e status some
           (subst (λ (o : Option End). MatchOption o (status ≡ OutOfMemory)

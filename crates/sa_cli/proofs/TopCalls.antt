@@ -1,22 +1,17 @@
--- What both top calls promise, from what the parts of a command say.
-use Rattle.std.proofs.Common.{◌≡◌, ℕ, List, [], Option, Some, None, refl, subst, arith}
+-- What is promised of a command, from what its parts say.
+use Rattle.std.proofs.Common.{◌≡◌, Option, Some, None, refl, subst, arith}
+use Rattle.sa_io.proofs.InputLemmas.{loses-nothing}
 use Rattle.sa_command.specs.declared.command.Command.{Command}
 use Rattle.sa_cli.specs.declared.outcome.Outcome.{Outcome}
 use Rattle.sa_cli.specs.declared.outcome.Ran.TheVariants.{Nothing}
 use Rattle.sa_cli.specs.declared.outcome.Status.{Status}
 use Rattle.sa_cli.specs.declared.outcome.Status.TheVariants.{Usage}
-use Rattle.sa_cli.specs.Input.{LosesPrefix}
 use Rattle.sa_cli.specs.Answers.{World}
-use Rattle.sa_cli.specs.Commands.{Answers, CanHaveRun, ReadsNothing}
+use Rattle.sa_cli.specs.Commands.{Answers, CanHaveRun, ReadsNothing, most_read}
 use Rattle.sa_cli.specs.Streams.{Streams, UsesStreams}
 use Rattle.sa_cli.specs.TopCall.{DoesTheCommand}
 use Rattle.sa_cli.proofs.Results.{not-usage}
 use Rattle.sa_cli.proofs.Completeness.{answers-complete}
-
--- a source that is not read loses nothing
-pub loses-nothing : (left : Option (List ℕ)) → LosesPrefix left left
-loses-nothing None = ([], tt)
-loses-nothing (Some bytes) = ([], refl)
 
 module _ {S K : Type 0} {world_of : Streams S K → World} {before after : Streams S K} {outcome : Outcome} where
   -- what is done of a command is done of words that are the command
@@ -25,7 +20,7 @@ module _ {S K : Type 0} {world_of : Streams S K → World} {before after : Strea
 
   -- a command that is answered is done
   pub does : (command : Command) → CanHaveRun (Some command) outcome.ran → (ReadsNothing (Some command) → after.source ≡ before.source)
-      → UsesStreams world_of before after outcome.status → Answers command (world_of before) (world_of after) outcome.ran outcome.status
+      → UsesStreams world_of (most_read (Some command)) before after outcome.status → Answers command (world_of before) (world_of after) outcome.ran outcome.status
       → DoesTheCommand world_of (Some command) before after outcome
   does command ran unread uses answers =
       let old = world_of before in
@@ -54,7 +49,7 @@ does-nothing {world_of = world_of} {both = both} usage ran = record {
   unwritten = λ nothing. refl;
   unread = λ load. absurd load;
   ran = ran;
-  lost = loses-nothing (world_of both).left;
+  lost = loses-nothing 0 (world_of both).left;
   reads_counted = omega arith;
   writes_counted = omega arith;
   answers = tt;

@@ -2,14 +2,13 @@
 use Rattle.std.proofs.Common.{◌≡◌, ℕ, true, false, arith, List, [], ◌∷◌, ◌++◌, take, drop, length, sym, ap, ◌∙◌, subst, take-append-drop, append-nil, append_assoc, Option, Result, Ok, Err}
 use Rattle.std.specs.Prelude.{OnOk, OnErr, ◌==◌}
 use Rattle.std.specs.List.{flat_map}
-use Rattle.std.specs.Io.KnownBytes.{Appends}
 use Rattle.std.proofs.lemmas.Bool.Decides.{nat_tests}
 use Rattle.std.proofs.lemmas.Grind.{flat_map-append}
 use Rattle.sa_base.specs.declared.record.Item.{Item}
 use Rattle.sa_base.specs.declared.record.End.{End}
 use Rattle.sa_io.specs.Faults.{AppendsPrefix}
 use Rattle.sa_io.specs.Pieces.{GoesOut}
-use Rattle.sa_io.proofs.PieceLemmas.{out-both, out-cut, out-none, out-all, out-end_cut}
+use Rattle.sa_io.proofs.PieceLemmas.{out-both, out-cut, out-none}
 use Rattle.sa_trace.specs.TraceText.{line_of, last_line_of, trace_text}
 
 -- the lines of the first items, and those after them
@@ -78,13 +77,6 @@ module _ (before at after : Option (List ℕ)) (waited between : List ℕ) (item
       × OnErr result (AppendsPrefix before after (waited ++ trace_text items end events))
   run-ends line waits (Ok x) is out ok err = (run-out line waits is out ok, tt)
   run-ends line waits (Err e) is out ok err = (tt, run-cut line is out err)
-
--- what was put from the beginning is whole once the rest has gone out, or is cut
-pub all-ends : {T E : Type 0} (before at after : Option (List ℕ)) (text waits : List ℕ) (result : Result T E) → GoesOut before at [] text waits
-    → OnOk result (Appends at after waits) → OnErr result (AppendsPrefix at after waits)
-    → OnOk result (Appends before after text) × OnErr result (AppendsPrefix before after text)
-all-ends before at after text waits (Ok x) out ok err = (out-all before at after text waits out ok, tt)
-all-ends before at after text waits (Err e) out ok err = (tt, out-end_cut before at after text waits out err)
 
 -- where lines are cut, so is the whole text
 pub lines-cut : (before after : Option (List ℕ)) (waited : List ℕ) (items : List Item) (end : End) (events : ℕ)

@@ -1,14 +1,15 @@
 -- What a run answers: what came of the machine and of the sink, by the status.
-use Rattle.std.specs.Prelude.{◌≡◌, ◌⊎◌, ℕ, List, [], Option}
+use Rattle.std.specs.Prelude.{◌≡◌, ◌⊎◌, ℕ, List, [], Option, None}
 use Rattle.std.specs.Io.KnownBytes.{Appends}
 use Rattle.sa_base.specs.declared.record.Item.{Item}
 use Rattle.sa_base.specs.declared.record.End.{End}
 use Rattle.sa_base.specs.declared.record.End.TheVariants as end
 use Rattle.sa_io.specs.Faults.{HasRisen, AppendsPrefix}
 use Rattle.sa_spaces.specs.Workload.{WorkloadView}
+use Rattle.sa_laws.specs.Legal.{EndOf}
 use Rattle.sa_sched.specs.Order.{Order}
-use Rattle.sa_run.specs.Run.{RunsTo, RunsSoFar}
-use Rattle.sa_fast_runs.specs.Whole.{IsTurnByTurn, IsEnded}
+use Rattle.sa_run.specs.Run.{RunsTo, RunsUnended}
+use Rattle.sa_package_runs.specs.Whole.{IsTurnByTurn, IsEnded}
 use Rattle.sa_cli.specs.declared.outcome.Status.{Status}
 use Rattle.sa_cli.specs.declared.outcome.Status.TheVariants.{AllDone, Stuck, Budget, WriteFault, OutOfMemory}
 use Rattle.sa_cli.specs.Packages.{PackageRuns}
@@ -45,12 +46,14 @@ pub record Ended (ran : WorkloadView → Type 0) (plan : Plan) (goes : List ℕ 
   pub ends : IsEnded plan.runs.rules workload plan.budget items end events
   pub went : goes (plan.shown items end events)
 
--- the run of one of these workloads came so far
+-- The run of one of these workloads came so far. It is exactly the machine's run up to there, turn by turn in the order; it is
+-- legal by the user level's rules, strict, and has not ended as defined.
 pub record Came (ran : WorkloadView → Type 0) (plan : Plan) (items : List Item) : Type 0 where
   pub workload : WorkloadView
   pub is : ran workload
-  pub run : RunsSoFar plan.runs.calls workload (plan.order workload) plan.budget items
-  pub legal : IsTurnByTurn plan.runs.rules workload (plan.order workload) items run.events
+  pub run : RunsUnended plan.runs.calls workload (plan.order workload) plan.budget items
+  pub legal : IsTurnByTurn plan.runs.rules workload (plan.order workload) items run.so_far.events
+  pub unended : EndOf plan.runs.rules workload plan.budget items None
 
 -- the sink took the whole text, or a prefix of it
 abbrev pub TookAll : World → World → List ℕ → Type 0

@@ -1,5 +1,5 @@
 -- What each command answers.
-use Rattle.std.specs.Prelude.{◌≡◌, ⊤, ℕ, List, [], Option, Some, None}
+use Rattle.std.specs.Prelude.{◌≡◌, ⊤, ℕ, ◌+◌, List, [], Option, Some, None}
 use Rattle.sa_base.specs.declared.record.Item.{Item}
 use Rattle.sa_io.specs.Faults.{HasRisen}
 use Rattle.sa_sched.specs.Order.{RoundRobin}
@@ -15,6 +15,7 @@ use Rattle.sa_cli.specs.declared.outcome.Ran.{Ran}
 use Rattle.sa_cli.specs.declared.outcome.Ran.TheVariants.{Nothing}
 use Rattle.sa_cli.specs.declared.outcome.Status.{Status}
 use Rattle.sa_cli.specs.declared.outcome.Status.TheVariants.{BadWorkload, ReadFault, WriteFault, OutOfMemory, Migrated, Checked, Broken, BadTrace}
+use Rattle.sa_cli.specs.declared.limits.TheConstants.{INPUT_LIMIT, TEXTS_LIMIT, SCRIPTS_LIMIT}
 use Rattle.sa_cli.specs.Outcome.{history, RanHere, RanShared}
 use Rattle.sa_cli.specs.Input.{GaveText, GaveSliced}
 use Rattle.sa_cli.specs.Refusals.{IsRefused}
@@ -104,3 +105,11 @@ CanHaveRun (Some other) ran = RanHere ran
 abbrev pub ReadsNothing : Option Command → Type 0
 ReadsNothing (Some (Load number budget)) = ⊤
 ReadsNothing other = ⊥
+
+-- the most bytes that a command takes of its source: one more than the limit of its input
+abbrev pub most_read : Option Command → ℕ
+most_read None = 0
+most_read (Some (Load number budget)) = 0
+most_read (Some Check) = TEXTS_LIMIT + 1
+most_read (Some (Debug budget)) = SCRIPTS_LIMIT + 1
+most_read (Some other) = INPUT_LIMIT + 1

@@ -9,7 +9,7 @@ use Rattle.sa_command.specs.declared.command.Command.{Command}
 use Rattle.sa_command.specs.declared.command.Command.TheVariants.{Run, Threads, Load, Migrate, Check, Vp, Debug}
 use Rattle.sa_cli.specs.declared.outcome.Status.{Status}
 use Rattle.sa_cli.specs.declared.outcome.Status.TheVariants.{BadWorkload, OutOfMemory, Migrated}
-use Rattle.sa_cli.specs.declared.input.TheConstants.{INPUT_LIMIT}
+use Rattle.sa_cli.specs.declared.limits.TheConstants.{INPUT_LIMIT}
 use Rattle.sa_cli.specs.Input.{Texts}
 use Rattle.sa_cli.specs.Refusals.{Badness, IsInputRefused}
 use Rattle.sa_cli.specs.declared.found.Found.{Found}

@@ -11,13 +11,13 @@ use Rattle.sa_trace.specs.TraceText.{trace_text}
 use Rattle.sa_script.specs.declared.command.DebugCommand.{DebugCommand}
 use Rattle.sa_script.specs.Reading.{script_of}
 use Rattle.sa_debug_run.specs.Debugged.{IsOver, RanSoFar}
-use Rattle.sa_cli.specs.declared.debug.TheConstants.{SCRIPTS_LIMIT}
-use Rattle.sa_cli.specs.declared.input.TheConstants.{INPUT_LIMIT}
+use Rattle.sa_cli.specs.declared.limits.TheConstants.{SCRIPTS_LIMIT}
+use Rattle.sa_cli.specs.declared.limits.TheConstants.{INPUT_LIMIT}
 use Rattle.sa_cli.specs.declared.outcome.Ran.{Ran}
 use Rattle.sa_cli.specs.declared.outcome.Ran.TheVariants.{Nothing}
 use Rattle.sa_cli.specs.declared.outcome.Status.{Status}
 use Rattle.sa_cli.specs.declared.outcome.Status.TheVariants as status
-use Rattle.sa_cli.specs.Input.{ReadsInput}
+use Rattle.sa_io.specs.Input.{ReadsInput}
 use Rattle.sa_cli.specs.Outcome.{history}
 use Rattle.sa_cli.specs.Refusals.{IsInputRefused, too_long}
 use Rattle.sa_cli.specs.Texts.{workload_part, trace_part}

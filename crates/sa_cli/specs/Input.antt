@@ -1,20 +1,9 @@
--- What is read of a source.
-use Rattle.std.specs.Prelude.{◌≡◌, ℕ, ◌+◌, ◌≤◌, List, length, Option, IsSome, IfSome}
+-- What a source gave.
+use Rattle.std.specs.Prelude.{◌≡◌, ℕ, ◌≤◌, List, length, Option, IsSome, IfSome}
 use Rattle.std.specs.Io.KnownBytes.{Consumes, IsAtEnd}
 use Rattle.sa_spaces.specs.Workload.{WorkloadView}
 use Rattle.sa_workload.specs.Text.{IsText1, text_of}
-use Rattle.sa_cli.specs.declared.input.TheConstants.{INPUT_LIMIT}
-
--- The bytes were taken from the source: all that it had, or one more than the limit. A source that does not
--- tell what it has claims nothing.
-pub record ReadsInput (limit : ℕ) (before after : Option (List ℕ)) (bytes : List ℕ) : Type 0 where
-  pub taken : Consumes before after bytes
-  pub end : IsSome before → length bytes ≤ limit → IsAtEnd after
-  pub limited : length bytes ≤ limit + 1
-
--- The source lost some bytes at its front, or none.
-abbrev pub LosesPrefix : Option (List ℕ) → Option (List ℕ) → Type 0
-LosesPrefix before after = (bytes : List ℕ) × Consumes before after bytes
+use Rattle.sa_cli.specs.declared.limits.TheConstants.{INPUT_LIMIT}
 
 -- which bytes are the text of which workload
 abbrev pub Texts : Type 1

@@ -7,8 +7,8 @@ use Rattle.sa_base.specs.declared.record.End.{End}
 use Rattle.sa_base.specs.declared.record.End.TheVariants as end
 use Rattle.sa_cli.specs.declared.outcome.Status.{Status}
 use Rattle.sa_cli.specs.declared.outcome.Status.TheVariants.{AllDone, Usage, BadWorkload, Stuck, Budget, ReadFault, WriteFault, OutOfMemory, Migrated, Checked, Broken, BadTrace, Quit, BadScript}
-use Rattle.sa_cli.specs.declared.input.ReadError.{ReadError}
-use Rattle.sa_cli.specs.declared.input.ReadError.TheVariants as read
+use Rattle.sa_io.specs.declared.input.ReadError.{ReadError}
+use Rattle.sa_io.specs.declared.input.ReadError.TheVariants as read
 use Rattle.sa_check.specs.declared.verdict.Verdict.{Verdict}
 use Rattle.sa_check.specs.declared.verdict.Verdict.TheVariants.{Legal}
 use Rattle.sa_check.specs.declared.verdict.Verdict.TheVariants as check

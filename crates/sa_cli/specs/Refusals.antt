@@ -6,7 +6,7 @@ use Rattle.sa_base.specs.declared.refusal.Bad.{Bad}
 use Rattle.sa_io.specs.Faults.{HasRisen}
 use Rattle.sa_cli.specs.declared.outcome.Status.{Status}
 use Rattle.sa_cli.specs.declared.outcome.Status.TheVariants.{BadWorkload, ReadFault, OutOfMemory}
-use Rattle.sa_cli.specs.declared.input.TheConstants.{INPUT_LIMIT}
+use Rattle.sa_cli.specs.declared.limits.TheConstants.{INPUT_LIMIT}
 
 -- which bytes are bad in which line, with which cause
 abbrev pub Badness : Type 1

@@ -12,7 +12,7 @@ use Rattle.sa_package_model.specs.Step.{fast_calls}
 use Rattle.sa_seat.specs.Closed.{ClosedView}
 use Rattle.sa_workers.specs.Run.{HasRun}
 use Rattle.sa_workers.specs.declared.runs.Limits.{Limits}
-use Rattle.sa_fast_runs.specs.Threads.{IsLegalHistory}
+use Rattle.sa_package_runs.specs.Threads.{IsLegalHistory}
 use Rattle.sa_command.specs.declared.command.Command.{Command}
 use Rattle.sa_command.specs.declared.command.Command.TheVariants.{Threads}
 use Rattle.sa_cli.specs.declared.outcome.Ran.{Ran}
@@ -51,6 +51,11 @@ pub record SharedEnded (budget : ℕ) (old new : World) (goes : List ℕ → Typ
   pub ends : shared.closed.end ≡ Some end
   pub went : goes (trace_text shared.closed.items end (sum shared.closed.turns))
 
+-- the shared run came so far, without an end
+pub record SharedUnended (budget : ℕ) (old new : World) (ran : Ran) : Type 0 where
+  pub shared : SharedRun budget old new ran
+  pub unended : shared.closed.end ≡ None
+
 abbrev pub AnswersThreads : ℕ → World → World → Ran → Status → Type 0
 AnswersThreads budget old new ran ReadFault = HasRisen old.reads new.reads × (ran ≡ Nothing)
 AnswersThreads budget old new ran (BadWorkload bad) = IsRefused BadAt old.left bad × (ran ≡ Nothing)
@@ -59,5 +64,5 @@ AnswersThreads budget old new ran Stuck = SharedEnded budget old new (TookAll ol
 AnswersThreads budget old new ran Budget = SharedEnded budget old new (TookAll old new) ran end.Budget
 AnswersThreads budget old new ran WriteFault =
     HasRisen old.writes new.writes × ((e : End) × SharedEnded budget old new (TookSome old new) ran e)
-AnswersThreads budget old new ran OutOfMemory = (ran ≡ Nothing) ⊎ SharedRun budget old new ran
+AnswersThreads budget old new ran OutOfMemory = (ran ≡ Nothing) ⊎ SharedUnended budget old new ran
 AnswersThreads budget old new ran other = ⊥

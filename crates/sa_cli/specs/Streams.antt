@@ -1,7 +1,7 @@
 -- The source and the sink of a command, and what becomes of them whatever it answers.
 use Rattle.std.specs.Prelude.{◌≡◌, ℕ, ◌≤◌, List, Option}
+use Rattle.sa_io.specs.Input.{LosesAtMost}
 use Rattle.sa_cli.specs.declared.outcome.Status.{Status}
-use Rattle.sa_cli.specs.Input.{LosesPrefix}
 use Rattle.sa_cli.specs.Outcome.{WritesNothing}
 use Rattle.sa_cli.specs.Answers.{World, world}
 
@@ -17,12 +17,12 @@ streams source sink = record { source = source; sink = sink }
 abbrev pub world_by : {S K : Type 0} → (S → Option (List ℕ)) → (K → Option (List ℕ)) → (S → ℕ) → (K → ℕ) → Streams S K → World
 world_by left taken reads writes both = world (left both.source) (taken both.sink) (reads both.source) (writes both.sink)
 
--- What a command with this status did to the source and the sink, which were `before` and have become `after`.
-pub record UsesStreams {S K : Type 0} (world_of : Streams S K → World) (before after : Streams S K) (status : Status) : Type 0 where
+-- What a command with this status that may read so many bytes did to the source and the sink, which were `before` and have become `after`.
+pub record UsesStreams {S K : Type 0} (world_of : Streams S K → World) (most : ℕ) (before after : Streams S K) (status : Status) : Type 0 where
   -- The sink is what it was wherever the status says that nothing is written.
   pub unwritten : WritesNothing status → after.sink ≡ before.sink
-  -- Whatever the status, the source lost some bytes at its front, or none.
-  pub lost : LosesPrefix (world_of before).left (world_of after).left
+  -- Whatever the status, the source lost so many bytes at its front at most, or none.
+  pub lost : LosesAtMost most (world_of before).left (world_of after).left
   -- Whatever the status, the count of failed reads did not fall.
   pub reads_counted : (world_of before).reads ≤ (world_of after).reads
   -- Whatever the status, the count of failed writes did not fall.

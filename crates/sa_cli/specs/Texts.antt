@@ -11,8 +11,8 @@ use Rattle.sa_check.specs.declared.verdict.Verdict.{Verdict}
 use Rattle.sa_check.specs.Verdict.{IsVerdict}
 use Rattle.sa_cli.specs.declared.found.Found.{Found}
 use Rattle.sa_cli.specs.declared.found.Found.TheVariants.{Judged, BadWorkload, BadTrace}
-use Rattle.sa_cli.specs.declared.input.TheConstants.{INPUT_LIMIT, TEXTS_LIMIT}
-use Rattle.sa_cli.specs.Input.{ReadsInput}
+use Rattle.sa_cli.specs.declared.limits.TheConstants.{INPUT_LIMIT, TEXTS_LIMIT}
+use Rattle.sa_io.specs.Input.{ReadsInput}
 use Rattle.sa_cli.specs.Refusals.{IsInputRefused, too_long}
 
 -- the bytes through the first line that is `close`, where these bytes of the line came before; all bytes where there is no such line

@@ -1,13 +1,13 @@
--- What both top calls promise of a command.
+-- What `run_one` and `run_threads` promise of a command.
 use Rattle.std.specs.Prelude.{◌≡◌, ◌↔◌, ◌≤◌, Option, None}
+use Rattle.sa_io.specs.Input.{LosesAtMost}
 use Rattle.sa_command.specs.declared.command.Command.{Command}
 use Rattle.sa_cli.specs.declared.outcome.Outcome.{Outcome}
 use Rattle.sa_cli.specs.declared.outcome.Status.TheVariants.{Usage}
-use Rattle.sa_cli.specs.Input.{LosesPrefix}
 use Rattle.sa_cli.specs.Outcome.{WritesNothing}
 use Rattle.sa_cli.specs.Answers.{World}
 use Rattle.sa_cli.specs.Streams.{Streams}
-use Rattle.sa_cli.specs.Commands.{AnswersTo, CanHaveRun, ReadsNothing}
+use Rattle.sa_cli.specs.Commands.{AnswersTo, CanHaveRun, ReadsNothing, most_read}
 use Rattle.sa_cli.specs.Complete.{IsCompleteTo}
 
 -- The outcome is an answer to the command, where the source and the sink were `before` and have become `after`.
@@ -23,8 +23,8 @@ pub record DoesTheCommand {S K : Type 0} (world_of : Streams S K → World) (com
   pub unread : ReadsNothing command → after.source ≡ before.source
   -- What ran is what the command lets run.
   pub ran : CanHaveRun command outcome.ran
-  -- Whatever the answer, the source lost some bytes at its front, or none.
-  pub lost : LosesPrefix (world_of before).left (world_of after).left
+  -- Whatever the answer, the source lost at its front at most one byte more than the limit of the command's input, or none.
+  pub lost : LosesAtMost (most_read command) (world_of before).left (world_of after).left
   -- Whatever the answer, the count of failed reads did not fall.
   pub reads_counted : (world_of before).reads ≤ (world_of after).reads
   -- Whatever the answer, the count of failed writes did not fall.

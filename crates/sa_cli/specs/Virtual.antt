@@ -9,7 +9,7 @@ use Rattle.sa_spaces.specs.Workload.{WorkloadView}
 use Rattle.sa_workload.specs.Text.{IsText}
 use Rattle.sa_workload.specs.Bad.{BadAt}
 use Rattle.sa_command.specs.declared.command.ScheduleWord.{ScheduleWord}
-use Rattle.sa_vp_run.specs.Run.{RunsTo, RunsSoFar}
+use Rattle.sa_vp.specs.Run.{RunsTo, RunsSoFar}
 use Rattle.sa_trace.specs.TraceText.{trace_text}
 use Rattle.sa_trace.specs.Losses.{losses_text}
 use Rattle.sa_cli.specs.declared.outcome.Status.{Status}

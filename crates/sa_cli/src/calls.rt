@@ -1,5 +1,6 @@
-ghost use Rattle.std.specs.Prelude.{◌≡◌, None};
+ghost use Rattle.std.specs.Prelude.{◌≡◌, Some, None, IfSome};
 ghost use Rattle.std.specs.Option.{ForSome};
+ghost use Rattle.sa_command.specs.declared.command.Command.TheVariants.{Threads};
 ghost use Rattle.sa_command.specs.Commands.{command_of};
 ghost use Rattle.sa_command.specs.Ranges.{IsInRange};
 ghost use Rattle.sa_cli.specs.Shared.{limits_of};
@@ -9,15 +10,27 @@ ghost use Rattle.sa_cli.specs.TopCall.{DoesTheCommand};
 use crate::commands::{check_texts, migrate, run_generated, run_text};
 use crate::debug::debug_texts;
 use crate::outcome::{Outcome, Status};
-use crate::shared::{limits_of, run_shared};
+use crate::shared::run_shared;
 use crate::vp::run_virtual;
 use sa_command::laws::commands_are_in_range;
 use sa_command::{Command, Words, read_words};
 use sa_io::{Sink, Source};
-use sa_workers::Gate;
+use sa_workers::{Gate, Limits};
 use std::alloc::Global;
 use std::sync::Wait;
 use std::thread::Threads;
+
+/// What the words ask of host threads: `None` exactly where they are not `threads`, so that `run_one` does what they say.
+pub fn limits_of(words: &Words) -> Option<Limits>
+    ensures limits { result ≡ limits_of (command_of words.now) }
+    ensures range { IfSome result (λ limits. IsInRange (Threads limits.budget limits.burst)) }
+{
+    commands_are_in_range();
+    match read_words(words) {
+        Some(Command::Threads { budget, burst }) => Some(Limits { budget, burst }),
+        _ => None,
+    }
+}
 
 /// Does the command of the words, which is not `threads`. It always returns.
 pub fn run_one<S: Source, K: Sink>(
@@ -34,25 +47,21 @@ pub fn run_one<S: Source, K: Sink>(
     run_command(alloc, read_words(words), source, sink)
 }
 
-/// Does the command of the words. Under `threads` a host thread for each processor runs the workload, and passes the gate
-/// before each of its entries; these threads wait for locks, so what is promised then holds if the call returns.
-pub fn top<S: Source, K: Sink, G: Gate, R: Threads + Wait + Sync>(
+/// Does the command `threads` within these limits: a host thread for each processor runs the workload, and passes the gate
+/// before each of its entries. These threads wait for locks, so what is promised holds if the call returns.
+pub fn run_threads<S: Source, K: Sink, G: Gate, R: Threads + Wait + Sync>(
     rt: &R,
     alloc: Global,
-    words: &Words,
+    limits: Limits,
     source: &mut S,
     sink: &mut K,
     gate: &G,
 ) -> Outcome
-    ensures { DoesTheCommand (world_by S.left K.taken S.faults K.faults) (command_of words.now)
+    requires { IsInRange (Threads limits.budget limits.burst) }
+    ensures { DoesTheCommand (world_by S.left K.taken S.faults K.faults) (Some (Threads limits.budget limits.burst))
         (streams source.old sink.old) (streams source.new sink.new) result }
 {
-    commands_are_in_range();
-    let command = read_words(words);
-    match limits_of(command) {
-        Some(limits) => run_shared(rt, alloc, limits, source, sink, gate),
-        None => run_command(alloc, command, source, sink),
-    }
+    run_shared(rt, alloc, limits, source, sink, gate)
 }
 
 // Does the command, which is not `threads`: it runs a workload of the source or a generated one and writes its trace to the

@@ -1,8 +1,9 @@
 // The commands `run`, `load`, `migrate` and `check`.
-ghost use Rattle.std.specs.Prelude.{◌≡◌, ◌⊎◌, ℕ, ◌≤◌, List, [], Option, IfOk, IfErr};
+ghost use Rattle.std.specs.Prelude.{◌≡◌, ◌⊎◌, ◌+◌, ℕ, ◌≤◌, List, [], Option, IfOk, IfErr};
 ghost use Rattle.sa_sched.specs.Kind.{order_of, AreAmong};
 ghost use Rattle.sa_cli.specs.Outcome.{history, RanHere, WritesNothing};
-ghost use Rattle.sa_run.specs.Run.{RunsTo, RunsSoFar};
+ghost use Rattle.sa_run.specs.Run.{RunsTo, RunsUnended};
+ghost use Rattle.sa_cli.specs.declared.limits.TheConstants.{INPUT_LIMIT, TEXTS_LIMIT};
 ghost use Rattle.sa_cli.specs.Schedules.{order_by};
 ghost use Rattle.sa_cli.specs.Packages.{runs_of};
 ghost use Rattle.sa_cli.specs.Answers.{world};
@@ -37,7 +38,7 @@ pub(crate) fn run_text<S: Source, K: Sink>(
     requires some { 1 ≤ budget }
     requires few { budget ≤ MAX_EVENTS }
     ensures here { RanHere result.ran }
-    ensures uses { UsesStreams (world_by S.left K.taken S.faults K.faults)
+    ensures uses { UsesStreams (world_by S.left K.taken S.faults K.faults) (INPUT_LIMIT + 1)
         (streams source.old sink.old) (streams source.new sink.new) result.status }
     ensures answers { let told = world_by S.left K.taken S.faults K.faults in
         AnswersRun (run_plan schedule budget user_level) (told (streams source.old sink.old))
@@ -71,7 +72,7 @@ fn run_with(
     ensures ok { IfOk result (λ ended. RunsTo (runs_of user_level).calls workload (order_of kind) budget
         ended.trace.items ended.end ended.events) }
     ensures err { IfErr result (λ trace. (trace.items ≡ [])
-        ⊎ RunsSoFar (runs_of user_level).calls workload (order_of kind) budget trace.items) }
+        ⊎ RunsUnended (runs_of user_level).calls workload (order_of kind) budget trace.items) }
 {
     match user_level {
         PackageWord::Fast => run::<FastThreads>(alloc, workload, kind, budget),
@@ -113,7 +114,7 @@ pub(crate) fn migrate<S: Source, K: Sink>(
     sink: &mut K,
 ) -> Status
     requires { slice ≤ MAX_SLICE }
-    ensures uses { UsesStreams (world_by S.left K.taken S.faults K.faults)
+    ensures uses { UsesStreams (world_by S.left K.taken S.faults K.faults) (INPUT_LIMIT + 1)
         (streams source.old sink.old) (streams source.new sink.new) result }
     ensures answers { let told = world_by S.left K.taken S.faults K.faults in
         MigrateAnswers slice (told (streams source.old sink.old))
@@ -127,7 +128,7 @@ pub(crate) fn migrate<S: Source, K: Sink>(
 
 /// `check`: judges the trace of the source, which comes after its workload, and writes the verdict.
 pub(crate) fn check_texts<S: Source, K: Sink>(alloc: Global, source: &mut S, sink: &mut K) -> Status
-    ensures uses { UsesStreams (world_by S.left K.taken S.faults K.faults)
+    ensures uses { UsesStreams (world_by S.left K.taken S.faults K.faults) (TEXTS_LIMIT + 1)
         (streams source.old sink.old) (streams source.new sink.new) result }
     ensures answers { let told = world_by S.left K.taken S.faults K.faults in
         CheckAnswers (told (streams source.old sink.old))

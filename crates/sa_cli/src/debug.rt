@@ -1,8 +1,9 @@
 // The command `debug`.
-ghost use Rattle.std.specs.Prelude.{◌≡◌, ◌≤◌, ◌++◌, List, ℕ, IfOk, IfErr, OnOk, OnErr};
+ghost use Rattle.std.specs.Prelude.{◌≡◌, ◌+◌, ◌≤◌, ◌++◌, IfOk, IfErr, OnOk, OnErr};
 ghost use Rattle.std.specs.Io.KnownBytes.{Appends};
 ghost use Rattle.sa_io.specs.Faults.{HasRisen, AppendsPrefix};
 ghost use Rattle.sa_trace.specs.TraceText.{trace_text};
+ghost use Rattle.sa_cli.specs.declared.limits.TheConstants.{SCRIPTS_LIMIT};
 ghost use Rattle.sa_cli.specs.declared.outcome.Ran.TheVariants.{Plain};
 ghost use Rattle.sa_cli.specs.Answers.{Writes};
 ghost use Rattle.sa_cli.specs.Streams.{UsesStreams, streams, world_by};
@@ -10,19 +11,16 @@ ghost use Rattle.sa_cli.specs.Debugging.{AnswersDebug};
 ghost use Rattle.sa_cli.specs.Outcome.{RanHere, WritesNothing};
 ghost use Rattle.sa_cli.specs.Scripted.{IsDone, IsStopped};
 
-use crate::found::workload_len;
-use crate::input::read_input;
+use crate::limits::SCRIPTS_LIMIT;
 use crate::outcome::{Outcome, Status};
 use crate::output::put_run;
-use crate::reading::{refusal_of_long, workload_of};
+use crate::reading::refusal_of_long;
+use crate::texts::parts_of;
 use crate::writing::status_of;
 use sa_base::{Bad, End, Item, MAX_EVENTS, Trace, Unread};
 use sa_debug_run::{Debugged, Undebugged, debug};
-use sa_io::{Failed, Pieces, Sink, Source};
+use sa_io::{Failed, Pieces, Sink, Source, read_input};
 use std::alloc::Global;
-
-/// The longest input of a workload text and a script, in bytes.
-pub const SCRIPTS_LIMIT: usize = 2_097_152;
 
 // Why no session is over.
 #[derive(Debug, Drop)]
@@ -46,7 +44,7 @@ pub(crate) fn debug_texts<S: Source, K: Sink>(
     requires some { 1 ≤ budget }
     requires few { budget ≤ MAX_EVENTS }
     ensures here { RanHere result.ran }
-    ensures uses { UsesStreams (world_by S.left K.taken S.faults K.faults)
+    ensures uses { UsesStreams (world_by S.left K.taken S.faults K.faults) (SCRIPTS_LIMIT + 1)
         (streams source.old sink.old) (streams source.new sink.new) result.status }
     ensures answers { let told = world_by S.left K.taken S.faults K.faults in
         AnswersDebug budget (told (streams source.old sink.old))
@@ -74,9 +72,8 @@ fn debugged(alloc: Global, input: &[u8], budget: u64) -> Result<Debugged, Stoppe
     if input.len() > SCRIPTS_LIMIT {
         return Err(Stopped::BadScript(refusal_of_long(SCRIPTS_LIMIT, input)));
     }
-    let (first, second) = input.split_at(workload_len(input));
-    match workload_of(alloc, first) {
-        Ok(workload) => match debug(alloc, workload, second, budget) {
+    match parts_of(alloc, input) {
+        Ok((workload, second)) => match debug(alloc, workload, second, budget) {
             Ok(debugged) => Ok(debugged),
             Err(Undebugged::BadScript(bad)) => Err(Stopped::BadScript(bad)),
             Err(Undebugged::OutOfMemory(trace)) => Err(Stopped::OutOfMemory(trace)),

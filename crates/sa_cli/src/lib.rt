@@ -1,18 +1,20 @@
-//! The command line and the top call: from words and a source to a run, and its text to a sink.
+//! The command line: from words and a source to a run, and its text to a sink.
 #![tactic(auto)]
 
 mod calls;
 mod commands;
 mod debug;
 mod found;
-mod input;
+mod limits;
 mod outcome;
 mod output;
 mod reading;
 mod shared;
+mod texts;
 mod vp;
 mod writing;
 
-pub use calls::{run_one, top};
+pub use calls::{limits_of, run_one, run_threads};
 pub use outcome::{Outcome, Ran, Status};
 pub use sa_command::Words;
+pub use sa_workers::Limits;

@@ -2,9 +2,9 @@ ghost use Rattle.std.specs.Prelude.{◌≡◌};
 ghost use Rattle.sa_cli.specs.Outcome.{code_of, status_of, status_of_end, status_of_unread, status_of_verdict};
 ghost use Rattle.sa_cli.specs.declared.outcome.Status.TheVariants.{OutOfMemory};
 
-use crate::input::ReadError;
 use sa_base::{Bad, End, Trace, Unread};
 use sa_check::Verdict;
+use sa_io::ReadError;
 use sa_laws::Rule;
 use sa_seat::Closed;
 use std::alloc::AllocError;

@@ -1,5 +1,5 @@
 // The writing loops: each text goes out in pieces.
-ghost use Rattle.std.specs.Prelude.{◌≡◌, ◌≤◌, ◌++◌, OnOk, OnErr};
+ghost use Rattle.std.specs.Prelude.{◌≤◌, ◌++◌, OnOk, OnErr};
 ghost use Rattle.std.specs.Io.KnownBytes.{Appends};
 ghost use Rattle.std.specs.List.{flat_map};
 ghost use Rattle.sa_io.specs.Faults.{HasRisen, AppendsPrefix};
@@ -9,18 +9,6 @@ ghost use Rattle.sa_trace.specs.TraceText.{line_of, last_line_of, trace_text};
 use sa_base::{End, Item};
 use sa_io::{Failed, Pieces, Sink};
 use sa_trace::{Lines, print_last_line, print_lines};
-
-/// Writes the text.
-pub(crate) fn write_text<K: Sink>(sink: &mut K, text: &[u8]) -> Result<(), Failed>
-    ensures ok { OnOk result (Appends (K.taken sink.old) (K.taken sink.new) text.now) }
-    ensures err { OnErr result (AppendsPrefix (K.taken sink.old) (K.taken sink.new) text.now) }
-    ensures fault { OnErr result (HasRisen (K.faults sink.old) (K.faults sink.new)) }
-    ensures counted { K.faults sink.old ≤ K.faults sink.new }
-{
-    let mut pieces = Pieces::new();
-    pieces.put(sink, text)?;
-    pieces.end(sink)
-}
 
 /// Writes the trace text of these items, this end and this number of events. It takes no memory.
 pub(crate) fn write_run<K: Sink>(

@@ -1,16 +1,17 @@
 // Workloads of the source.
-ghost use Rattle.std.specs.Prelude.{◌≡◌, ◌≤◌, length as len, IfOk, IfErr};
-ghost use Rattle.sa_workload.specs.Text.{IsText, IsText1, text_of};
+ghost use Rattle.std.specs.Prelude.{◌≡◌, ◌+◌, ◌≤◌, length as len, IfOk, IfErr};
+ghost use Rattle.sa_workload.specs.Text.{IsText};
 ghost use Rattle.sa_workload.specs.Bad.{BadAt, BadAt1};
 ghost use Rattle.sa_workload.specs.Answer.{IfBad};
-ghost use Rattle.sa_cli.specs.Input.{LosesPrefix, ReadsInput, GaveText, GaveSliced};
+ghost use Rattle.sa_io.specs.Input.{LosesAtMost};
+ghost use Rattle.sa_cli.specs.Input.{GaveText, GaveSliced};
 ghost use Rattle.sa_cli.specs.Refusals.{too_long, IsInputRefused, NothingRead};
 
-use crate::input::{INPUT_LIMIT, read_input};
+use crate::limits::INPUT_LIMIT;
 use crate::outcome::Status;
 use sa_base::{Bad, Cause, Unread};
 use sa_instr::MAX_SLICE;
-use sa_io::Source;
+use sa_io::{Source, read_input};
 use sa_spaces::Workload;
 use sa_workload::{print, read, read_one};
 use std::alloc::Global;
@@ -20,7 +21,7 @@ pub(crate) fn read_workload<S: Source>(alloc: Global, source: &mut S) -> Result<
     ensures ok { IfOk result (GaveText IsText (S.left source.old) (S.left source.new)) }
     ensures err { IfErr result
         (NothingRead BadAt (S.left source.old) (S.faults source.old) (S.faults source.new)) }
-    ensures lost { LosesPrefix (S.left source.old) (S.left source.new) }
+    ensures lost { LosesAtMost (INPUT_LIMIT + 1) (S.left source.old) (S.left source.new) }
     ensures counted { S.faults source.old ≤ S.faults source.new }
 {
     let input = read_input(alloc, INPUT_LIMIT, source)?;
@@ -50,7 +51,7 @@ pub(crate) fn migrated_text<S: Source>(
         (λ text. GaveSliced slice (S.left source.old) (S.left source.new) text.items) }
     ensures err { IfErr result
         (NothingRead BadAt1 (S.left source.old) (S.faults source.old) (S.faults source.new)) }
-    ensures lost { LosesPrefix (S.left source.old) (S.left source.new) }
+    ensures lost { LosesAtMost (INPUT_LIMIT + 1) (S.left source.old) (S.left source.new) }
     ensures counted { S.faults source.old ≤ S.faults source.new }
 {
     let input = read_input(alloc, INPUT_LIMIT, source)?;

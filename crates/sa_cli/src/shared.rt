@@ -1,15 +1,15 @@
 // The command `threads`.
-ghost use Rattle.std.specs.Prelude.{◌≡◌, ◌≤◌, sum};
+ghost use Rattle.std.specs.Prelude.{◌≡◌, ◌+◌, ◌≤◌, sum};
 ghost use Rattle.sa_base.specs.declared.limits.TheConstants.{MAX_BURST, MAX_EVENTS};
+ghost use Rattle.sa_cli.specs.declared.limits.TheConstants.{INPUT_LIMIT};
 ghost use Rattle.sa_cli.specs.Outcome.{RanShared, WritesNothing};
 ghost use Rattle.sa_cli.specs.Streams.{UsesStreams, streams, world_by};
-ghost use Rattle.sa_cli.specs.Shared.{limits_of, WritesClosed, AnswersThreads};
+ghost use Rattle.sa_cli.specs.Shared.{WritesClosed, AnswersThreads};
 ghost use Rattle.sa_cli.specs.declared.outcome.Ran.TheVariants.{Shared};
 
 use crate::outcome::{Outcome, Status};
 use crate::reading::read_workload;
 use crate::writing::run_written;
-use sa_command::Command;
 use sa_io::{Sink, Source};
 use sa_package::FastThreads;
 use sa_seat::Closed;
@@ -17,16 +17,6 @@ use sa_workers::{Gate, Limits, run};
 use std::alloc::Global;
 use std::sync::Wait;
 use std::thread::Threads;
-
-/// What `threads` is asked for, where that is the command.
-pub(crate) fn limits_of(command: Option<Command>) -> Option<Limits>
-    ensures { result ≡ limits_of command }
-{
-    match command {
-        Some(Command::Threads { budget, burst }) => Some(Limits { budget, burst }),
-        _ => None,
-    }
-}
 
 /// `threads`: runs the workload of the source with a host thread for each processor, within the limits, and writes the trace
 /// text.
@@ -43,7 +33,7 @@ pub(crate) fn run_shared<S: Source, K: Sink, G: Gate, R: Threads + Wait + Sync>(
     requires some_burst { 1 ≤ limits.burst }
     requires few_burst { limits.burst ≤ MAX_BURST }
     ensures shared { RanShared result.ran }
-    ensures uses { UsesStreams (world_by S.left K.taken S.faults K.faults)
+    ensures uses { UsesStreams (world_by S.left K.taken S.faults K.faults) (INPUT_LIMIT + 1)
         (streams source.old sink.old) (streams source.new sink.new) result.status }
     ensures answers { let told = world_by S.left K.taken S.faults K.faults in
         AnswersThreads limits.budget (told (streams source.old sink.old))

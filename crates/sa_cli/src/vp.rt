@@ -1,8 +1,9 @@
 // The command `vp`.
-ghost use Rattle.std.specs.Prelude.{◌≡◌, ◌≤◌, length, OnOk, OnErr};
+ghost use Rattle.std.specs.Prelude.{◌≡◌, ◌+◌, ◌≤◌, length, OnOk, OnErr};
 ghost use Rattle.std.specs.Io.KnownBytes.{Appends};
 ghost use Rattle.sa_base.specs.declared.limits.TheConstants.{MAX_SPACES};
 ghost use Rattle.sa_io.specs.Faults.{HasRisen, AppendsPrefix};
+ghost use Rattle.sa_cli.specs.declared.limits.TheConstants.{INPUT_LIMIT};
 ghost use Rattle.sa_cli.specs.Outcome.{history, status_of_end, RanHere, WritesNothing};
 ghost use Rattle.sa_cli.specs.Answers.{Writes};
 ghost use Rattle.sa_cli.specs.Streams.{UsesStreams, streams, world_by};
@@ -18,7 +19,7 @@ use sa_base::MAX_EVENTS;
 use sa_command::ScheduleWord;
 use sa_io::{Failed, Pieces, Sink, Source};
 use sa_trace::{Lines, print_losses};
-use sa_vp_run::{Ended, run};
+use sa_vp::{Ended, run};
 use std::alloc::Global;
 
 /// `vp`: runs the workload of the source on virtual processors, by this order of turns and within the budget, and writes the
@@ -33,7 +34,7 @@ pub(crate) fn run_virtual<S: Source, K: Sink>(
     requires some { 1 ≤ budget }
     requires few { budget ≤ MAX_EVENTS }
     ensures here { RanHere result.ran }
-    ensures uses { UsesStreams (world_by S.left K.taken S.faults K.faults)
+    ensures uses { UsesStreams (world_by S.left K.taken S.faults K.faults) (INPUT_LIMIT + 1)
         (streams source.old sink.old) (streams source.new sink.new) result.status }
     ensures answers { let told = world_by S.left K.taken S.faults K.faults in
         AnswersVp schedule budget (told (streams source.old sink.old))

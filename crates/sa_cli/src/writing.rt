@@ -8,10 +8,10 @@ ghost use Rattle.sa_cli.specs.declared.outcome.Ran.TheVariants.{Plain};
 ghost use Rattle.sa_cli.specs.declared.outcome.Status.TheVariants.{WriteFault};
 
 use crate::outcome::{Outcome, Status};
-use crate::output::{write_end, write_run, write_text};
+use crate::output::{write_end, write_run};
 use sa_base::{End, Trace};
 use sa_check::{Verdict, verdict_line};
-use sa_io::{Failed, Sink};
+use sa_io::{Failed, Sink, write_text};
 use sa_run::Ended;
 use std::alloc::Global;
 

@@ -2,8 +2,9 @@
 use Rattle.std.proofs.Common.{◌≡◌, ℕ, ◌+◌, min, List, [], ◌++◌, length, take, drop, Option, sym, ap, subst, ◌∙◌, append_assoc, append-nil, take-append-drop, arith}
 use Rattle.std.proofs.lemmas.List.{take-append-le, take_min}
 use Rattle.std.proofs.Math.Seq.{take-append-add}
-use Rattle.std.proofs.KnownBytes.{Appends-trans, Appends-nil, Consumes-trans}
-use Rattle.std.specs.Io.KnownBytes.{Appends, Consumes}
+use Rattle.std.proofs.KnownBytes.{Appends-trans, Appends-nil}
+use Rattle.std.specs.Prelude.{Result, Ok, Err, OnOk, OnErr}
+use Rattle.std.specs.Io.KnownBytes.{Appends}
 use Rattle.sa_io.specs.Faults.{AppendsPrefix}
 use Rattle.sa_io.specs.Pieces.{GoesOut}
 
@@ -20,11 +21,6 @@ prefix-behind before at after text written piece behind whole taken cut =
     ∙ take-append-add written (piece ++ behind) k
     ∙ ap (λ v. written ++ v) (take-append-le k piece behind (omega arith) ∙ take_min cut.0 piece) in
     (length written + k, subst P (sym end) (Appends-trans before at after written (take cut.0 piece) taken cut.1))
-
--- what was lost before a read that gave more
-pub lost-more : (before at after : Option (List ℕ)) (bytes more : List ℕ) → Consumes before at bytes → Consumes at after more
-    → (lost : List ℕ) × Consumes before after lost
-lost-more before at after bytes more taken then = (bytes ++ more, Consumes-trans before at after bytes more taken then)
 
 -- nothing was put
 pub out-none : (before : Option (List ℕ)) (waited : List ℕ) → GoesOut before before waited [] waited
@@ -67,6 +63,13 @@ pub out-end_cut : (before at after : Option (List ℕ)) (text waits : List ℕ)
     → GoesOut before at [] text waits → AppendsPrefix at after waits → AppendsPrefix before after text
 out-end_cut before at after text waits out cut =
     prefix-behind before at after text out.sent waits [] (out.whole ∙ ap (λ v. out.sent ++ v) (sym (append-nil waits))) out.taken cut
+
+-- what was put from the beginning is whole once the rest has gone out, or is cut
+pub all-ends : {T E : Type 0} (before at after : Option (List ℕ)) (text waits : List ℕ) (result : Result T E) → GoesOut before at [] text waits
+    → OnOk result (Appends at after waits) → OnErr result (AppendsPrefix at after waits)
+    → OnOk result (Appends before after text) × OnErr result (AppendsPrefix before after text)
+all-ends before at after text waits (Ok x) out ok err = (out-all before at after text waits out ok, tt)
+all-ends before at after text waits (Err e) out ok err = (tt, out-end_cut before at after text waits out err)
 
 -- what waits is filled up to a piece from the front of the rest
 pub filled-up : (text sent waiting rest front behind piece : List ℕ) (n : ℕ)

@@ -1,4 +1,5 @@
 pub mod Faults
+pub mod Input
 pub mod Supply
 pub mod Store
 pub mod Adapted

@@ -2,11 +2,13 @@
 #![tactic(auto)]
 
 mod adapters;
+mod input;
 mod memory;
 mod pieces;
 mod traits;
 
 pub use adapters::{StdSink, StdSource};
+pub use input::{ReadError, read_input};
 pub use memory::{MemSink, MemSource};
-pub use pieces::{PIECE, Pieces};
+pub use pieces::{PIECE, Pieces, write_text};
 pub use traits::{Failed, Sink, Source};

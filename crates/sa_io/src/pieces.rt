@@ -71,6 +71,18 @@ impl Pieces {
     }
 }
 
+/// Writes the whole text, piece by piece. It takes no memory.
+pub fn write_text<K: Sink>(sink: &mut K, text: &[u8]) -> Result<(), Failed>
+    ensures ok { OnOk result (Appends (K.taken sink.old) (K.taken sink.new) text.now) }
+    ensures err { OnErr result (AppendsPrefix (K.taken sink.old) (K.taken sink.new) text.now) }
+    ensures fault { OnErr result (HasRisen (K.faults sink.old) (K.faults sink.new)) }
+    ensures counted { K.faults sink.old ≤ K.faults sink.new }
+{
+    let mut pieces = Pieces::new();
+    pieces.put(sink, text)?;
+    pieces.end(sink)
+}
+
 // Appends these bytes.
 fn extend(waiting: &mut ArrayVec<u8, PIECE>, bytes: &[u8])
     requires { array_vec_len waiting.old + length bytes.now ≤ PIECE }

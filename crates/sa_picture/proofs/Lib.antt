@@ -1,3 +1,2 @@
-mod Told
 mod Pairs
 mod Texts

@@ -2,10 +2,11 @@
 use Rattle.std.specs.Prelude.{⊤, ℕ, List, Option, Some, None}
 use Rattle.std.specs.Io.KnownBytes.{Appends}
 use Rattle.sa_io.specs.Faults.{HasRisen, AppendsPrefix}
+use Rattle.sa_io.specs.Input.{ReadsInput}
+use Rattle.sa_picture.specs.declared.text.TheConstants.{INPUT_LIMIT}
 use Rattle.sa_picture.specs.declared.request.Request.{Request}
 use Rattle.sa_picture.specs.declared.status.Status.{Status}
 use Rattle.sa_picture.specs.declared.status.Status.TheVariants.{Drawn, Usage, ReadFault, WriteFault, OutOfMemory}
-use Rattle.sa_picture.specs.Input.{ReadsInput}
 use Rattle.sa_picture.specs.Drawn.{IsDrawn, IsNotDrawn}
 
 -- what source and sink tell: what is left, what was taken, and how many reads and writes failed
@@ -21,7 +22,7 @@ world left taken reads writes = record { left = left; taken = taken; reads = rea
 -- the source gave a trace text, and the text of its picture went to the sink in this way
 pub record Draws (r : Request) (old new : World) (goes : List ℕ → Type 0) : Type 0 where
   pub input : List ℕ
-  pub reads : ReadsInput old.left new.left input
+  pub reads : ReadsInput INPUT_LIMIT old.left new.left input
   pub text : List ℕ
   pub drawn : IsDrawn r input text
   pub went : goes text
@@ -29,7 +30,7 @@ pub record Draws (r : Request) (old new : World) (goes : List ℕ → Type 0) : 
 -- the source gave an input of which nothing is drawn, for the cause that the status says
 pub record Refuses (r : Request) (old new : World) (status : Status) : Type 0 where
   pub input : List ℕ
-  pub reads : ReadsInput old.left new.left input
+  pub reads : ReadsInput INPUT_LIMIT old.left new.left input
   pub cause : IsNotDrawn r input status
 
 abbrev pub Answers : Request → World → World → Status → Type 0

@@ -9,7 +9,7 @@ use Rattle.sa_svg.specs.declared.layout.Layout.{Layout}
 use Rattle.sa_svg.specs.Layout.{unit_of}
 use Rattle.sa_svg.specs.Drawing.{file_text}
 use Rattle.sa_trace.specs.Reading.{Told, read_of}
-use Rattle.sa_picture.specs.declared.input.TheConstants.{INPUT_LIMIT}
+use Rattle.sa_picture.specs.declared.text.TheConstants.{INPUT_LIMIT}
 use Rattle.sa_picture.specs.declared.request.Request.{Request}
 use Rattle.sa_picture.specs.declared.status.Status.{Status}
 use Rattle.sa_picture.specs.declared.status.Status.TheVariants.{BadTrace, TooMuch, OutOfMemory}

@@ -1,5 +1,4 @@
 pub mod Status
-pub mod Input
 pub mod Request
 pub mod Refusal
 pub mod Drawn

@@ -4,7 +4,7 @@ use Rattle.sa_base.specs.Cause.{bad_at}
 use Rattle.sa_base.specs.declared.refusal.Cause.TheVariants.{TooMany}
 use Rattle.sa_base.specs.declared.refusal.Bad.{Bad}
 use Rattle.sa_trace.specs.Reading.{read_of}
-use Rattle.sa_picture.specs.declared.input.TheConstants.{INPUT_LIMIT}
+use Rattle.sa_picture.specs.declared.text.TheConstants.{INPUT_LIMIT}
 
 -- what an input is refused with that is longer than the limit: it is too much in the line of the first byte past it
 unfoldable pub too_long : List ℕ → Bad

@@ -2,8 +2,8 @@
 use Rattle.std.specs.Prelude.{ℕ, ⊤}
 use Rattle.sa_picture.specs.declared.status.Status.{Status}
 use Rattle.sa_picture.specs.declared.status.Status.TheVariants.{Drawn, Usage, ReadFault, WriteFault, OutOfMemory, BadTrace, TooMuch}
-use Rattle.sa_picture.specs.declared.input.ReadError.{ReadError}
-use Rattle.sa_picture.specs.declared.input.ReadError.TheVariants as read
+use Rattle.sa_io.specs.declared.input.ReadError.{ReadError}
+use Rattle.sa_io.specs.declared.input.ReadError.TheVariants as read
 
 -- the exit status of the program
 abbrev pub code_of : Status → ℕ

@@ -1,8 +1,6 @@
 //! `sa_picture`: reads a trace text from standard input, and writes a picture of it to standard output, as one SVG file.
 #![tactic(auto)]
 
-mod input;
-mod output;
 mod request;
 mod status;
 mod text;

@@ -2,8 +2,8 @@
 ghost use Rattle.std.specs.Prelude.{◌≡◌};
 ghost use Rattle.sa_picture.specs.Status.{code_of, status_of};
 
-use crate::input::ReadError;
 use sa_base::Bad;
+use sa_io::ReadError;
 
 /// How the top call ended. `code` is the program's exit status.
 #[derive(Clone, Copy, Debug, PartialEq, Eq)]

@@ -3,7 +3,6 @@ ghost use Rattle.std.specs.Prelude.{◌≡◌, ◌≤◌, length, None, MatchOpt
 ghost use Rattle.sa_picture.specs.Refusal.{too_long};
 ghost use Rattle.sa_picture.specs.Drawn.{first_event, last_event, window_of, drawn_window, HasText, IsDrawn, IsNotDrawn};
 
-use crate::input::INPUT_LIMIT;
 use crate::request::Request;
 use crate::status::Status;
 use sa_base::{Bad, Cause, Item, Unread};
@@ -11,6 +10,9 @@ use sa_shapes::{Window, draw};
 use sa_svg::print;
 use sa_trace::read;
 use std::alloc::{AllocError, Global};
+
+/// The longest trace text that is read, in bytes.
+pub const INPUT_LIMIT: usize = 134_217_728;
 
 /// The text of the picture of the trace of which this is the text.
 pub(crate) fn picture_of(alloc: Global, request: Request, input: &[u8]) -> Result<Vec<u8>, Status>

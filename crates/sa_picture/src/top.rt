@@ -1,16 +1,15 @@
 // The top call.
-ghost use Rattle.std.specs.Prelude.{◌≡◌, ◌≤◌, ◌↔◌, None, map, string_bytes};
+ghost use Rattle.std.specs.Prelude.{◌≡◌, ◌+◌, ◌≤◌, ◌↔◌, None, map, string_bytes};
+ghost use Rattle.sa_io.specs.Input.{LosesAtMost};
+ghost use Rattle.sa_picture.specs.declared.text.TheConstants.{INPUT_LIMIT};
 ghost use Rattle.sa_picture.specs.Request.{request_of};
-ghost use Rattle.sa_picture.specs.Input.{LosesPrefix};
 ghost use Rattle.sa_picture.specs.Status.{WritesNothing};
 ghost use Rattle.sa_picture.specs.Answers.{World, world, Answers, AnswersTo};
 
-use crate::input::read_input;
-use crate::output::write_text;
 use crate::request::{Request, read_request};
 use crate::status::Status;
-use crate::text::picture_of;
-use sa_io::{Sink, Source};
+use crate::text::{INPUT_LIMIT, picture_of};
+use sa_io::{Sink, Source, read_input, write_text};
 use std::alloc::Global;
 
 /// Does what the words ask for: reads the source's trace text, and writes the picture of the trace to the sink.
@@ -23,7 +22,7 @@ pub fn top<S: Source, K: Sink>(
     ensures usage { (result ≡ Status.Usage) ↔ (request_of (map string_bytes words.now) ≡ None) }
     ensures untouched { result ≡ Status.Usage → (source.new ≡ source.old) × (sink.new ≡ sink.old) }
     ensures unwritten { WritesNothing result → sink.new ≡ sink.old }
-    ensures lost { LosesPrefix (S.left source.old) (S.left source.new) }
+    ensures lost { LosesAtMost (INPUT_LIMIT + 1) (S.left source.old) (S.left source.new) }
     ensures reads_counted { S.faults source.old ≤ S.faults source.new }
     ensures writes_counted { K.faults sink.old ≤ K.faults sink.new }
 
@@ -49,7 +48,7 @@ fn draw_trace<S: Source, K: Sink>(
 ) -> Status
     ensures no_usage { result ≡ Status.Usage → ⊥ }
     ensures unwritten { WritesNothing result → sink.new ≡ sink.old }
-    ensures lost { LosesPrefix (S.left source.old) (S.left source.new) }
+    ensures lost { LosesAtMost (INPUT_LIMIT + 1) (S.left source.old) (S.left source.new) }
     ensures reads_counted { S.faults source.old ≤ S.faults source.new }
     ensures writes_counted { K.faults sink.old ≤ K.faults sink.new }
     ensures answers { let before : World
@@ -58,7 +57,7 @@ fn draw_trace<S: Source, K: Sink>(
         = world (S.left source.new) (K.taken sink.new) (S.faults source.new) (K.faults sink.new) in
         Answers request before after result }
 {
-    let input = match read_input(alloc, source) {
+    let input = match read_input(alloc, INPUT_LIMIT, source) {
         Ok(input) => input,
         Err(error) => return Status::from(error),
     };

@@ -33,3 +33,8 @@ module _ {U C : Type 0} (f : Calls U C) where
     pub machine : Machine U C
     pub turns : TurnsTo w order budget events machine
     pub shows : items ≡ machine.items
+
+  -- the same, and it has no end there
+  pub record RunsUnended (w : WorkloadView) (order : Order) (budget : ℕ) (items : List Item) : Type 0 where
+    pub so_far : RunsSoFar w order budget items
+    pub unended : end_of f budget so_far.machine ≡ None

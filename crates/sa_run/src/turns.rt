@@ -1,6 +1,6 @@
 ghost use Rattle.std.specs.Prelude.{◌≡◌, ◌⊎◌, ◌≤◌, [], IfOk, IfErr};
 ghost use Rattle.sa_sched.specs.Kind.{order_of, AreAmong};
-ghost use Rattle.sa_run.specs.Run.{RunsTo, RunsSoFar};
+ghost use Rattle.sa_run.specs.Run.{RunsTo, RunsUnended};
 
 use sa_abstract::UserLevel;
 use sa_base::{End, MAX_EVENTS, Trace};
@@ -20,7 +20,7 @@ pub struct Ended {
 }
 
 /// Runs the workload by the order of turns until it ends, within `budget` events, 1 to 1,000,000. An error is want of
-/// memory, with the trace so far.
+/// memory, with the trace so far: the run has no end there.
 pub fn run<U: UserLevel>(
     alloc: Global,
     workload: Workload,
@@ -33,7 +33,7 @@ pub fn run<U: UserLevel>(
     ensures ok { IfOk result (λ ended. RunsTo U.calls workload (order_of kind) budget
         ended.trace.items ended.end ended.events) }
     ensures err { IfErr result (λ trace. (trace.items ≡ [])
-        ⊎ RunsSoFar U.calls workload (order_of kind) budget trace.items) }
+        ⊎ RunsUnended U.calls workload (order_of kind) budget trace.items) }
 {
     turns_are_in_order();
     let mut schedule = Schedule::new(kind, workload.processors());

@@ -4,7 +4,8 @@ use Rattle.sa_cli.specs.declared.outcome.Status.{Status}
 use Rattle.sa_cli.specs.Outcome.{RanHere}
 use Rattle.sa_cli.specs.Streams.{UsesStreams, streams, world_by}
 use Rattle.sa_cli.specs.Commands.{MigrateAnswers, CheckAnswers}
-use Rattle.sa_cli.proofs.TopCalls.{loses-nothing, does-along, does, does-nothing}
+use Rattle.sa_cli.proofs.TopCalls.{does-along, does, does-nothing}
+use Rattle.sa_io.proofs.InputLemmas.{loses-nothing}
 use Rattle.sa_cli.proofs.calls.run_command.Goals as goal
 
 pub returns-in-None : goal.returns-in-None
@@ -37,7 +38,7 @@ returns-in-Some-Load g c =
     let reads = g.S.Source.faults c.args.source.now in
     does-along _ _ (sym (load.is ∙ ap Some (rw load.is at load.field-0-is)))
     (does (Load load.number load.budget) said.here (λ load. search rules)
-    (record { unwritten = said.unwritten; lost = loses-nothing left; reads_counted = omega arith; writes_counted = said.writes_counted })
+    (record { unwritten = said.unwritten; lost = loses-nothing 0 left; reads_counted = omega arith; writes_counted = said.writes_counted })
     (said.answers left reads))
 
 pub migrate-requires : goal.migrate-requires
@@ -53,7 +54,7 @@ returns-in-Some-Migrate g c =
     let before = told (streams c.args.source.now c.args.sink.now) in
     let after = told (streams c.migrate.new.source c.migrate.new.sink) in
     does-along _ _ (sym (migrates.is ∙ ap Some (rw migrates.is at migrates.field-0-is)))
-    (does (Migrate migrates.slice) (subst RanHere (sym outcome.ran) tt) (λ load. absurd load) (subst (UsesStreams _ _ _) (sym outcome.status) said.uses)
+    (does (Migrate migrates.slice) (subst RanHere (sym outcome.ran) tt) (λ load. absurd load) (subst (UsesStreams _ _ _ _) (sym outcome.status) said.uses)
     (outcome.ran, subst (λ (v : Status). MigrateAnswers migrates.slice before after v) (sym outcome.status) said.answers))
 
 pub returns-in-Some-Check : goal.returns-in-Some-Check
@@ -64,7 +65,7 @@ returns-in-Some-Check g c =
     let before = told (streams c.args.source.now c.args.sink.now) in
     let after = told (streams c.check_texts.new.source c.check_texts.new.sink) in
     does-along _ _ (sym (c.in-Some-Check.is ∙ ap Some (rw c.in-Some-Check.is at c.in-Some-Check.field-0-is)))
-    (does Check (subst RanHere (sym outcome.ran) tt) (λ load. absurd load) (subst (UsesStreams _ _ _) (sym outcome.status) said.uses)
+    (does Check (subst RanHere (sym outcome.ran) tt) (λ load. absurd load) (subst (UsesStreams _ _ _ _) (sym outcome.status) said.uses)
     (outcome.ran, subst (λ (v : Status). CheckAnswers before after v) (sym outcome.status) said.answers))
 
 pub run_virtual-requires : goal.run_virtual-requires

@@ -1,7 +1,7 @@
 use Rattle.std.proofs.Common.{◌≡◌, ◌⊎◌, [], subst}
 use Rattle.sa_sched.specs.Order.{Order}
 use Rattle.sa_workload.specs.Text.{IsText}
-use Rattle.sa_run.specs.Run.{RunsTo, RunsSoFar}
+use Rattle.sa_run.specs.Run.{RunsTo, RunsUnended}
 use Rattle.sa_cli.specs.Packages.{runs_of}
 use Rattle.sa_cli.specs.Schedules.{order_by}
 use Rattle.sa_cli.specs.Input.{GaveText}
@@ -34,9 +34,9 @@ returns-in-Err-run_with-clause-answers g c =
     let before = told (streams c.args.source.now c.args.sink.now) in
     let after = told (streams c.read_workload.new.source c.args.sink.now) in
     let trace = c.in-Err-run_with.trace in
-    let runs : (trace.items ≡ []) ⊎ RunsSoFar (runs_of c.args.user_level).calls c.in-Ok.workload
+    let runs : (trace.items ≡ []) ⊎ RunsUnended (runs_of c.args.user_level).calls c.in-Ok.workload
     (order_by c.args.schedule c.in-Ok.workload) c.args.budget trace.items =
-    subst (λ (o : Order). (trace.items ≡ []) ⊎ RunsSoFar (runs_of c.args.user_level).calls c.in-Ok.workload o c.args.budget trace.items)
+    subst (λ (o : Order). (trace.items ≡ []) ⊎ RunsUnended (runs_of c.args.user_level).calls c.in-Ok.workload o c.args.budget trace.items)
     c.in-Ok-kind_of.ensures.order c.in-Err-run_with.ensures.err in
     run-answers plan before after _ _
     (stopped-answers (GaveText IsText (g.S.Source.left c.args.source.now) (g.S.Source.left c.read_workload.new.source)) plan (kept-by c.args.user_level)

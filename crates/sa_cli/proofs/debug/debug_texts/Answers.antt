@@ -1,7 +1,7 @@
 use Rattle.std.proofs.Common.{ℕ, List, subst, sym}
-use Rattle.sa_cli.specs.declared.debug.TheConstants.{SCRIPTS_LIMIT}
+use Rattle.sa_cli.specs.declared.limits.TheConstants.{SCRIPTS_LIMIT}
 use Rattle.sa_cli.specs.Streams.{streams, world_by}
-use Rattle.sa_cli.specs.Input.{ReadsInput}
+use Rattle.sa_io.specs.Input.{ReadsInput}
 use Rattle.sa_cli.proofs.Sessions.{over-answers, script-answers}
 use Rattle.sa_cli.proofs.debug.debug_texts.Goals as goal
 

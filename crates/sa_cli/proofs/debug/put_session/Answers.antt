@@ -5,7 +5,7 @@ use Rattle.sa_io.proofs.PieceLemmas.{out-both}
 use Rattle.sa_lemmas.proofs.Results.{on_err}
 use Rattle.sa_trace.specs.TraceText.{trace_text}
 use Rattle.sa_cli.proofs.Sessions.{first-cut, second-cut}
-use Rattle.sa_cli.proofs.TracePieces.{all-ends}
+use Rattle.sa_io.proofs.PieceLemmas.{all-ends}
 use Rattle.sa_cli.proofs.debug.put_session.Goals as goal
 
 pub returns-in_err-put-clause-err : goal.returns-in_err-put-clause-err

@@ -1,6 +1,6 @@
 use Rattle.std.proofs.Common.{rules}
 use Rattle.sa_trace.specs.TraceText.{trace_text}
-use Rattle.sa_cli.proofs.TracePieces.{all-ends}
+use Rattle.sa_io.proofs.PieceLemmas.{all-ends}
 use Rattle.sa_cli.proofs.output.write_run.Goals as goal
 
 pub returns-clause-ok : goal.returns-clause-ok

@@ -1,6 +1,6 @@
 use Rattle.std.proofs.Common.{arith, ap, ◌∙◌, inl}
 use Rattle.sa_workload.specs.Bad.{BadAt1}
-use Rattle.sa_cli.specs.declared.input.TheConstants.{INPUT_LIMIT}
+use Rattle.sa_cli.specs.declared.limits.TheConstants.{INPUT_LIMIT}
 use Rattle.sa_cli.specs.Refusals.{too_long}
 use Rattle.sa_cli.proofs.Refusals.{read-refused}
 use Rattle.sa_cli.proofs.reading.migrated_text.Goals as goal

@@ -4,7 +4,7 @@ use Rattle.sa_io.specs.Pieces.{GoesOut}
 use Rattle.sa_lemmas.proofs.Results.{on_err}
 use Rattle.sa_trace.specs.TraceText.{trace_text}
 use Rattle.sa_trace.specs.Losses.{losses_text}
-use Rattle.sa_cli.proofs.TracePieces.{all-ends}
+use Rattle.sa_io.proofs.PieceLemmas.{all-ends}
 use Rattle.sa_cli.proofs.Sessions.{first-cut}
 use Rattle.sa_cli.proofs.VpPieces.{both-out, second-cut}
 use Rattle.sa_cli.proofs.vp.write_text.Goals as goal

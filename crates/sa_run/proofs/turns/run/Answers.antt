@@ -1,4 +1,4 @@
-use Rattle.std.proofs.Common.{rules, arith, ◌≡◌, ℕ, ◌<◌, ◌≤◌, None, sym, ap, subst}
+use Rattle.std.proofs.Common.{rules, arith, ◌≡◌, ℕ, ◌<◌, ◌≤◌, None, sym, ap, subst, inr}
 use Rattle.sa_sched.specs.Kind.{order_of}
 use Rattle.sa_sched.specs.Turns.{start, turned_often}
 use Rattle.sa_spaces.specs.Workload.{WorkloadView}
@@ -54,3 +54,18 @@ loop-end-preserved g c =
       budget = search rules;
       within = omega (arith, below, c.loop-end.invariant.budget, c.in-Ok-turn.ensures.event);
     }
+
+pub returns-in_default-turn-clause-err : goal.returns-in_default-turn-clause-err
+returns-in_default-turn-clause-err g c =
+    let none : end_of g.U.UserLevel.calls c.loop-end.core.budget (machine c.loop-end.core) ≡ None = search rules in
+    let unended : end_of g.U.UserLevel.calls c.args.budget (machine c.loop-end.core) ≡ None =
+    subst (λ (b : ℕ). end_of g.U.UserLevel.calls b (machine c.loop-end.core) ≡ None) c.loop-end.invariant.budget none in
+    inr (record {
+      so_far = record {
+        events = (machine c.loop-end.core).event;
+        machine = machine c.loop-end.core;
+        turns = c.loop-end.invariant.turns;
+        shows = search rules;
+      };
+      unended = unended;
+    })

@@ -1,7 +1,6 @@
-use Rattle.std.proofs.Common.{rules}
-use Rattle.sa_io.proofs.PieceLemmas.{lost-more}
-use Rattle.sa_cli.proofs.Told.{end-of-input}
-use Rattle.sa_cli.proofs.input.read_input.Goals as goal
+use Rattle.std.proofs.Common.{rules, ◌+◌}
+use Rattle.sa_io.proofs.InputLemmas.{end-of-input, lost-more}
+use Rattle.sa_io.proofs.input.read_input.Goals as goal
 
 pub returns-then-count-eq0-clause-input : goal.returns-then-count-eq0-clause-input
 returns-then-count-eq0-clause-input g c =
@@ -11,4 +10,5 @@ returns-then-count-eq0-clause-input g c =
 
 pub returns-in_err-extend_from_slice-clause-lost : goal.returns-in_err-extend_from_slice-clause-lost
 returns-in_err-extend_from_slice-clause-lost g c =
-    lost-more _ (g.S.Source.left c.loop-piece.source) _ c.loop-piece.input.items _ c.loop-piece.invariant.taken c.in_ok-count.ensures.taken
+    lost-more (c.args.limit + 1) _ (g.S.Source.left c.loop-piece.source) _ c.loop-piece.input.items _ c.in_ok-count.count c.loop-piece.invariant.taken
+    c.in_ok-count.ensures.taken (search rules)

@@ -1,0 +1,9 @@
+use Rattle.std.proofs.Common.{Some, sym, ap, ◌∙◌}
+use Rattle.sa_command.specs.declared.command.Command.TheVariants.{Threads}
+use Rattle.sa_cli.proofs.calls.limits_of.Goals as goal
+
+pub returns-in-Some-Threads-clause-range : goal.returns-in-Some-Threads-clause-range
+returns-in-Some-Threads-clause-range c =
+    let threads = c.in-Some-Threads in
+    c.commands_are_in_range.ensures c.args.words.now (Threads threads.budget threads.burst)
+    (sym c.read_words.ensures ∙ threads.is ∙ ap Some threads.field-0-is)
