@@ -1,11 +1,13 @@
 -- The user levels of a list, one of which changes, and how many have something to do.
-use Rattle.std.proofs.Common.{◌≡◌, ℕ, ◌+◌, ◌<◌, ◌≤◌, Bool, true, false, Some, List, [], ◌∷◌, ◌++◌, length, get_or, slice_get, slice_set, drop, append_assoc, refl, sym, ap, subst, ◌∙◌, arith}
+use Rattle.std.proofs.Common.{◌≡◌, ℕ, ◌+◌, ◌<◌, ◌≤◌, Bool, true, false, Some, List, [], ◌∷◌, ◌++◌, length, get_or, set, slice_get, slice_set, drop, append_assoc, refl, sym, ap, subst, ◌∙◌, arith}
+use Rattle.std.proofs.lemmas.List.{length-set}
 use Rattle.std.proofs.lemmas.Option.{slice_get_read}
-use Rattle.std.proofs.lemmas.List.Sums.{sum_by-cons}
+use Rattle.std.proofs.lemmas.List.Sums.{sum_by-cons, sum_by-set, get_or-le-sum_by}
 use Rattle.std.specs.Prelude.{sum_by, zero, suc}
 use Rattle.sa_spaces.specs.Space.{SpaceView}
 use Rattle.sa_spaces.specs.Workload.{WorkloadView}
 use Rattle.sa_abstract.specs.Calls.{Calls}
+use Rattle.sa_abstract.specs.declared.answer.Tally.{Tally}
 use Rattle.sa_core_model.specs.Run.{setting, started_from}
 use Rattle.sa_core.specs.Users.{one_unless, is_over, is_still, Counted}
 
@@ -26,6 +28,39 @@ module _ {U C : Type 0} (f : Calls U C) where
       let a = sum-few (λ u. is_over (f.tally u)) users in
       let b = sum-few (λ u. is_still (f.tally u)) users in
       (rw counted.left a, rw counted.work b)
+
+-- one of the users was counted, as its tally says
+module _ {U C : Type 0} (f : Calls U C) (xs : List U) (i n k : ℕ) (u : U) (was : Tally) where
+  pub counted-left : Counted f xs n k → i < length xs → u ≡ get_or xs i u → was ≡ f.tally u → one_unless (is_over was) ≤ n
+  counted-left counted within read is =
+      let h = get_or-le-sum_by (λ v. one_unless (is_over (f.tally v))) xs i u within in
+      let e : one_unless (is_over was) ≡ one_unless (is_over (f.tally (get_or xs i u))) = ap (λ t. one_unless (is_over t)) (is ∙ ap f.tally read) in
+      rw (e, counted.left) h
+
+  pub counted-work : Counted f xs n k → i < length xs → u ≡ get_or xs i u → was ≡ f.tally u → one_unless (is_still was) ≤ k
+  counted-work counted within read is =
+      let h = get_or-le-sum_by (λ v. one_unless (is_still (f.tally v))) xs i u within in
+      let e : one_unless (is_still was) ≡ one_unless (is_still (f.tally (get_or xs i u))) = ap (λ t. one_unless (is_still t)) (is ∙ ap f.tally read) in
+      rw (e, counted.work) h
+
+-- one of the users is another, and is counted as its tally says
+module _ {U C : Type 0} (f : Calls U C) (xs : List U) (i n k : ℕ) (u v : U) (was is : Tally) (left work : ℕ) where
+  pub counted-set : Counted f xs n k → i < length xs → u ≡ get_or xs i u → was ≡ f.tally u → is ≡ f.tally v
+      → left + one_unless (is_over was) ≡ n + one_unless (is_over is) → work + one_unless (is_still was) ≡ k + one_unless (is_still is)
+      → Counted f (set xs i v) left work
+  counted-set counted within read was-is is-is more-left more-work =
+      let t : f.tally (get_or xs i u) ≡ was = ap f.tally (sym read) ∙ sym was-is in
+      let a : (one_unless (is_over (f.tally (get_or xs i u))) ≡ one_unless (is_over was)) = ap (λ z. one_unless (is_over z)) t in
+      let b : (one_unless (is_over (f.tally v)) ≡ one_unless (is_over is)) = ap (λ z. one_unless (is_over z)) (sym is-is) in
+      let d : (one_unless (is_still (f.tally (get_or xs i u))) ≡ one_unless (is_still was)) = ap (λ z. one_unless (is_still z)) t in
+      let e : (one_unless (is_still (f.tally v)) ≡ one_unless (is_still is)) = ap (λ z. one_unless (is_still z)) (sym is-is) in
+      let h = sum_by-set (λ z. one_unless (is_over (f.tally z))) xs i v u within in
+      let j = sum_by-set (λ z. one_unless (is_still (f.tally z))) xs i v u within in
+      record {
+        left = omega (arith, h, a, b, counted.left, more-left);
+        work = omega (arith, j, d, e, counted.work, more-work);
+        few = rw (length-set xs i v) counted.few;
+      }
 
 -- one of a list, as it was read there
 module _ {U : Type 0} (xs ys : List U) (i j : ℕ) (x u : U) where

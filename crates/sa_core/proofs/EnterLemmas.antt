@@ -16,9 +16,9 @@ use Rattle.sa_devices.specs.Ios.{due_of, io_at, io_no}
 use Rattle.sa_devices.proofs.IosLemmas.{due_of-under_way}
 use Rattle.sa_kernel_model.specs.declared.entry.Entry.TheVariants.{Interrupt, Block as BlockEntry, Complete, More as MoreEntry, Idle as IdleEntry, GiveBack as GiveBackEntry, InterruptOwn as InterruptOwnEntry}
 use Rattle.sa_kernel_model.specs.State.{KernelState, owner_of, line_of}
-use Rattle.sa_kernel_model.specs.Fits.{IsFit, Asks as KernelAsks, upcalls}
+use Rattle.sa_kernel_model.specs.Entering.{MayEnter, Asks as KernelAsks, upcalls}
 use Rattle.sa_kernel_model.specs.Sound.{AreClaimed}
-use Rattle.sa_kernel_model.proofs.SeenLemmas.{low-bit}
+use Rattle.sa_kernel_model.proofs.parts.Seen.{low-bit}
 use Rattle.sa_core_model.specs.Machine.{Machine, seen_on, scene_of, without_context, stopped_in, stepped, step_to, begun}
 use Rattle.sa_core_model.specs.Turn.{kernel_entered, next_event}
 use Rattle.sa_core_model.specs.Run.{CanGo}
@@ -60,7 +60,7 @@ module _ {U C : Type 0} (f : Calls U C) (stands : Standing U C) (keep : Keeps f 
 
   pub interrupt-fits : (m : Machine U C) (p : ProcNo) (n : ActNo) (held : Option (Stopped C)) → IsNext stands m → p.0 < m.workload.processors
       → IsSome (line_of m.kernel p)
-      → m.kernel.acts n.0 ≡ None → held ≡ stopped_in f m p (owner_of m.kernel p) → IsFit m.kernel p m.event (Interrupt held)
+      → m.kernel.acts n.0 ≡ None → held ≡ stopped_in f m p (owner_of m.kernel p) → MayEnter m.kernel p m.event (Interrupt held)
   interrupt-fits m p n held next within raised unused is = rw is ((can-stop m p n next within raised unused).fit)
 
   pub interrupt-welcomes : (m : Machine U C) (p : ProcNo) (n : ActNo) (held : Option (Stopped C)) → IsNext stands m → p.0 < m.workload.processors
@@ -91,7 +91,7 @@ module _ {U C : Type 0} (f : Calls U C) (stands : Standing U C) (keep : Keeps f 
 
   pub block-fits : (m : Machine U C) (p : ProcNo) (n : ActNo) (len : ℕ) (page : Option ℕ) (held : Stopped C) → Asks stands p (Block len page) m
       → m.kernel.acts n.0 ≡ None
-      → stopped_in f m p (owner_of m.kernel p) ≡ Some held → IsFit m.kernel p m.event (BlockEntry held len page)
+      → stopped_in f m p (owner_of m.kernel p) ≡ Some held → MayEnter m.kernel p m.event (BlockEntry held len page)
   block-fits m p n len page held asks unused is = (can-hold m p n len page held asks unused is).fit
 
   pub asks-within : (m : Machine U C) (p : ProcNo) (asked : Step) → Asks stands p asked m → p.0 < length m.kernel.lives
@@ -111,7 +111,7 @@ module _ {U C : Type 0} (f : Calls U C) (stands : Standing U C) (keep : Keeps f 
   asks-of : (m : Machine U C) (p : ProcNo) (asked : Step) → (asks : Asks stands p asked m) → KernelAsks m.kernel p asks.space
   asks-of m p asked asks = record { owner = asks.owner; low = asks.low }
 
-  pub more-fits : (m : Machine U C) (p : ProcNo) (n : ℕ) → Asks stands p (More n) m → IsFit m.kernel p m.event (MoreEntry n)
+  pub more-fits : (m : Machine U C) (p : ProcNo) (n : ℕ) → Asks stands p (More n) m → MayEnter m.kernel p m.event (MoreEntry n)
   more-fits m p n asks = record {
     space = asks.space;
     asks = asks-of m p (More n) asks;
@@ -119,13 +119,13 @@ module _ {U C : Type 0} (f : Calls U C) (stands : Standing U C) (keep : Keeps f 
     few = (let few = asks.can.1 in omega (arith, few, asks.between.standing.lives));
   }
 
-  pub idle-fits : (m : Machine U C) (p : ProcNo) → Asks stands p Idle m → IsFit m.kernel p m.event IdleEntry
+  pub idle-fits : (m : Machine U C) (p : ProcNo) → Asks stands p Idle m → MayEnter m.kernel p m.event IdleEntry
   idle-fits m p asks = record { space = asks.space; asks = asks-of m p Idle asks; some = asks.can }
 
-  pub back-fits : (m : Machine U C) (p : ProcNo) → Asks stands p GiveBack m → IsFit m.kernel p m.event GiveBackEntry
+  pub back-fits : (m : Machine U C) (p : ProcNo) → Asks stands p GiveBack m → MayEnter m.kernel p m.event GiveBackEntry
   back-fits m p asks = record { space = asks.space; asks = asks-of m p GiveBack asks; some = asks.can }
 
-  pub own-fits : (m : Machine U C) (p q : ProcNo) → Asks stands p (InterruptOwn q) m → IsFit m.kernel p m.event (InterruptOwnEntry q)
+  pub own-fits : (m : Machine U C) (p q : ProcNo) → Asks stands p (InterruptOwn q) m → MayEnter m.kernel p m.event (InterruptOwnEntry q)
   own-fits m p q asks =
       let low = (low-bit m.kernel asks.space q asks.between.standing.sound.formed.sizes).0 asks.can.2 in
       record {
@@ -163,7 +163,7 @@ module _ {U C : Type 0} (f : Calls U C) (stands : Standing U C) (keep : Keeps f 
 
   -- the I/O that is due
   pub due-fits : (m : Machine U C) (p : ProcNo) (io : IoNo) → line_of m.kernel p ≡ None → option_map io_no (due_of m.event m.kernel.under_way) ≡ Some io
-      → IsFit m.kernel p m.event (Complete io)
+      → MayEnter m.kernel p m.event (Complete io)
   due-fits m p io low due =
       let there = subst (λ (o : Option IoNo). IfSome o (λ i. IsSome (io_at i.0 m.kernel.under_way))) due (due_of-under_way m.event m.kernel.under_way) in
       let here = some-is (io_at io.0 m.kernel.under_way) there in

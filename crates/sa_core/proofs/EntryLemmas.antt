@@ -11,7 +11,7 @@ use Rattle.sa_kernel_model.specs.declared.entry.Given.{Given}
 use Rattle.sa_kernel_model.specs.declared.entry.Given.TheVariants.{Nothing}
 use Rattle.sa_kernel_model.specs.State.{KernelState, Scene, owner_of}
 use Rattle.sa_kernel_model.specs.Entries.{entered}
-use Rattle.sa_kernel_model.specs.Fits.{upcalls}
+use Rattle.sa_kernel_model.specs.Entering.{upcalls}
 use Rattle.sa_kernel_model.specs.Enters.{given_by}
 use Rattle.sa_kernel_model.specs.Sound.{AreClaimed}
 use Rattle.sa_core_model.specs.Machine.{Machine, user_of, seen_on, scene_of, with_scene, with_pair, begun, answered}

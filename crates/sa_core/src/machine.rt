@@ -4,7 +4,7 @@ ghost use Rattle.sa_base.specs.declared.number.ActNo.{ActNo};
 ghost use Rattle.sa_base.specs.declared.record.Note.{Note};
 ghost use Rattle.sa_base.specs.declared.limits.TheConstants.{MAX_EVENTS};
 ghost use Rattle.sa_kernel_model.specs.State.{owner_of, line_of};
-ghost use Rattle.sa_kernel_model.specs.Fits.{IsFit, upcalls};
+ghost use Rattle.sa_kernel_model.specs.Entering.{MayEnter, upcalls};
 ghost use Rattle.sa_kernel_model.specs.Sound.{AreClaimed};
 ghost use Rattle.sa_core_model.specs.Machine.{begun, answered, stopped_in, stepped, without_context};
 ghost use Rattle.sa_core_model.specs.Turn.{next_event, more_events, ticked, ends_slice, sliced, kernel_entered, told_one, told_all, welcomed_in, entered_on, hinted, blocked, interrupted, asked, turned_owned, turned_now, turned, gone_in, committed};
@@ -60,10 +60,10 @@ impl<U: UserLevel> CoreParts<U> {
         ensures fetched { IfOk result (λ m. (machine_of m).kernel.telling ≡ []) }
         ensures last { IfOk result (λ m. m.kernel.last ≡ 0) }
     {
+        let contexts = no_contexts(alloc, w.processors())?;
+        let users = Users::start(alloc, &w)?;
         let mut trace = Trace::new(alloc);
         let kernel = Kernel::start(alloc, &w, &mut trace)?;
-        let users = Users::start(alloc, &w)?;
-        let contexts = no_contexts(alloc, w.processors())?;
         Ok(CoreParts {
             workload: w,
             kernel,
@@ -186,7 +186,7 @@ impl<U: UserLevel> CoreParts<U> {
         requires within { p.0 < length (machine_of self.old).kernel.lives }
         requires later { self.old.kernel.last < self.old.events }
         requires event { self.old.events ≤ MAX_EVENTS }
-        requires fit { IsFit (machine_of self.old).kernel p self.old.events entry }
+        requires fit { MayEnter (machine_of self.old).kernel p self.old.events entry }
         requires fetched { (machine_of self.old).kernel.telling ≡ [] }
         requires welcomes { (fresh : ActNo) → (machine_of self.old).kernel.acts fresh.0 ≡ None
             → upcalls (machine_of self.old).kernel p entry ≡ true
@@ -209,7 +209,7 @@ impl<U: UserLevel> CoreParts<U> {
         requires within { p.0 < length (machine_of self.old).kernel.lives }
         requires later { self.old.kernel.last < self.old.events }
         requires event { self.old.events ≤ MAX_EVENTS }
-        requires fit { IsFit (machine_of self.old).kernel p self.old.events (Entry.Complete io) }
+        requires fit { MayEnter (machine_of self.old).kernel p self.old.events (Entry.Complete io) }
         requires fetched { (machine_of self.old).kernel.telling ≡ [] }
         requires welcomes { (fresh : ActNo) → (machine_of self.old).kernel.acts fresh.0 ≡ None
             → upcalls (machine_of self.old).kernel p (Entry.Complete io) ≡ true
@@ -229,7 +229,7 @@ impl<U: UserLevel> CoreParts<U> {
         requires now { Stands U.stands self.old.events (machine_of self.old) }
         requires later { self.old.kernel.last < self.old.events }
         requires event { self.old.events ≤ MAX_EVENTS }
-        requires fit { IsFit (machine_of self.old).kernel p self.old.events entry }
+        requires fit { MayEnter (machine_of self.old).kernel p self.old.events entry }
         requires fetched { (machine_of self.old).kernel.telling ≡ [] }
         requires stands { (fresh : ActNo) → (machine_of self.old).kernel.acts fresh.0 ≡ None
             → Stands U.stands self.old.events (kernel_entered p fresh entry (machine_of self.old)) }

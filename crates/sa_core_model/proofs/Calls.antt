@@ -24,9 +24,9 @@ use Rattle.sa_acts.specs.Table.{runs_in, held_of, taken_from}
 use Rattle.sa_kernel_model.specs.State.{KernelState, owner_of, life_of}
 use Rattle.sa_kernel_model.specs.Sound.{IsSound, AreClaimed, held_in, note_claim}
 use Rattle.sa_kernel_model.specs.Entries.{fetched, held_for, handed_by}
-use Rattle.sa_kernel_model.proofs.ClaimLemmas.{held-next, held-none, space-held}
-use Rattle.sa_kernel_model.proofs.SoundLemmas.{sound-after_fetch}
-use Rattle.sa_kernel_model.proofs.HeldLemmas.{claimed-after_fetch}
+use Rattle.sa_kernel_model.proofs.sound.Claims.{held-next, held-none, space-held}
+use Rattle.sa_kernel_model.proofs.sound.Sound.{sound-after_fetch}
+use Rattle.sa_kernel_model.proofs.sound.Held.{claimed-after_fetch}
 use Rattle.sa_core_model.specs.Machine.{Machine, with_pair, context_on, user_of, called, called_by, answered, seen_on}
 use Rattle.sa_core_model.specs.Run.{setting}
 use Rattle.sa_core_model.specs.Standing.{contexts_in, contexts_of, Stands}

@@ -17,8 +17,8 @@ use Rattle.sa_kernel_model.specs.Parts.{fetch_page, leave, moved, upcall, go_to_
 use Rattle.sa_kernel_model.specs.Closing.{spaces, want_one, want_for, wants, must_want, aims, interrupt, interrupt_one, interrupt_for, must_interrupt, has_low_line, closed}
 use Rattle.sa_kernel_model.specs.Entries.{stopped, go_to_aim, over, over_for, more, idled, interrupted_own, told_or_left, block_begun}
 use Rattle.sa_kernel_model.specs.Enters.{upcalls_for}
-use Rattle.sa_kernel_model.proofs.PlacedLemmas.{for_spaces-keeps}
-use Rattle.sa_kernel_model.proofs.HeldLemmas.{stays-closed}
+use Rattle.sa_kernel_model.proofs.parts.Placed.{for_spaces-keeps}
+use Rattle.sa_kernel_model.proofs.sound.Held.{stays-closed}
 
 module _ {C : Type 0} where
   -- the same activations run, and as many spaces have a demand

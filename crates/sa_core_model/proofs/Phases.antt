@@ -19,9 +19,9 @@ use Rattle.sa_acts.specs.declared.acts.Act.{Act}
 use Rattle.sa_acts.specs.Table.{runs_in, holding}
 use Rattle.sa_kernel_model.specs.State.{KernelState, owner_of, life_of}
 use Rattle.sa_kernel_model.specs.Sound.{IsSound, AreAlive}
-use Rattle.sa_kernel_model.proofs.LifeLemmas.{alive-aside}
-use Rattle.sa_kernel_model.proofs.FormedLemmas.{free-set}
-use Rattle.sa_kernel_model.proofs.HeldLemmas.{runs-here}
+use Rattle.sa_kernel_model.proofs.parts.Running.{alive-aside}
+use Rattle.sa_kernel_model.proofs.sound.Formed.{free-set}
+use Rattle.sa_kernel_model.proofs.sound.Held.{runs-here}
 use Rattle.sa_core_model.specs.Machine.{Machine, with_pair, without_context, context_on}
 use Rattle.sa_core_model.specs.Run.{setting}
 use Rattle.sa_core_model.specs.Standing.{context_in, contexts_in, contexts_of, running, AreValues, Stands}

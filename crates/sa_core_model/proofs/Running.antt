@@ -13,7 +13,7 @@ use Rattle.sa_acts.specs.declared.acts.Act.{Act}
 use Rattle.sa_acts.specs.Table.{runs_in, holding, taken_from}
 use Rattle.sa_kernel_model.specs.Sound.{AreAlive}
 use Rattle.sa_kernel_model.specs.Entries.{without_acts}
-use Rattle.sa_kernel_model.proofs.LifeLemmas.{cell-cases}
+use Rattle.sa_kernel_model.proofs.parts.Running.{cell-cases}
 use Rattle.sa_core_model.specs.Standing.{is_life, running, held_or_running, context_in, contexts_in}
 
 true-false : (b : Bool) → b ≡ true → b ≡ false → ⊥

@@ -21,7 +21,7 @@ use Rattle.sa_acts.specs.declared.acts.Act.{Act}
 use Rattle.sa_assign.specs.Reaim.{proc_no}
 use Rattle.sa_kernel_model.specs.State.{Scene, owner_of}
 use Rattle.sa_kernel_model.specs.Opening.{opening_state, first_wants}
-use Rattle.sa_kernel_model.proofs.SoundLemmas.{sound-opening, sound-closed}
+use Rattle.sa_kernel_model.proofs.sound.Sound.{sound-opening, sound-closed}
 use Rattle.sa_core_model.specs.Machine.{Machine, seen_on, gone, gone_to}
 use Rattle.sa_core_model.specs.Turn.{turned, next_event, more_events, gone_in, committed}
 use Rattle.sa_core_model.specs.End.{local_on, local_in, local_by}

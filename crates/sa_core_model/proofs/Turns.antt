@@ -30,12 +30,12 @@ use Rattle.sa_kernel_model.specs.State.{KernelState, Scene, owner_of, aim_of, li
 use Rattle.sa_kernel_model.specs.Parts.{with_line}
 use Rattle.sa_kernel_model.specs.Closing.{closed}
 use Rattle.sa_kernel_model.specs.Entries.{entered, entered_as, evicted_at, stopped, gave_back, block_begun, blocked_by as kernel_blocked_by, told_or_left, without_acts, kind_at, IsOwnPage}
-use Rattle.sa_kernel_model.specs.Fits.{IsFit, Asks, upcalls}
+use Rattle.sa_kernel_model.specs.Entering.{MayEnter, Asks, upcalls}
 use Rattle.sa_kernel_model.specs.Enters.{upcalls_for, upcalls_in}
 use Rattle.sa_kernel_model.specs.Sound.{IsSound, IsUpcalled}
-use Rattle.sa_kernel_model.proofs.SoundLemmas.{sound-entered_as, sound-closed, sound-evicted}
-use Rattle.sa_kernel_model.proofs.HeldLemmas.{upcalled-entered_as, upcalled-closed}
-use Rattle.sa_kernel_model.proofs.SeenLemmas.{low-bit}
+use Rattle.sa_kernel_model.proofs.sound.Sound.{sound-entered_as, sound-closed, sound-evicted}
+use Rattle.sa_kernel_model.proofs.sound.Held.{upcalled-entered_as, upcalled-closed}
+use Rattle.sa_kernel_model.proofs.parts.Seen.{low-bit}
 use Rattle.sa_core_model.specs.Machine.{Machine, user_of, context_on, seen_on, scene_of, with_pair, without_context, called_by, begun, answered, stopped_by, stopped_in, step_to, stepped}
 use Rattle.sa_core_model.specs.Turn.{next_event, ticked, ends_slice, sliced_if, sliced, kernel_entered, told_all, welcomed_in, welcomed_if, entered_on, answered_in, hinted, blocked_by, blocked, interrupted, asked, turned_owned, turned_due, turned_raised, turned}
 use Rattle.sa_core_model.specs.Run.{setting}
@@ -149,13 +149,13 @@ module _ {U C : Type 0} (f : Calls U C) (stands : Standing U C) (keep : Keeps f 
 
   pub sound-after : (e : ℕ) (m : Machine U C) (p : ProcNo) (n : ActNo) (entry : Entry C) → Stands stands e m → m.kernel.telling ≡ []
       → p.0 < length m.kernel.lives
-      → IsFit m.kernel p m.event entry → m.kernel.acts n.0 ≡ None → IsSound (entered m.event p n entry (scene_of m)).state
+      → MayEnter m.kernel p m.event entry → m.kernel.acts n.0 ≡ None → IsSound (entered m.event p n entry (scene_of m)).state
   sound-after e m p n entry st fetched within fit unused =
       sound-closed m.event p (entered_as m.event p n entry (scene_of m)) (sound-entered_as m.event p n entry (scene_of m) within fit unused fetched st.sound)
 
   -- an entry after which the same activations run
   pub rests-entered : (w : WorkloadView) (e g : ℕ) (m : Machine U C) (p : ProcNo) (n : ActNo) (entry : Entry C) → Rests w e g m → p.0 < length m.kernel.lives
-      → IsFit m.kernel p m.event entry → m.kernel.acts n.0 ≡ None → SameRuns m.kernel (entered_as m.event p n entry (scene_of m)).state
+      → MayEnter m.kernel p m.event entry → m.kernel.acts n.0 ≡ None → SameRuns m.kernel (entered_as m.event p n entry (scene_of m)).state
       → Rests w e g (kernel_entered p n entry m)
   rests-entered w e g m p n entry rest within fit unused same =
       let x = entered_as m.event p n entry (scene_of m) in
@@ -191,7 +191,7 @@ module _ {U C : Type 0} (f : Calls U C) (stands : Standing U C) (keep : Keeps f 
 
   pub rests-given : (w : WorkloadView) (e g : ℕ) (m : Machine U C) (p : ProcNo) (n : ActNo) (s : SpaceNo) → Rests w e g m → p.0 < length m.kernel.lives
       → owner_of m.kernel p ≡ Some s
-      → IsFit m.kernel p m.event GiveBackEntry → m.kernel.acts n.0 ≡ None → Rests w e g (kernel_entered p n GiveBackEntry m)
+      → MayEnter m.kernel p m.event GiveBackEntry → m.kernel.acts n.0 ≡ None → Rests w e g (kernel_entered p n GiveBackEntry m)
   rests-given w e g m p n s rest within owner fit unused =
       let k = m.kernel in
       let x = entered_as m.event p n GiveBackEntry (scene_of m) in
@@ -276,7 +276,7 @@ module _ {U C : Type 0} (f : Calls U C) (stands : Standing U C) (keep : Keeps f 
 
   pub rests-upcall : (w : WorkloadView) (e g : ℕ) (m : Machine U C) (p : ProcNo) (n : ActNo) (entry : Entry C) (k : KernelState C) → Rests w e g m
       → p.0 < length m.kernel.lives
-      → IsFit m.kernel p m.event entry → m.kernel.acts n.0 ≡ None → Pauses e (without_context p m) p n entry k
+      → MayEnter m.kernel p m.event entry → m.kernel.acts n.0 ≡ None → Pauses e (without_context p m) p n entry k
       → Rests w e g (entered_on f p n entry (without_context p m))
   rests-upcall w e g m p n entry k rest within fit unused pauses =
       let st = rest.standing in
@@ -288,7 +288,7 @@ module _ {U C : Type 0} (f : Calls U C) (stands : Standing U C) (keep : Keeps f 
 
   pub welcomed-upcall : (w : WorkloadView) (e g : ℕ) (m : Machine U C) (p : ProcNo) (n : ActNo) (entry : Entry C) (k : KernelState C) → Rests w e g m
       → p.0 < length m.kernel.lives
-      → IsFit m.kernel p m.event entry → m.kernel.acts n.0 ≡ None → Pauses e (without_context p m) p n entry k → upcalls m.kernel p entry ≡ true
+      → MayEnter m.kernel p m.event entry → m.kernel.acts n.0 ≡ None → Pauses e (without_context p m) p n entry k → upcalls m.kernel p entry ≡ true
       → Welcomed w e g p (kernel_entered p n entry (without_context p m))
   welcomed-upcall w e g m p n entry k rest within fit unused pauses is =
       let st = rest.standing in
@@ -325,7 +325,7 @@ module _ {U C : Type 0} (f : Calls U C) (stands : Standing U C) (keep : Keeps f 
   -- an entry fits a processor whose context is set aside, or that has none
   pub record CanEnter (e : ℕ) (m : Machine U C) (p : ProcNo) (n : ActNo) (entry : Entry C) : Type 0 where
     pub state : KernelState C
-    pub fit : IsFit m.kernel p m.event entry
+    pub fit : MayEnter m.kernel p m.event entry
     pub pauses : Pauses e (without_context p m) p n entry state
 
   interrupted-some : (w : WorkloadView) (e g : ℕ) (m : Machine U C) (p : ProcNo) (n : ActNo) (s : SpaceNo) (raised : ℕ) (held : Stopped C) → Rests w e g m

@@ -17,7 +17,7 @@ use Rattle.sa_kernel_model.specs.declared.entry.Entry.TheVariants.{Interrupt, Bl
 use Rattle.sa_kernel_model.specs.State.{owner_of, line_of, says}
 use Rattle.sa_kernel_model.specs.Closing.{closed}
 use Rattle.sa_kernel_model.specs.Entries.{entered, fetched, held_for, evicted_at}
-use Rattle.sa_kernel_model.specs.Fits.{upcalls}
+use Rattle.sa_kernel_model.specs.Entering.{upcalls}
 use Rattle.sa_core_model.specs.Machine.{Machine, scene_of, with_scene, without_context, begun, answered, told, stopped_in, stepped, gone}
 
 module _ {U C : Type 0} where

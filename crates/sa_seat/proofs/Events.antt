@@ -16,7 +16,7 @@ use Rattle.sa_kernel_model.specs.declared.entry.Entry.{Entry}
 use Rattle.sa_kernel_model.specs.declared.entry.Entry.TheVariants.{Interrupt, Block as BlockEntry, Complete, More as MoreEntry, Idle as IdleEntry, GiveBack as GiveBackEntry, InterruptOwn as InterruptOwnEntry}
 use Rattle.sa_kernel_model.specs.State.{KernelState, owner_of}
 use Rattle.sa_kernel_model.specs.Entries.{fetched}
-use Rattle.sa_kernel_model.specs.Fits.{upcalls}
+use Rattle.sa_kernel_model.specs.Entering.{upcalls}
 use Rattle.sa_core_model.specs.Machine.{Machine, scene_of, user_of, context_on, seen_on, without_context, called_by, begun, begun_by, answered, stopped_in, stepped, stepped_by, gone_by}
 use Rattle.sa_core_model.specs.Turn.{next_event, more_events, ticked, ends_slice, sliced, sliced_if, kernel_entered, told_one, told_all, welcomed_in, welcomed_if, entered_on, answered_in, hinted, blocked_by, blocked, asked, turned_owned, turned_due, turned_raised, turned, gone_in, committed}
 use Rattle.sa_seat.proofs.Lines.{Tells, tells-same, tells-more, tells-again, tells-closed, tells-entered, same-fetched}

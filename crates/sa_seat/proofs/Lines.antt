@@ -30,7 +30,7 @@ use Rattle.sa_batch.specs.Notices.{notes_told}
 use Rattle.sa_kernel_model.specs.Parts.{with_line, with_owner, without_aim, fetch_page, leave, upcall, moved, go_to_by}
 use Rattle.sa_kernel_model.specs.Closing.{wants, want_for, want_one, must_want, aims, shares, spaces, interrupt, interrupt_one, interrupt_for, must_interrupt, has_low_line, closed}
 use Rattle.sa_kernel_model.specs.Entries.{stopped, go_to_aim, interrupted, told_or_left, block_begun, blocked_by, kind_at, over_for, over, more, idled, gave_back, entered_as, entered, fetched, handed_by}
-use Rattle.sa_kernel_model.proofs.PlacedLemmas.{for_spaces-keeps}
+use Rattle.sa_kernel_model.proofs.parts.Placed.{for_spaces-keeps}
 use Rattle.sa_seat.specs.Chain.{line_item, HasLine}
 
 -- a line after a write to the lines

@@ -22,6 +22,11 @@ module _ {U C : Type 0} (f : Calls U C) (budget : ℕ) where
   abbrev pub IsChain : WorkloadView → List Move → Machine U C → Type 0
   IsChain w moves m = Leads (opening f w) moves m
 
+  -- some moves led to the machine from the opening of the workload
+  pub record IsLed (w : WorkloadView) (m : Machine U C) : Type 0 where
+    pub moves : List Move
+    pub chain : IsChain w moves m
+
 -- how many events of a processor the moves are
 abbrev pub turns_in : ℕ → Move → ℕ
 turns_in p (turn q) = if q.0 == p then 1 else 0

@@ -1,5 +1,6 @@
 -- What an entry of a seat answers.
 use Rattle.std.specs.Prelude.{◌≡◌, ◌≢◌, ℕ, zero, suc, ◌<◌, ◌≤◌, Some, None}
+use Rattle.sa_spaces.specs.Workload.{WorkloadView}
 use Rattle.sa_abstract.specs.Calls.{Calls}
 use Rattle.sa_abstract.specs.declared.answer.SeatState.{SeatState}
 use Rattle.sa_kernel_model.specs.State.{line_of}
@@ -12,6 +13,7 @@ use Rattle.sa_lines.specs.declared.credit.Credit.TheVariants.{Turns, End as EndC
 use Rattle.sa_lines.specs.Seen.{with_credit}
 use Rattle.sa_seat.specs.declared.answer.Entered.{Entered}
 use Rattle.sa_seat.specs.declared.answer.Entered.TheVariants.{Turned, DroppedLine, DroppedStart, Ended}
+use Rattle.sa_seat.specs.Chain.{IsLed}
 use Rattle.sa_seat.specs.Seat.{SeatView, renewed}
 
 -- the seat was credited something
@@ -65,6 +67,13 @@ module _ {U C : Type 0} (f : Calls U C) (budget : ℕ) where
   pub record IsEntered (m : Machine U C) (s : SeatView) (answer : Entered) (after : Machine U C) (seat : SeatView) : Type 0 where
     pub answers : IsAnswer m s answer after
     pub seat_is : seat ≡ renewed (local_on f after s.poller.proc) (credited_by answer s)
+
+  -- the same without the lock: the answer is that of one turn at a machine which the lock held
+  pub record IsOneTurn (w : WorkloadView) (s : SeatView) (answer : Entered) (seat : SeatView) : Type 0 where
+    pub before : Machine U C
+    pub led : IsLed f budget w before
+    pub after : Machine U C
+    pub entered : IsEntered before s answer after seat
 
 -- what can be said of an entry without the lock: how many events it became, or which burst was dropped
 abbrev pub Fits : SeatView → Entered → Type 0

@@ -9,6 +9,8 @@ ghost use Rattle.sa_core.specs.View.{machine};
 ghost use Rattle.sa_lines.specs.declared.credit.Credit.TheVariants.{Turns, End as EndCredit};
 ghost use Rattle.sa_lines.specs.Seen.{fresh_keeper};
 ghost use Rattle.sa_seat.specs.Seat.{IsPlace, renewed};
+ghost use Rattle.sa_seat.specs.Chain.{IsLed};
+ghost use Rattle.sa_seat.specs.Lock.{IsLocked, HasMoved};
 ghost use Rattle.sa_seat.specs.Enter.{IsEntered, IsCommitted, with_credited};
 
 use crate::answer::Entered;
@@ -65,7 +67,7 @@ impl<U: UserLevel, K: Named> Held<U, K> {
     /// The seat's burst becomes events of its processor, whole unless the budget or the slice leaves less of it, or it is
     /// dropped; where none is pending, one turn is made. Then the seat's copy is the core's context, and none is pending.
     /// The number of events and the end are told to the keeper's account and to the seat's. An error is want of memory,
-    /// and changes nothing.
+    /// comes only while the run goes on, and changes nothing.
     pub fn turn<R: Wait>(
         &mut self,
         rt: &R,
@@ -75,6 +77,7 @@ impl<U: UserLevel, K: Named> Held<U, K> {
         requires own { words.now ≡ K.table }
         ensures ok { IfOk result (λ answer. IsEntered U.calls K.budget
             (machine self.old.core) seat.old answer (machine self.new.core) seat.new) }
+        ensures goes_on { OnErr result (end_of U.calls K.budget (machine self.old.core) ≡ None) }
         ensures held_stays { OnErr result (machine self.new.core ≡ machine self.old.core) }
         ensures seat_stays { OnErr result (seat.new ≡ seat.old) }
     {
@@ -98,6 +101,13 @@ impl<U: UserLevel, K: Named> Held<U, K> {
         }
         let made = self.commit(rt, words, seat)?;
         Ok(Entered::Turned(made))
+    }
+
+    // Turns and commits led here, which the lock keeps.
+    pub(crate) fn led(&self)
+        ensures { IsLed U.calls K.budget K.workload (machine self.now.core) }
+    {
+        let _core = &self.core;
     }
 
     // How the run has ended, or none where it goes on.
@@ -162,8 +172,15 @@ impl<U: UserLevel, K: Named> Held<U, K> {
         ensures seat_stays { OnErr result (seat.new ≡ seat.old) }
     {
         self.core.turn(seat.proc())?;
-        follow(&mut self.keeper, words, &self.core, &mut self.lines);
-        seat.credit(rt, &mut self.keeper, words, Credit::Turns(1));
+        settle(
+            rt,
+            &self.core,
+            &mut self.keeper,
+            &mut self.lines,
+            words,
+            seat,
+            1,
+        );
         self.renew(seat);
         Ok(())
     }
@@ -189,9 +206,37 @@ impl<U: UserLevel, K: Named> Held<U, K> {
         ensures seat_stays { OnErr result (seat.new ≡ seat.old) }
     {
         let made = self.core.commit(seat.proc(), seat.pending())?;
-        follow(&mut self.keeper, words, &self.core, &mut self.lines);
-        seat.credit(rt, &mut self.keeper, words, Credit::Turns(u64::from(made)));
+        settle(
+            rt,
+            &self.core,
+            &mut self.keeper,
+            &mut self.lines,
+            words,
+            seat,
+            made,
+        );
         self.renew(seat);
         Ok(made)
     }
+}
+
+// After so many events of the seat's processor the lines are stored, and the events are credited.
+fn settle<U: UserLevel, K: Named, R: Wait>(
+    rt: &R,
+    core: &Core<U>,
+    keeper: &mut Keeper,
+    lines: &mut Lines,
+    words: &LineWords,
+    seat: &mut Seat<K>,
+    made: u16,
+)
+    requires own { words.now ≡ K.table }
+    requires table { keeper.old.table ≡ K.table }
+    requires moved { HasMoved U.calls K.budget K.workload K.table core.now lines.old keeper.old
+        seat.old.poller.proc made }
+    ensures locked { IsLocked U.calls K.budget K.workload K.table core.now lines.new keeper.new }
+    ensures seat { seat.new ≡ with_credited (Turns made) seat.old }
+{
+    follow(keeper, words, core, lines);
+    seat.credit(rt, keeper, words, Credit::Turns(u64::from(made)));
 }

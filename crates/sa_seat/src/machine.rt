@@ -5,7 +5,7 @@ ghost use Rattle.sa_core_model.specs.Run.{opening};
 ghost use Rattle.sa_core.specs.View.{machine};
 ghost use Rattle.sa_lines.specs.Seen.{fresh_keeper, fresh_pollers};
 ghost use Rattle.sa_seat.specs.Seat.{AreFresh, AreSeats};
-ghost use Rattle.sa_seat.specs.Enter.{HasEntered};
+ghost use Rattle.sa_seat.specs.Enter.{HasEntered, IsOneTurn};
 ghost use Rattle.sa_seat.specs.Closed.{IsClosed, AreJoined};
 
 use crate::answer::Entered;
@@ -85,13 +85,17 @@ impl<U: UserLevel, K: Named> Machine<U, K> {
         Ok((machine, seats))
     }
 
-    /// The seat enters: its burst becomes events of its processor, or one turn is made, as `Held::turn` says. Waits for the
-    /// lock. An error is want of memory, and leaves the seat as it was.
+    /// The seat enters: its burst becomes events of its processor, or one turn is made; the answer is that of one
+    /// `Held::turn`. Waits for the lock. An error is want of memory, and leaves the seat as it was.
+    #[tactic(auto, using(crate::proofs::Entries::one_turn))]
     pub fn enter<R: Wait>(&self, rt: &R, seat: &mut Seat<K>) -> Result<Entered, AllocError>
         ensures ok { IfOk result (λ answer. HasEntered seat.old answer seat.new) }
+        ensures turn { IfOk result (λ answer. IsOneTurn U.calls K.budget K.workload seat.old answer seat.new) }
         ensures err { OnErr result (seat.new ≡ seat.old) }
     {
-        self.held.lock(rt).turn(rt, &self.words, seat)
+        let mut held = self.held.lock(rt);
+        held.led();
+        held.turn(rt, &self.words, seat)
     }
 
     /// The history, when every seat is back.

@@ -1,7 +1,7 @@
 -- Sums of a function below a number.
 use Rattle.std.proofs.Common.{◌≡◌, ◌≢◌, ℕ, zero, suc, ◌+◌, ◌<◌, ◌≤◌, inl, inr, List, [], ◌∷◌, refl, sym, ap, arith}
 use Rattle.std.specs.Prelude.{sum, slice_index_or}
-use Rattle.std.proofs.lemmas.Bool.{cases_eq}
+use Rattle.std.proofs.lemmas.Bool.{cases_eq, cases_lt}
 use Rattle.std.proofs.lemmas.List.Sums.{sum_by-cons}
 
 abbrev pub below : (ℕ → ℕ) → ℕ → ℕ
@@ -60,6 +60,14 @@ below-tight f g (suc n) le all k lt =
           omega (arith, rest, here, all, x, y))
       | inr apart ↦ below-tight f g n (λ i small. le i (omega arith)) (omega (arith, rest, here, all)) k (omega (arith, apart))
     ]
+
+-- less in all is less at some place
+pub below-less : (f g : ℕ → ℕ) (n : ℕ) → below f n < below g n → (k : ℕ) × (k < n) × (f k < g k)
+below-less f g zero less = absurd (omega (arith, less))
+below-less f g (suc n) less = elim (cases_lt (f n) (g n)) [
+  | inl here ↦ (n, omega arith, here)
+  | inr over ↦ (let rest = below-less f g n (omega (arith, less, over)) in (rest.0, (let lt = rest.1 in omega (arith, lt)), rest.2))
+]
 
 -- the sum of a list, of which nothing comes after some place
 below-front : (f : ℕ → ℕ) (n : ℕ) → below f (suc n) ≡ f 0 + below (λ k. f (suc k)) n

@@ -1,5 +1,5 @@
 -- The events of a run are those of its processors together, and none has more than its quota.
-use Rattle.std.proofs.Common.{◌≡◌, ℕ, zero, suc, ◌+◌, ◌<◌, ◌≤◌, ◌==◌, if◌then◌else◌, Bool, true, false, Some, None, List, [], ◌∷◌, length, slice_get, refl, sym, ap, ◌∙◌, arith}
+use Rattle.std.proofs.Common.{◌≡◌, ◌≢◌, ℕ, zero, suc, ◌+◌, ◌<◌, ◌≤◌, ◌==◌, if◌then◌else◌, Bool, true, false, Some, None, List, [], ◌∷◌, length, slice_get, refl, sym, ap, ◌∙◌, arith}
 use Rattle.std.specs.Prelude.{sum}
 use Rattle.std.proofs.lemmas.Bool.Decides.{nat_tests}
 use Rattle.sa_base.specs.declared.record.End.TheVariants.{AllDone, Stuck, Budget}
@@ -19,7 +19,7 @@ use Rattle.sa_seat.specs.Closed.{ClosedView, IsClosed}
 use Rattle.sa_seat.proofs.Chains.{size, moves-by}
 use Rattle.sa_workers.specs.Quota.{quota_of}
 use Rattle.sa_workers.specs.Run.{turns_at, HasRun}
-use Rattle.sa_workers.proofs.Sums.{below, below-more, below-same, below-none, below-one, below-le, below-tight, sum-below}
+use Rattle.sa_workers.proofs.Sums.{below, below-more, below-same, below-none, below-one, below-le, below-tight, below-less, sum-below}
 use Rattle.sa_workers.proofs.Rounds.{quotas-add}
 
 abbrev proc_of : Move → ℕ
@@ -44,6 +44,13 @@ budget-spent true b c e = absurd (let z : AllDone ≡ Budget = cc in cc)
 budget-spent false true c e = absurd (let z : Stuck ≡ Budget = cc in cc)
 budget-spent false false true e = refl
 budget-spent false false false e = absurd cc
+
+-- where a run goes on, the budget is not spent
+goes-on : (a b c : Bool) → (if a then Some AllDone else if b then Some Stuck else if c then Some Budget else None) ≡ None → c ≡ true → ⊥
+goes-on true b c e is = absurd cc
+goes-on false true c e is = absurd cc
+goes-on false false true e is = absurd cc
+goes-on false false false e is = absurd cc
 
 module _ {U C : Type 0} (f : Calls U C) (stands : Standing U C) (keep : Keeps f stands) where
   move-within : (m after : Machine U C) (move : Move) → IsBetween stands m → IsMove f m move after → proc_of move < m.workload.processors
@@ -97,6 +104,11 @@ module _ {U C : Type 0} (f : Calls U C) (stands : Standing U C) (keep : Keeps f 
             let spent = budget-spent (all_done f is.machine) (is_stuck f is.machine) (is.machine.event == budget) (sym is.end ∙ end) in
             let same : is.machine.event ≡ budget = grind (arith, nat_tests, spent) in
             below-tight (turns_at closed) quota w.processors few (omega (arith, turns, events, all, same));
+        left = λ none.
+            let short : is.machine.event ≢ budget = λ same.
+            goes-on (all_done f is.machine) (is_stuck f is.machine) (is.machine.event == budget) (sym is.end ∙ none) (grind (arith, nat_tests, same)) in
+            let at = below-less (turns_at closed) quota w.processors (omega (arith, turns, events, most, all, short)) in
+            record { p = at.0; processor = at.1; fewer = at.2 };
       }
     where
       seat-at : (xs : List SeatView) (i : ℕ) → i < length xs → (s : SeatView) × (slice_get xs i ≡ Some s)

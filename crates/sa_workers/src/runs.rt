@@ -96,7 +96,7 @@ fn drive<U: UserLevel, K: Named + Send + Sync, R: Threads + Wait + Sync, G: Gate
     requires few_burst { limits.burst ≤ MAX_BURST }
     ensures { (i : ℕ) (d : SeatView) → i < length seats.old →
         let old = slice_index_or seats.old i d in
-        HasWorked (quota_of processors old.poller.proc.0 limits.budget) old (slice_index_or seats.new i d) }
+        HasWorked K.workload (quota_of processors old.poller.proc.0 limits.budget) limits.burst old (slice_index_or seats.new i d) }
 {
     thread::for_each_mut(
         rt,
@@ -120,7 +120,7 @@ fn serve<U: UserLevel, K: Named, R: Wait, G: Gate>(
     requires processors { processors ≡ K.workload.processors }
     requires some_burst { 1 ≤ limits.burst }
     requires few_burst { limits.burst ≤ MAX_BURST }
-    ensures { HasWorked (quota_of processors seat.old.poller.proc.0 limits.budget) seat.old seat.new }
+    ensures { HasWorked K.workload (quota_of processors seat.old.poller.proc.0 limits.budget) limits.burst seat.old seat.new }
 {
     let quota = quota(limits.budget, processors, seat.proc());
     let _ = work(rt, machine, seat, quota, limits.burst, gate);

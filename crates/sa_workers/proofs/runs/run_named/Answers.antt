@@ -12,7 +12,7 @@ close-requires-after_bounds g c κs within =
     let is : (machine c.args.core).workload ≡ w = ap (λ (m : Machine g.row.U.Denot g.row.U-Ctx.Denot). m.workload) c.requires.core in
     let n : c.processors-processors.result ≡ w.processors =
     c.processors-processors.ensures.value ∙ ap (λ (v : WorkloadView). v.processors) (c.workload.ensures ∙ is) in
-    (worked-back g.K.Named.table w.processors c.processors-processors.result g.K.Named.budget c.args.limits.budget c.in_ok-machine.seats.len
+    (worked-back w g.K.Named.table w.processors c.processors-processors.result g.K.Named.budget c.args.limits.budget c.args.limits.burst c.in_ok-machine.seats.len
     c.in_ok-machine.seats.items c.as_mut_slice.result.now c.drive.new.seats
     c.in_ok-machine.ensures c.as_mut_slice.ensures.value c.in_ok-machine.seats.ok.0 c.drive.auto.seats n c.requires.limits c.drive.ensures).are
 
@@ -25,7 +25,7 @@ returns g c =
     c.processors-processors.ensures.value ∙ ap (λ (v : WorkloadView). v.processors) (c.workload.ensures ∙ is) in
     let ok : IsWorkload w = subst (λ (v : WorkloadView). IsWorkload v) (c.workload-2.ensures ∙ is) c.ranges-2.ensures in
     let worked =
-    worked-back g.K.Named.table w.processors c.processors-processors.result g.K.Named.budget c.args.limits.budget c.in_ok-machine.seats.len
+    worked-back w g.K.Named.table w.processors c.processors-processors.result g.K.Named.budget c.args.limits.budget c.args.limits.burst c.in_ok-machine.seats.len
     c.in_ok-machine.seats.items c.as_mut_slice.result.now c.drive.new.seats
     c.in_ok-machine.ensures c.as_mut_slice.ensures.value c.in_ok-machine.seats.ok.0 c.drive.auto.seats n c.requires.limits c.drive.ensures in
     has-run g.U.UserLevel.calls g.U.UserLevel.stands keep w g.K.Named.budget _ c.close.result ok worked.are worked.within c.close.ensures

@@ -4,7 +4,7 @@ use Rattle.sa_workers.proofs.worker.work.Given as goal
 
 abbrev pub invariant-loop-seat : goal.invariant-loop-seat
 invariant-loop-seat g l = record {
-  worked : HasWorked l.quota l.fn.seat l.seat;
+  worked : HasWorked g.K.Named.workload l.quota l.burst l.fn.seat l.seat;
   entered : l.ahead ≡ false → l.seat.pending ≡ 0;
 }
 

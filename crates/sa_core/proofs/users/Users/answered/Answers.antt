@@ -1,5 +1,5 @@
-use Rattle.std.proofs.Common.{ap, ◌∙◌, arith}
-use Rattle.sa_core.proofs.CountLemmas.{counted-few, user-is, set-by}
+use Rattle.std.proofs.Common.{ap, ◌∙◌, arith, ℕ, ◌<◌, List, length}
+use Rattle.sa_core.proofs.CountLemmas.{counted-few, counted-left, counted-work, counted-set, user-is, set-by}
 use Rattle.sa_core.proofs.users.Users.answered.Goals as goal
 
 pub after-self-inside-requires-clause-few : goal.after-self-inside-requires-clause-few
@@ -22,3 +22,25 @@ returns-clause-ctx g c = λ u at.
     c.index_mut-level.ensures.value c.requires.within at in
     ap (λ (z : g.row.U.Denot × g.row.U-Ctx.Denot). z.1) c.answered.ensures
     ∙ ap (λ (w : g.row.U.Denot). (g.U.UserLevel.calls.answered w c.args.seen.now c.args.ctx.now).1) is
+
+pub after-self-inside-requires-clause-unfinished : goal.after-self-inside-requires-clause-unfinished
+after-self-inside-requires-clause-unfinished g c =
+    let len = ap (λ (zs : List g.row.U.Denot). length zs) c.self.view_is in
+    let within : c.from.result < length c.self.inside.levels.items = omega (arith, len, c.from.ensures, c.requires.within) in
+    counted-left g.U.UserLevel.calls c.self.inside.levels.items c.from.result c.self.inside.counts.unfinished c.self.inside.counts.active c.index_mut-level.result.now c.tally-was.result
+    c.self.invariant within c.index_mut-level.ensures.value c.tally-was.ensures
+
+pub after-self-inside-requires-clause-active : goal.after-self-inside-requires-clause-active
+after-self-inside-requires-clause-active g c =
+    let len = ap (λ (zs : List g.row.U.Denot). length zs) c.self.view_is in
+    let within : c.from.result < length c.self.inside.levels.items = omega (arith, len, c.from.ensures, c.requires.within) in
+    counted-work g.U.UserLevel.calls c.self.inside.levels.items c.from.result c.self.inside.counts.unfinished c.self.inside.counts.active c.index_mut-level.result.now c.tally-was.result
+    c.self.invariant within c.index_mut-level.ensures.value c.tally-was.ensures
+
+pub invariant_of-self : goal.invariant_of-self
+invariant_of-self g c =
+    let len = ap (λ (zs : List g.row.U.Denot). length zs) c.self.view_is in
+    let within : c.from.result < length c.self.inside.levels.items = omega (arith, len, c.from.ensures, c.requires.within) in
+    counted-set g.U.UserLevel.calls c.self.inside.levels.items c.from.result c.self.inside.counts.unfinished c.self.inside.counts.active c.index_mut-level.result.now c.answered.new.self
+    c.tally-was.result c.tally-is.result c.after-self-inside.result.unfinished c.after-self-inside.result.active
+    c.self.invariant within c.index_mut-level.ensures.value c.tally-was.ensures c.tally-is.ensures c.after-self-inside.ensures.unfinished c.after-self-inside.ensures.active

@@ -1,6 +1,6 @@
-use Rattle.std.proofs.Common.{◌+◌, ◌++◌, length, sym, ap, ◌∙◌, arith}
+use Rattle.std.proofs.Common.{◌+◌, ◌++◌, length, sym, ap, ◌∙◌, arith, ℕ, ◌<◌, List}
 use Rattle.sa_base.specs.Items.{items_at}
-use Rattle.sa_core.proofs.CountLemmas.{counted-few, user-is, set-by}
+use Rattle.sa_core.proofs.CountLemmas.{counted-few, counted-left, counted-work, counted-set, user-is, set-by}
 use Rattle.sa_core.proofs.users.Users.step.Goals as goal
 
 pub after-self-inside-requires-clause-few : goal.after-self-inside-requires-clause-few
@@ -43,3 +43,25 @@ returns-clause-spare g c = λ u at.
     c.index_mut-level.ensures.value c.requires.within at in
     ap (λ (w : g.row.U.Denot). c.step-asked.new.trace.spare + length (g.U.UserLevel.calls.stepped w c.args.seen.now c.args.ctx.now).says) (sym is)
     ∙ c.step-asked.ensures.spare
+
+pub after-self-inside-requires-clause-unfinished : goal.after-self-inside-requires-clause-unfinished
+after-self-inside-requires-clause-unfinished g c =
+    let len = ap (λ (zs : List g.row.U.Denot). length zs) c.self.view_is in
+    let within : c.from.result < length c.self.inside.levels.items = omega (arith, len, c.from.ensures, c.requires.within) in
+    counted-left g.U.UserLevel.calls c.self.inside.levels.items c.from.result c.self.inside.counts.unfinished c.self.inside.counts.active c.index_mut-level.result.now c.tally-was.result
+    c.self.invariant within c.index_mut-level.ensures.value c.tally-was.ensures
+
+pub after-self-inside-requires-clause-active : goal.after-self-inside-requires-clause-active
+after-self-inside-requires-clause-active g c =
+    let len = ap (λ (zs : List g.row.U.Denot). length zs) c.self.view_is in
+    let within : c.from.result < length c.self.inside.levels.items = omega (arith, len, c.from.ensures, c.requires.within) in
+    counted-work g.U.UserLevel.calls c.self.inside.levels.items c.from.result c.self.inside.counts.unfinished c.self.inside.counts.active c.index_mut-level.result.now c.tally-was.result
+    c.self.invariant within c.index_mut-level.ensures.value c.tally-was.ensures
+
+pub invariant_of-self : goal.invariant_of-self
+invariant_of-self g c =
+    let len = ap (λ (zs : List g.row.U.Denot). length zs) c.self.view_is in
+    let within : c.from.result < length c.self.inside.levels.items = omega (arith, len, c.from.ensures, c.requires.within) in
+    counted-set g.U.UserLevel.calls c.self.inside.levels.items c.from.result c.self.inside.counts.unfinished c.self.inside.counts.active c.index_mut-level.result.now c.step-asked.new.self
+    c.tally-was.result c.tally-is.result c.after-self-inside.result.unfinished c.after-self-inside.result.active
+    c.self.invariant within c.index_mut-level.ensures.value c.tally-was.ensures c.tally-is.ensures c.after-self-inside.ensures.unfinished c.after-self-inside.ensures.active

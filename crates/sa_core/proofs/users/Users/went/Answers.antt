@@ -1,6 +1,6 @@
-use Rattle.std.proofs.Common.{◌++◌, ap, ◌∙◌, arith}
+use Rattle.std.proofs.Common.{◌++◌, ap, ◌∙◌, arith, ℕ, ◌<◌, List, length}
 use Rattle.sa_base.specs.Items.{items_from}
-use Rattle.sa_core.proofs.CountLemmas.{counted-few, user-is, set-by}
+use Rattle.sa_core.proofs.CountLemmas.{counted-few, counted-left, counted-work, counted-set, user-is, set-by}
 use Rattle.sa_core.proofs.users.Users.went.Goals as goal
 
 pub after-self-inside-requires-clause-few : goal.after-self-inside-requires-clause-few
@@ -29,3 +29,25 @@ returns-clause-items g c = λ u at.
     c.index_mut-level.ensures.value c.requires.within at in
     c.went.ensures.items ∙ ap (λ (w : g.row.U.Denot). c.args.trace.now.items ++ items_from c.args.seen.now.event c.args.seen.now.proc
     (g.U.UserLevel.calls.went w c.args.seen.now c.args.ctx.now c.args.n).says) is
+
+pub after-self-inside-requires-clause-unfinished : goal.after-self-inside-requires-clause-unfinished
+after-self-inside-requires-clause-unfinished g c =
+    let len = ap (λ (zs : List g.row.U.Denot). length zs) c.self.view_is in
+    let within : c.from.result < length c.self.inside.levels.items = omega (arith, len, c.from.ensures, c.requires.within) in
+    counted-left g.U.UserLevel.calls c.self.inside.levels.items c.from.result c.self.inside.counts.unfinished c.self.inside.counts.active c.index_mut-level.result.now c.tally-was.result
+    c.self.invariant within c.index_mut-level.ensures.value c.tally-was.ensures
+
+pub after-self-inside-requires-clause-active : goal.after-self-inside-requires-clause-active
+after-self-inside-requires-clause-active g c =
+    let len = ap (λ (zs : List g.row.U.Denot). length zs) c.self.view_is in
+    let within : c.from.result < length c.self.inside.levels.items = omega (arith, len, c.from.ensures, c.requires.within) in
+    counted-work g.U.UserLevel.calls c.self.inside.levels.items c.from.result c.self.inside.counts.unfinished c.self.inside.counts.active c.index_mut-level.result.now c.tally-was.result
+    c.self.invariant within c.index_mut-level.ensures.value c.tally-was.ensures
+
+pub invariant_of-self : goal.invariant_of-self
+invariant_of-self g c =
+    let len = ap (λ (zs : List g.row.U.Denot). length zs) c.self.view_is in
+    let within : c.from.result < length c.self.inside.levels.items = omega (arith, len, c.from.ensures, c.requires.within) in
+    counted-set g.U.UserLevel.calls c.self.inside.levels.items c.from.result c.self.inside.counts.unfinished c.self.inside.counts.active c.index_mut-level.result.now c.went.new.self
+    c.tally-was.result c.tally-is.result c.after-self-inside.result.unfinished c.after-self-inside.result.active
+    c.self.invariant within c.index_mut-level.ensures.value c.tally-was.ensures c.tally-is.ensures c.after-self-inside.ensures.unfinished c.after-self-inside.ensures.active

@@ -5,10 +5,9 @@ use Rattle.sa_core_model.specs.End.{end_of}
 use Rattle.sa_core_model.specs.Run.{IsTurn}
 use Rattle.sa_core_model.specs.Run.Move.{turn}
 use Rattle.sa_core.specs.View.{machine}
-use Rattle.sa_lines.specs.Seen.{KeeperSeen}
-use Rattle.sa_seat.specs.Lock.{HeldView, IsLocked}
+use Rattle.sa_seat.specs.Lock.{HeldView}
 use Rattle.sa_seat.proofs.Chains.{reached}
-use Rattle.sa_seat.proofs.Locks.{turns-here, turns-else, turn-done, may-follow, may-count, locked-after}
+use Rattle.sa_seat.proofs.Locks.{turns-here, turns-else, turn-done}
 use Rattle.sa_seat.proofs.held.Held.turn_once.Goals as goal
 
 pub turn-requires-clause-within : goal.turn-requires-clause-within
@@ -20,8 +19,8 @@ turn-requires-clause-within g c κs within =
     let lt = c.proc.ensures.within in
     omega (arith, e, lt)
 
-pub follow-requires-clause-follow : goal.follow-requires-clause-follow
-follow-requires-clause-follow g c κs within =
+pub settle-requires-clause-moved : goal.settle-requires-clause-moved
+settle-requires-clause-moved g c κs within =
     let keep = (g.met.U.UserLevel g.world.𝓛 g.world.𝓜 g.world.𝓡 ((λ s x. x), (λ x. x), (λ x. x), λ x. x)).keeps in
     let f = g.U.UserLevel.calls in
     let w = g.K.Named.workload in
@@ -36,45 +35,15 @@ follow-requires-clause-follow g c κs within =
     subst (λ (q : ProcNo). IsTurn f (machine h.core) q (machine c.turn.new.self)) c.proc.ensures.proc c.in_ok-turn.ensures.ok in
     let done = turn-done f g.U.UserLevel.stands keep w table b h.core c.turn.new.self h.lines h.keeper p c.self.invariant none lt is
     c.in_ok-turn.ensures.event in
-    may-follow f g.U.UserLevel.stands keep w table b h.core c.turn.new.self h.lines h.keeper c.self.invariant none (turn p) done.made done.within
-
-pub credit-requires-clause-what : goal.credit-requires-clause-what
-credit-requires-clause-what g c = λ inside.
-    let keep = (g.met.U.UserLevel g.world.𝓛 g.world.𝓜 g.world.𝓡 ((λ s x. x), (λ x. x), (λ x. x), λ x. x)).keeps in
-    let f = g.U.UserLevel.calls in
-    let w = g.K.Named.workload in
-    let table = g.K.Named.table in
-    let b = g.K.Named.budget in
-    let h = c.self.inside in
-    let p = c.args.seat.now.poller.proc in
-    let none : end_of f b (machine h.core) ≡ None =
-    ap (λ (v : HeldView g.row.U.Denot g.row.U-Ctx.Denot). end_of f b (machine v.core)) c.self.view_is ∙ c.requires.goes_on in
-    let lt : p.0 < w.processors = subst (λ (q : ProcNo). q.0 < w.processors) c.proc.ensures.proc c.proc.ensures.within in
-    let is : IsTurn f (machine h.core) p (machine c.turn.new.self) =
-    subst (λ (q : ProcNo). IsTurn f (machine h.core) q (machine c.turn.new.self)) c.proc.ensures.proc c.in_ok-turn.ensures.ok in
-    let done = turn-done f g.U.UserLevel.stands keep w table b h.core c.turn.new.self h.lines h.keeper p c.self.invariant none lt is
-    c.in_ok-turn.ensures.event in
-    may-count f g.U.UserLevel.stands keep w table b h.core c.turn.new.self h.lines h.keeper c.self.invariant none
-    (turn p) done.made done.within c.follow.new.keeper c.follow.new.lines c.follow.ensures p 1 lt
-    (turns-here p 1) (omega arith)
-
-pub invariant_of-self-2 : goal.invariant_of-self-2
-invariant_of-self-2 g c =
-    let keep = (g.met.U.UserLevel g.world.𝓛 g.world.𝓜 g.world.𝓡 ((λ s x. x), (λ x. x), (λ x. x), λ x. x)).keeps in
-    let f = g.U.UserLevel.calls in
-    let w = g.K.Named.workload in
-    let table = g.K.Named.table in
-    let b = g.K.Named.budget in
-    let h = c.self.inside in
-    let p = c.args.seat.now.poller.proc in
-    let none : end_of f b (machine h.core) ≡ None =
-    ap (λ (v : HeldView g.row.U.Denot g.row.U-Ctx.Denot). end_of f b (machine v.core)) c.self.view_is ∙ c.requires.goes_on in
-    let lt : p.0 < w.processors = subst (λ (q : ProcNo). q.0 < w.processors) c.proc.ensures.proc c.proc.ensures.within in
-    let is : IsTurn f (machine h.core) p (machine c.turn.new.self) =
-    subst (λ (q : ProcNo). IsTurn f (machine h.core) q (machine c.turn.new.self)) c.proc.ensures.proc c.in_ok-turn.ensures.ok in
-    let done = turn-done f g.U.UserLevel.stands keep w table b h.core c.turn.new.self h.lines h.keeper p c.self.invariant none lt is
-    c.in_ok-turn.ensures.event in
-    subst (λ (k : KeeperSeen). IsLocked f b w table c.turn.new.self c.follow.new.lines k) (sym c.credit.ensures.keeper)
-    (locked-after f g.U.UserLevel.stands keep w table b h.core c.turn.new.self h.lines h.keeper c.self.invariant none
-    (turn p) done.made done.within c.follow.new.keeper c.follow.new.lines c.follow.ensures p 1 lt
-    (turns-here p 1) (λ q apart. turns-else p q 1 apart) c.in_ok-turn.ensures.budget)
+    record {
+      before = h.core;
+      locked = c.self.invariant;
+      goes_on = none;
+      move = turn p;
+      made = done.made;
+      within = done.within;
+      budget_same = c.in_ok-turn.ensures.budget;
+      some = omega arith;
+      here = turns-here p 1;
+      elsewhere = λ q apart. turns-else p q 1 apart;
+    }
