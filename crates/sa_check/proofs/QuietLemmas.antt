@@ -34,7 +34,7 @@ use Rattle.sa_laws.specs.Shape.{is_no_aim, is_no_want, is_other_line, aims_in, w
 use Rattle.sa_laws.specs.Closing.{claims_of, spaces_of, must_want, want_one, wants_due, first_space, shares_at, aims_due}
 use Rattle.sa_laws.specs.Upcalls.{RecordLaw, EachRecord, TellsOnce, NamesTheLife, TellsAllThen, GivesUpcallThen, RaisesLine, IsPrompt}
 use Rattle.sa_laws.proofs.Records.{number-kept}
-use Rattle.sa_legal.proofs.FirstLemmas.{holds-each}
+use Rattle.sa_histories.proofs.FirstBreaks.{holds-each}
 use Rattle.sa_check.specs.Quiet.{is_quiet_record, keeps_first, is_quiet, IsSettled, WasSettled}
 
 -- what holds of each quiet kind holds of each quiet record

@@ -1,7 +1,7 @@
 -- The records of an event, read one by one.
 use Rattle.std.proofs.Common.{◌≡◌, ◌↔◌, ℕ, ◌+◌, ◌-◌, ◌<◌, ◌≤◌, sym, ◌∙◌, ap, subst, arith, List, [], ◌∷◌, length, length-drop, take, drop, get_or, Bool, true}
 use Rattle.std.proofs.lemmas.List.{take_more, take_all, length-take}
-use Rattle.sa_legal.proofs.AppendLemmas.{records-append}
+use Rattle.sa_histories.proofs.Appended.{records-append}
 use Rattle.std.specs.Prelude.{IsTrue}
 use Rattle.sa_base.specs.declared.record.Record.{Record}
 use Rattle.sa_base.specs.declared.record.Record.TheVariants.{Ins}

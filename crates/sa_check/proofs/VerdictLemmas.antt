@@ -6,7 +6,7 @@ use Rattle.sa_laws.specs.Ends.{LastLine}
 use Rattle.sa_laws.specs.declared.rule.Rule.{Rule}
 use Rattle.sa_laws.specs.Rules.{fast_threads}
 use Rattle.sa_laws.specs.Legal.{IsRight, FirstBreak}
-use Rattle.sa_legal.proofs.FirstLemmas.{breaks-once, right-or-broken}
+use Rattle.sa_histories.proofs.FirstBreaks.{breaks-once, right-or-broken}
 use Rattle.sa_check.specs.declared.verdict.Verdict.{Verdict}
 use Rattle.sa_check.specs.declared.verdict.Verdict.TheVariants.{Legal, Broken}
 use Rattle.sa_check.specs.Verdict.{IsVerdict}

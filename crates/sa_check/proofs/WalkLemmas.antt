@@ -16,7 +16,7 @@ use Rattle.sa_laws.specs.Ends.{LastLine}
 use Rattle.sa_laws.specs.Rules.{fast_threads, HoldEach, Breaks, rules}
 use Rattle.sa_laws.specs.Legal.{before, line_at, HoldsBefore, BreaksAt, FirstBreakIn}
 use Rattle.sa_check_moment.specs.Seen.{Seen}
-use Rattle.sa_legal.proofs.AppendLemmas.{events-append}
+use Rattle.sa_histories.proofs.Appended.{events-append}
 use Rattle.sa_check.specs.declared.verdict.Verdict.{Verdict}
 use Rattle.sa_check.specs.declared.verdict.Verdict.TheVariants.{Legal, Broken}
 use Rattle.sa_check.specs.Sides.{line_before}

@@ -8,7 +8,7 @@ ghost use Rattle.sa_check.specs.Sides.{IsEnding, line_told};
 use sa_base::End;
 use sa_check_closing::{covers_shares, is_told_in_time, wants_nothing};
 use sa_check_moment::Moment;
-use sa_check_rules::{goes_on, is_told_end, runs_where_owned};
+use sa_check_rules::{each_runs_for_its_owner, is_told_end, run_goes_on};
 
 /// What the last line of a trace tells: how the run ended, and its number of events.
 #[derive(Clone, Copy, Debug)]
@@ -40,7 +40,7 @@ pub(crate) fn look_after(
 {
     Ending {
         told_in_time: quiet || is_told_in_time(moment),
-        owned: quiet || runs_where_owned(moment),
+        owned: quiet || each_runs_for_its_owner(moment),
         wants: quiet || wants_nothing(moment),
         shares: quiet || covers_shares(moment, number),
         end_told: end_is_told(moment, number, last),
@@ -52,7 +52,7 @@ fn end_is_told(moment: &Moment, number: u64, last: Option<LastTold>) -> bool
     ensures { IsTrue result ↔ EndIsTold (seen moment.now).readings number (line_told last) }
 {
     match last {
-        None => goes_on(moment),
+        None => run_goes_on(moment),
         Some(told) => told.events == number && is_told_end(moment, told.end),
     }
 }

@@ -1,6 +1,5 @@
 -- Changes of aims that are made one after another.
-use Rattle.std.proofs.Common.{◌≡◌, ℕ, suc, ◌+◌, ◌-◌, ◌<◌, List, [], ◌∷◌, ◌++◌, Bool, Option, Some, None, sym, ap, ◌∙◌, append_assoc, arith}
-use Rattle.std.proofs.lemmas.List.{append-nil}
+use Rattle.std.proofs.Common.{◌≡◌, ℕ, suc, ◌+◌, ◌-◌, ◌<◌, List, [], ◌∷◌, ◌++◌, Bool, Option, Some, sym, ap, ◌∙◌, append_assoc, arith}
 use Rattle.sa_base.specs.declared.number.SpaceNo.{SpaceNo}
 use Rattle.sa_assign.specs.Aims.{Change, aims_after, changes_for, change_to, choice, changes_from, missing}
 use Rattle.sa_assign.proofs.ReaimLemmas.{aims_after-append}
@@ -15,11 +14,7 @@ carried-append xs ys x =
     let cs = sym (append_assoc x.1 xs ys) in
     λ i. (aims i, cs i)
 
--- nothing more is made
-pub carried-none : (x : Made) → carried [] x ≡ x
-carried-none x = let cs = append-nil x.1 in λ i. (x.0, cs i)
-
--- one change for a space, where a processor was chosen; and where none was
+-- one change for a space, where a processor was chosen
 pub filled-some : (missing i : ℕ) (shares : List ℕ) (marks : List Bool) (s p : ℕ) (x y : Made) → i < missing → choice shares marks x.0 ≡ Some p
     → y ≡ carried (record { proc = p; space = s } ∷ []) x
     → carried (changes_for (missing - (i + 1)) shares marks s y.0) y ≡ carried (changes_for (missing - i) shares marks s x.0) x
@@ -30,15 +25,6 @@ filled-some missing i shares marks s p x y within chosen is =
     let after = carried (c ∷ []) x in
     ap (λ (z : Made). carried (changes_for left shares marks s z.0) z) is
     ∙ sym (carried-append (c ∷ []) (changes_for left shares marks s after.0) x)
-    ∙ sym (ap (λ q. carried (change_to s x.0 q (changes_for left shares marks s)) x) chosen)
-    ∙ ap (λ k. carried (changes_for k shares marks s x.0) x) one_less
-
-pub filled-none : (missing i : ℕ) (shares : List ℕ) (marks : List Bool) (s : ℕ) (x : Made) → i < missing → choice shares marks x.0 ≡ None
-    → x ≡ carried (changes_for (missing - i) shares marks s x.0) x
-filled-none missing i shares marks s x within chosen =
-    let left = missing - (i + 1) in
-    let one_less : suc left ≡ missing - i = omega arith in
-    sym (carried-none x)
     ∙ sym (ap (λ q. carried (change_to s x.0 q (changes_for left shares marks s)) x) chosen)
     ∙ ap (λ k. carried (changes_for k shares marks s x.0) x) one_less
 

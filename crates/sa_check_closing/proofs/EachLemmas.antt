@@ -1,5 +1,5 @@
 -- What is due of each space in turn.
-use Rattle.std.proofs.Common.{◌≡◌, ℕ, suc, ◌+◌, ◌-◌, ◌<◌, ◌≤◌, List, [], ◌∷◌, ◌++◌, Bool, true, false, cond, Option, Some, None, map, refl, sym, ap, ◌∙◌, append_assoc, arith}
+use Rattle.std.proofs.Common.{◌≡◌, ℕ, suc, ◌+◌, ◌-◌, ◌<◌, List, [], ◌∷◌, ◌++◌, Bool, true, false, cond, Option, Some, None, map, refl, sym, ap, ◌∙◌, append_assoc, arith}
 use Rattle.std.specs.Prelude.{filter, filter_map}
 use Rattle.std.specs.List.{range_with_len, cons_option}
 use Rattle.std.specs.Option.{option_to_list}
@@ -50,11 +50,3 @@ module _ {Y : Type 0} where
       append_assoc before (y ∷ []) (map g (from (s + 1) n))
       ∙ ap (λ z. before ++ z ∷ map g (from (s + 1) n)) is
       ∙ sym (ap (λ xs. before ++ map g xs) (from-more s n within))
-
-  -- nothing is left
-  pub all-mapped : (g : SpaceNo → Y) (s n : ℕ) (before : List Y) → n ≤ s → before ++ map g (from s n) ≡ before
-  all-mapped g s n before past = let none : n - s ≡ 0 = omega arith in ap (λ k. before ++ map g (map space_no (range_with_len s k))) none ∙ append-nil before
-
-  pub all-given : (f : SpaceNo → Option Y) (s n : ℕ) (before : List Y) → n ≤ s → before ++ filter_map f (from s n) ≡ before
-  all-given f s n before past =
-      let none : n - s ≡ 0 = omega arith in ap (λ k. before ++ filter_map f (map space_no (range_with_len s k))) none ∙ append-nil before

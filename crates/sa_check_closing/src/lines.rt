@@ -1,9 +1,7 @@
 // The lines that are due.
 ghost use Rattle.std.specs.Prelude.{◌≡◌, ◌↔◌, not, is_none, IfOk, IsTrue};
-ghost use Rattle.std.specs.Option.{option_map};
 ghost use Rattle.sa_assign.specs.Aims.{is_aim, least_below};
-ghost use Rattle.sa_assign.specs.Reaim.{proc_no};
-ghost use Rattle.sa_laws.specs.Closing.{will_tell, can_be_raised, must_interrupt, has_untold, line_due, lines_due};
+ghost use Rattle.sa_laws.specs.Closing.{will_tell, can_be_raised, must_interrupt, lines_due};
 ghost use Rattle.sa_laws.specs.Shape.{lines_in};
 ghost use Rattle.sa_check_moment.specs.Seen.{seen};
 ghost use Rattle.sa_check_closing.specs.Each.{line_for};

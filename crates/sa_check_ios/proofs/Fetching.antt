@@ -1,9 +1,9 @@
 -- Which upcall pages are being fetched, as I/Os begin and end.
-use Rattle.std.proofs.Common.{◌≡◌, ◌≢◌, ℕ, Bool, true, false, eqb, List, [], ◌∷◌, ◌++◌, refl, sym, ap, ◌∙◌, arith, ◌||◌, inl, inr, slice_index_or, slice_set}
+use Rattle.std.proofs.Common.{◌≡◌, ◌≢◌, ℕ, Bool, true, false, List, [], ◌∷◌, refl, sym, ap, ◌∙◌, arith, ◌||◌, inl, inr, slice_index_or, slice_set}
 use Rattle.std.specs.Prelude.{filter, not}
 use Rattle.std.specs.List.{list_any}
 use Rattle.std.proofs.lemmas.List.{length-set, get_or-set_same, get_or-set_other}
-use Rattle.std.proofs.lemmas.Bool.{cases_Bool, cases_eq, cond-true, cond-false, ne_eqb, eq-eqb}
+use Rattle.std.proofs.lemmas.Bool.{cases_Bool, cases_eq, cond-true, cond-false}
 use Rattle.std.proofs.lemmas.Bool.Decides.{nat_tests}
 use Rattle.sa_base.specs.declared.number.SpaceNo.{SpaceNo}
 use Rattle.sa_base.specs.declared.number.ActNo.{ActNo}
@@ -29,21 +29,6 @@ list_any-gone p q (x ∷ xs) out = elim (cases_Bool (q x)) [
       ap (list_any p) (cond-true (q x) (x ∷ filter q xs) (filter q xs) so) ∙ ap (λ b. b || list_any p (filter q xs)) (out x so) ∙ list_any-gone p q xs out
   | inr other ↦ ap (list_any p) (cond-false (q x) (x ∷ filter q xs) (filter q xs) other) ∙ list_any-gone p q xs out
 ]
-
-or-false : (b : Bool) → b || false ≡ b
-or-false true = refl
-or-false false = refl
-
-or-true : (b : Bool) → b || true ≡ true
-or-true true = refl
-or-true false = refl
-
-pub fetches-push : (s : ℕ) (ios : List Io) (io : Io) → list_any (fetches s) (ios ++ io ∷ []) ≡ list_any (fetches s) ios || fetches s io
-fetches-push s [] io = or-false (fetches s io)
-fetches-push s (x ∷ xs) io = ap (λ b. fetches s x || b) (fetches-push s xs io) ∙ step (fetches s x) where
-  step : (b : Bool) → b || (list_any (fetches s) xs || fetches s io) ≡ (b || list_any (fetches s) xs) || fetches s io
-  step true = refl
-  step false = refl
 
 -- no I/O of a life is a fetch
 pub fetches-life : (s : ℕ) (a : ActNo) (ios : List Io) → list_any (fetches s) (filter (is_io_of_other a) ios) ≡ list_any (fetches s) ios
@@ -79,30 +64,5 @@ AreFetching-over fetching ios s are = record {
             ap (λ n. slice_index_or (slice_set fetching s.0 false) n false) same ∙ get_or-set_same fetching s.0 false false (omega arith)
             ∙ sym (ap (λ n. list_any (fetches n) (filter (fetches_other s) ios)) same ∙ fetches-same s ios)
         | inr apart ↦ get_or-set_other fetching s.0 t false false apart ∙ are.each t (omega arith) ∙ sym (fetches-other s t ios apart)
-      ];
-}
-
--- an I/O that is no fetch, and one that is
-pub AreFetching-begin : (fetching : List Bool) (ios : List Io) (io : Io) → ((s : ℕ) → fetches s io ≡ false) → AreFetching fetching ios
-    → AreFetching fetching (ios ++ io ∷ [])
-AreFetching-begin fetching ios io none are = record {
-  each = λ s within.
-      are.each s within ∙ sym (fetches-push s ios io ∙ ap (λ b. list_any (fetches s) ios || b) (none s) ∙ or-false (list_any (fetches s) ios));
-}
-
-pub AreFetching-fetch : (fetching : List Bool) (ios : List Io) (io : Io) (s : SpaceNo) → io.kind ≡ Upcall s → AreFetching fetching ios
-    → AreFetching (slice_set fetching s.0 true) (ios ++ io ∷ [])
-AreFetching-fetch fetching ios io s is are = record {
-  each = λ t within.
-      let size = length-set fetching s.0 true in
-      let one : fetches t io ≡ eqb s.0 t = ap (is_fetch_of t) is in
-      elim (cases_eq t s.0) [
-        | inl same ↦
-            ap (λ n. slice_index_or (slice_set fetching s.0 true) n false) same ∙ get_or-set_same fetching s.0 true false (omega arith)
-            ∙ sym (fetches-push t ios io ∙ ap (λ b. list_any (fetches t) ios || b) (one ∙ eq-eqb s.0 t (sym same)) ∙ or-true (list_any (fetches t) ios))
-        | inr apart ↦
-            get_or-set_other fetching s.0 t true false apart ∙ are.each t (omega arith)
-            ∙ sym (fetches-push t ios io ∙ ap (λ b. list_any (fetches t) ios || b) (one ∙ ne_eqb s.0 t (λ e. apart (sym e)))
-            ∙ or-false (list_any (fetches t) ios))
       ];
 }

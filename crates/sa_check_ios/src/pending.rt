@@ -1,5 +1,5 @@
 // The I/Os under way, and the resident pages.
-ghost use Rattle.std.specs.Prelude.{◌≡◌, ◌≢◌, ◌↔◌, [], true, length, map, IsTrue, IfOk, OnOk, OnErr, slice_index, slice_set, slice_index_or};
+ghost use Rattle.std.specs.Prelude.{◌≡◌, ◌≢◌, ◌↔◌, [], true, length, map, IsTrue, IfOk, OnOk, OnErr, slice_index, slice_set};
 ghost use Rattle.std.specs.List.{list_any};
 ghost use Rattle.std.specs.Option.{option_map};
 ghost use Rattle.sa_devices.specs.Ios.{Io, due_of, fetches};

@@ -1,7 +1,6 @@
 // The ready lists.
-ghost use Rattle.std.specs.Prelude.{◌≡◌, ◌≤◌, [], ◌∷◌, ◌++◌, length, find, filter, IfOk, OnOk, OnErr, slice_index_or};
+ghost use Rattle.std.specs.Prelude.{◌≡◌, [], ◌∷◌, ◌++◌, find, filter, IfOk, OnOk, OnErr};
 ghost use Rattle.std.specs.List.{list_any};
-ghost use Rattle.sa_base.specs.declared.limits.TheConstants.{MAX_SPACES};
 ghost use Rattle.sa_laws.specs.Readings.{first_listed, is_in};
 ghost use Rattle.sa_laws.specs.Record.{is_other_thread};
 ghost use Rattle.sa_laws.specs.Locks.{newest, oldest};

@@ -12,9 +12,9 @@ use Rattle.sa_base.specs.declared.number.ThreadNo.{ThreadNo}
 use Rattle.sa_lemmas.proofs.Options.{option_map_some}
 use Rattle.sa_laws.specs.Life.{Life, Lock, some_lock, has_lock, change_first, readied, ran, with_hand, inherits, inherited, bereft}
 use Rattle.sa_laws.specs.Record.{with_life, handed, locks_one}
-use Rattle.sa_check_life.specs.declared.change.Change.{Change}
-use Rattle.sa_check_life.specs.declared.change.Change.TheVariants.{Stop, Block, Unblock, Cont, Back, Ready, Run, Take, Free, Step, Arise}
-use Rattle.sa_check_life.specs.Change.{changed_by, adds_lock, enters, leaves}
+use Rattle.sa_check_lives.specs.declared.change.Change.{Change}
+use Rattle.sa_check_lives.specs.declared.change.Change.TheVariants.{Stop, Block, Unblock, Cont, Back, Ready, Run, Take, Free, Step, Arise}
+use Rattle.sa_check_lives.specs.Change.{changed_by, adds_lock, enters, leaves}
 use Rattle.sa_check_lives.specs.Table.{AreAmong, KeepsAll, KeepsOthers, KeepsUpped, KeepsUnless, IsThere, IsAddedTo, is_inside}
 
 -- where the numbers grow

@@ -11,7 +11,7 @@ use Rattle.sa_laws.specs.Life.{Life, with_lock}
 use Rattle.sa_laws.specs.Readings.{Readings, running_of, life_if}
 use Rattle.sa_laws.specs.Record.{with_life, locks}
 use Rattle.sa_laws.specs.History.{stepped, arisen}
-use Rattle.sa_check_life.specs.Change.{stepped_by, arisen_by}
+use Rattle.sa_check_lives.specs.Change.{stepped_by, arisen_by}
 use Rattle.sa_check_lives.specs.View.{read_of}
 use Rattle.sa_check_lives.specs.Recorded.{taken_lock, IsForPush, RecordsAreRead, StepsAreRead, UpsAreRead}
 

@@ -1,3 +1,4 @@
+pub mod Change
 pub mod Recorded
 pub mod Rows
 pub mod Table

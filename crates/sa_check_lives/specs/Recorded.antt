@@ -12,9 +12,9 @@ use Rattle.sa_laws.specs.Readings.{Readings, life_on, has_hand}
 use Rattle.sa_laws.specs.Record.{after_record, back_with, made_ready, with_life}
 use Rattle.sa_laws.specs.Machine.{next_effect}
 use Rattle.sa_laws.specs.History.{Test, is_free, scans_after, settles, stepped, arisen}
-use Rattle.sa_check_life.specs.declared.change.Stepped.{Stepped}
-use Rattle.sa_check_life.specs.Change.{stepped_by, arisen_by, scans_by}
-use Rattle.sa_check_lives.specs.View.{LivesView, read_of, changed_on, begun, stopped, blocked, unblocked, told, given_back}
+use Rattle.sa_check_lives.specs.declared.change.Stepped.{Stepped}
+use Rattle.sa_check_lives.specs.Change.{stepped_by, arisen_by, scans_by}
+use Rattle.sa_check_lives.specs.View.{LivesView, read_of, changed_on, with_up, stopped, blocked, unblocked, told, given_back}
 
 -- a lock at its take on a processor
 abbrev pub taken_lock : ProcNo → ProcNo → Option ThreadNo → Bool → Lock
@@ -39,7 +39,7 @@ recorded roused for_push p (Back s t) v = changed_on (back_with t) p v
 recorded roused for_push p (Ready s t) v = changed_on (made_ready t) p v
 recorded roused for_push p (Take s l t) v = changed_on (with_lock (taken_lock p l t for_push)) p v
 recorded roused for_push p (Free s l t) v = changed_on without_lock p v
-recorded roused for_push p (Up s a) v = begun p s a v
+recorded roused for_push p (Up s a) v = with_up p s a v
 recorded roused for_push p (Told note) v = told note v
 recorded roused for_push p (GiveBack a) v = given_back a v
 recorded roused for_push p _ v = v

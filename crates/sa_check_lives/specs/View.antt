@@ -11,8 +11,8 @@ use Rattle.sa_lemmas.specs.Function.{put}
 use Rattle.sa_laws.specs.Life.{Life, new_life, held_with, with_hand}
 use Rattle.sa_laws.specs.Readings.{Readings, stopped_thread, was_idle}
 use Rattle.sa_laws.specs.Record.{with_life, handed, with_note, without_note, with_act, without_act, one_thread, stopped_with}
-use Rattle.sa_check_life.specs.declared.change.Change.{Change}
-use Rattle.sa_check_life.specs.Change.{changed_by}
+use Rattle.sa_check_lives.specs.declared.change.Change.{Change}
+use Rattle.sa_check_lives.specs.Change.{changed_by}
 use Rattle.sa_check_lives.specs.Table.{lives_in}
 
 -- what a contract sees of the lives
@@ -86,8 +86,8 @@ abbrev pub changed_on : (Life → Life) → ProcNo → LivesView → LivesView
 changed_on f p v = changed f (running_at v p) v
 
 -- an up of a space on a processor
-abbrev pub begun : ProcNo → SpaceNo → ActNo → LivesView → LivesView
-begun p s a v = record v {
+abbrev pub with_up : ProcNo → SpaceNo → ActNo → LivesView → LivesView
+with_up p s a v = record v {
   lives = put v.lives a.0 (Some (new_life s p));
   running = slice_set v.running p.0 (Some a);
   upped = Some a;

@@ -5,15 +5,17 @@ ghost use Rattle.sa_laws.specs.Record.{back_with, made_ready};
 ghost use Rattle.sa_laws.specs.Readings.{Readings, IsLocked};
 ghost use Rattle.sa_laws.specs.Turns.{AnotherHas};
 ghost use Rattle.sa_laws.specs.Locks.{HoldsLock};
-ghost use Rattle.sa_check_life.specs.Change.{stepped_by, arisen_by};
+ghost use Rattle.sa_check_lives.specs.Change.{stepped_by, arisen_by};
 ghost use Rattle.sa_check_lives.specs.Table.{SomeIsIn};
 ghost use Rattle.sa_check_lives.specs.Recorded.{recorded, taken_lock};
-ghost use Rattle.sa_check_lives.specs.View.{lives_of, no_lives, running_at, life_if_at, space_at, taken_at, untold_at, changed, changed_on, begun, stopped, blocked, unblocked, told, given_back, untold_threads, thread_of_note, must_be_told, noted, passed};
+ghost use Rattle.sa_check_lives.specs.View.{lives_of, no_lives, running_at, life_if_at, space_at, taken_at, untold_at, changed, changed_on, with_up, stopped, blocked, unblocked, told, given_back, untold_threads, thread_of_note, must_be_told, noted, passed};
 
+use crate::change::{Change, Stepped};
+use crate::life::KeptLife;
 use crate::lists::{Row, add, no_rows, remove_act, remove_note, row_at, undo};
+use crate::lock::ListLock;
 use crate::table::Table;
 use sa_base::{ActNo, BULK_RETURN, Note, ProcNo, Record, SpaceNo, ThreadNo};
-use sa_check_life::{Change, KeptLife, ListLock, Stepped};
 use std::alloc::{AllocError, Global};
 use std::marker::Model;
 
@@ -52,12 +54,14 @@ impl Lives {
     {
         let mut running = Vec::new(alloc);
         running.resize(usize::from(processors), None)?;
+        let taken = no_rows(alloc, spaces)?;
+        let untold = no_rows(alloc, spaces)?;
         Ok(Lives {
             alloc,
             table: Table::new(alloc)?,
             running,
-            taken: no_rows(alloc, spaces)?,
-            untold: no_rows(alloc, spaces)?,
+            taken,
+            untold,
             upped: None,
         })
     }
@@ -197,7 +201,7 @@ impl Lives {
 
     /// An up of the space on the processor begins a life of this number.
     pub fn up(&mut self, p: ProcNo, s: SpaceNo, a: ActNo) -> Result<(), AllocError>
-        ensures ok { OnOk result (lives_of self.new ≡ begun p s a (lives_of self.old)) }
+        ensures ok { OnOk result (lives_of self.new ≡ with_up p s a (lives_of self.old)) }
         ensures err { OnErr result (lives_of self.new ≡ lives_of self.old) }
     {
         let life = KeptLife::new(self.alloc, s, p);

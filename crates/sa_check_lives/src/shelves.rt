@@ -4,11 +4,12 @@ ghost use Rattle.std.specs.Option.{option_copied};
 ghost use Rattle.sa_lemmas.specs.Function.{put};
 ghost use Rattle.sa_laws.specs.Life.{with_hand, inherits, bereft};
 ghost use Rattle.sa_laws.specs.Record.{with_life, locks_one};
-ghost use Rattle.sa_check_life.specs.Change.{changed_by};
+ghost use Rattle.sa_check_lives.specs.Change.{changed_by};
 ghost use Rattle.sa_check_lives.specs.Table.{lives_among, lives_in, shelf_of};
 
+use crate::change::Change;
+use crate::life::KeptLife;
 use sa_base::{ActNo, ThreadNo};
-use sa_check_life::{Change, KeptLife};
 use std::alloc::{AllocError, Global};
 use std::collections::BTreeMap;
 use std::marker::Model;

@@ -1,19 +1,21 @@
 // The lives in use, by their numbers.
-ghost use Rattle.std.specs.Prelude.{◌≡◌, ◌↔◌, [], false, IsTrue, IfOk, IfNone, OnOk, OnErr, Contains};
+ghost use Rattle.std.specs.Prelude.{◌≡◌, ◌↔◌, [], false, IsTrue, IfOk, OnOk, OnErr, Contains};
 ghost use Rattle.std.specs.Option.{option_copied};
 ghost use Rattle.std.specs.List.{list_any};
 ghost use Rattle.sa_lemmas.specs.Function.{put};
-ghost use Rattle.sa_laws.specs.Life.{with_hand, inherits, bereft};
-ghost use Rattle.sa_laws.specs.Record.{with_life, handed, locks_one};
+ghost use Rattle.sa_laws.specs.Life.{with_hand, inherits};
+ghost use Rattle.sa_laws.specs.Record.{with_life, handed};
 ghost use Rattle.sa_laws.specs.Readings.{Readings, IsLocked};
 ghost use Rattle.sa_laws.specs.Turns.{AnotherHas};
 ghost use Rattle.sa_laws.specs.Locks.{HoldsLock};
-ghost use Rattle.sa_check_life.specs.Change.{changed_by};
+ghost use Rattle.sa_check_lives.specs.Change.{changed_by};
 ghost use Rattle.sa_check_lives.specs.Table.{lives_in, SomeIsIn, KeepsAll, KeepsOthers, KeepsUpped, KeepsUnless, IsThere, IsAddedTo, some_passes, has_list, has_thread, is_in, is_list, is_of_thread};
 
+use crate::change::Change;
+use crate::life::KeptLife;
+use crate::lock::ListLock;
 use crate::shelves::Shelves;
 use sa_base::{ActNo, ProcNo, SpaceNo, ThreadNo};
-use sa_check_life::{Change, KeptLife, ListLock};
 use std::alloc::{AllocError, Global};
 use std::marker::Model;
 

@@ -15,9 +15,9 @@ use Rattle.sa_laws.specs.Life.{Life}
 use Rattle.sa_laws.specs.Readings.{Readings, running_of, life_if, life_on, demand_of}
 use Rattle.sa_laws.specs.Record.{with_life}
 use Rattle.sa_laws.specs.History.{ended, stepped, arisen, is_inside, is_step, is_up, settles, scans_after, with_step, with_up}
-use Rattle.sa_check_life.specs.declared.change.Stepped.{Stepped}
-use Rattle.sa_check_life.specs.declared.change.Scan.TheVariants.{Same, Over}
-use Rattle.sa_check_life.specs.Change.{stepped_by, scans_by}
+use Rattle.sa_check_lives.specs.declared.change.Stepped.{Stepped}
+use Rattle.sa_check_lives.specs.declared.change.Scan.TheVariants.{Same, Over}
+use Rattle.sa_check_lives.specs.Change.{stepped_by, scans_by}
 use Rattle.sa_check_lives.specs.View.{LivesView, lives_of, read_of}
 use Rattle.sa_check_lives.proofs.ReadLemmas.{steps-read, ups-read}
 use Rattle.sa_check_moment.specs.Seen.{Kept, seen, at_end, event, lowers}

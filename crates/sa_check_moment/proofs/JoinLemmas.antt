@@ -14,7 +14,7 @@ use Rattle.sa_laws.specs.Record.{Blocking, after_record, moved_after, first_list
 use Rattle.sa_check_lives.specs.View.{LivesView, lives_of, read_of}
 use Rattle.sa_check_lives.specs.Recorded.{recorded}
 use Rattle.sa_check_lives.proofs.ReadLemmas.{records-read}
-use Rattle.sa_check_machine.specs.Replayed.{roused_by}
+use Rattle.sa_replay.specs.Replayed.{roused_by}
 use Rattle.sa_check_ios.specs.Ready.{with_ready}
 use Rattle.sa_check_ios.specs.PendingView.{PendingView, pending_of}
 use Rattle.sa_check_moment.specs.Board.{BoardView, board_of, noted}

@@ -16,7 +16,7 @@ use Rattle.sa_laws.specs.Readings.{Readings, space_of_life}
 use Rattle.sa_laws.specs.Record.{after_record, without_note, is_other_note}
 use Rattle.sa_laws.proofs.Lengths.{with-length, without-length}
 use Rattle.sa_laws.proofs.Spaces.{placed-owners}
-use Rattle.sa_check_moment.specs.Seen.{Seen, opened, at_event, behind_record, at_end}
+use Rattle.sa_check_moment.specs.Seen.{Seen, opened, behind_record}
 use Rattle.sa_check_moment.specs.Listed.{IsListed}
 
 -- the lists, and as many in each
@@ -177,13 +177,5 @@ listed-opened w = record {
   untold = length-replicate (length w.spaces) [];
 }
 
-pub listed-begun : (number : ℕ) (p : ProcNo) (m : Seen) → IsListed m → IsListed (at_event number p m)
-listed-begun number p m is =
-    still m (at_event number p m) refl
-    (record { owners = refl; aims = refl; lines = length-set m.readings.lines p.0 None; marks = refl; running = refl; taken = refl; untold = refl }) is
-
 pub listed-behind : (number : ℕ) (p : ProcNo) (x : Record) (m : Seen) → IsListed m → IsListed (behind_record number p x m)
 listed-behind number p x m is = still m (behind_record number p x m) refl (kept m.workload number p m.readings x) is
-
-pub listed-ended : (before : Readings) (number : ℕ) (p : ProcNo) (records : List Record) (m : Seen) → IsListed m → IsListed (at_end before number p records m)
-listed-ended before number p records m is = still m (at_end before number p records m) refl (same (lists_of m.readings)) is

@@ -35,7 +35,3 @@ first-iff w r s p l k within opens none = (
     | inr (inr more) ↦ absurd (is.first k more opens)
   ]),
 )
-
-pub not_first : (w : WorkloadView) (r : Readings) (s : SpaceNo) (p l : ProcNo)
-    → ((j : ℕ) → j < w.processors → IsOpen r s (list_round w p j) → ⊥) → IsFirstOpen w r s p l → ⊥
-not_first w r s p l none is = none is.steps is.within (subst (λ (m : ProcNo). IsOpen r s m) is.list is.opens)

@@ -10,10 +10,10 @@ use Rattle.sa_laws.specs.State.{thread_at}
 use Rattle.sa_laws.specs.Life.{Life}
 use Rattle.sa_laws.specs.Readings.{Readings, life_if, life_on}
 use Rattle.sa_laws.specs.History.{is_inside, is_step, is_up, is_free, goes_on}
-use Rattle.sa_check_life.specs.declared.change.Scan.{Scan}
-use Rattle.sa_check_life.specs.declared.change.Scan.TheVariants.{More, Same, Over}
-use Rattle.sa_check_life.specs.declared.change.Stepped.{Stepped}
-use Rattle.sa_check_life.specs.Change.{stepped_by, arisen_by}
+use Rattle.sa_check_lives.specs.declared.change.Scan.{Scan}
+use Rattle.sa_check_lives.specs.declared.change.Scan.TheVariants.{More, Same, Over}
+use Rattle.sa_check_lives.specs.declared.change.Stepped.{Stepped}
+use Rattle.sa_check_lives.specs.Change.{stepped_by, arisen_by}
 use Rattle.sa_check_lives.specs.View.{LivesView, changed, changed_on}
 use Rattle.sa_check_moment.specs.Seen.{event}
 

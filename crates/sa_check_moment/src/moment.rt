@@ -22,12 +22,11 @@ mod read;
 use crate::board::Board;
 use sa_base::{ActNo, BULK_RETURN, Note, ProcNo, Record, SpaceNo, ThreadNo};
 use sa_check_ios::{ListedThread, Pending, ReadyLists};
-use sa_check_life::{KeptLife, ListLock};
-use sa_check_lives::Lives;
-use sa_check_machine::{Replay, RunningThread, ThreadState};
+use sa_check_lives::{KeptLife, ListLock, Lives};
 use sa_devices::IoKind;
 use sa_instr::Instr;
 use sa_laws::Place;
+use sa_replay::{Replay, RunningThread, ThreadState};
 use sa_spaces::Workload;
 use std::alloc::{AllocError, Global};
 use std::marker::Model;
@@ -77,11 +76,11 @@ impl Moment {
         let processors = usize::from(workload.processors());
         let spaces = workload.spaces().len();
         let parts = Parts {
-            replay: Replay::start(alloc, workload)?,
-            lives: Lives::new(alloc, workload.processors(), spaces as u16)?,
-            pending: Pending::new(alloc, workload)?,
-            ready: ReadyLists::new(alloc, spaces)?,
             board: Board::new(alloc, processors, spaces)?,
+            ready: ReadyLists::new(alloc, spaces)?,
+            pending: Pending::new(alloc, workload)?,
+            lives: Lives::new(alloc, workload.processors(), spaces as u16)?,
+            replay: Replay::start(alloc, workload)?,
             number: 0,
             last: None,
             moved: None,
@@ -273,11 +272,11 @@ impl Moment {
         self.parts.replay.runner(p)
     }
 
-    /// The instruction at a place of the thread's program, and `end` where there is none.
-    pub fn instr_of(&self, s: SpaceNo, t: ThreadNo, place: u16) -> Instr
-        ensures { result ≡ instr_of (seen self.now).workload (seen self.now).readings.state s t place }
+    /// The instruction at this pc of the thread's program, and `end` where there is none.
+    pub fn instr_of(&self, s: SpaceNo, t: ThreadNo, pc: u16) -> Instr
+        ensures { result ≡ instr_of (seen self.now).workload (seen self.now).readings.state s t pc }
     {
-        self.parts.replay.instr_of(s, t, place)
+        self.parts.replay.instr_of(s, t, pc)
     }
 
     /// The thread that runs on the life's processor.

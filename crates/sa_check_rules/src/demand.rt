@@ -5,7 +5,7 @@ ghost use Rattle.sa_check_moment.specs.Seen.{seen, event};
 
 use crate::life::{carried_by, has_nothing};
 use sa_base::{ProcNo, Record};
-use sa_check_life::KeptLife;
+use sa_check_lives::KeptLife;
 use sa_check_moment::Moment;
 use sa_check_shapes::{is_step, parted};
 

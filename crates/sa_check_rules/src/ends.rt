@@ -7,7 +7,7 @@ use sa_base::End;
 use sa_check_moment::Moment;
 
 /// The run goes on: some thread is not done, and something can happen.
-pub fn goes_on(moment: &Moment) -> bool
+pub fn run_goes_on(moment: &Moment) -> bool
     ensures { IsTrue result ↔ GoesOn (seen moment.now).readings }
 {
     !moment.are_all_done() && !moment.is_stuck()
@@ -20,6 +20,6 @@ pub fn is_told_end(moment: &Moment, end: End) -> bool
     match end {
         End::AllDone => moment.are_all_done(),
         End::Stuck => moment.is_stuck(),
-        End::Budget => goes_on(moment),
+        End::Budget => run_goes_on(moment),
     }
 }

@@ -19,12 +19,12 @@ mod upcalls;
 
 pub use blocks::gives_upcall;
 pub use demand::demand_is_announced;
-pub use ends::{goes_on, is_told_end};
+pub use ends::{is_told_end, run_goes_on};
 pub use interrupt::interrupt_is_next;
 pub use lines::raises_line;
 pub use locks::locks_are_kept;
 pub use once::tells_once;
 pub use order::order_is_kept;
-pub use owned::{names_the_life, runs_where_owned};
+pub use owned::{each_runs_for_its_owner, names_the_life};
 pub use turns::turns_are_taken;
 pub use upcalls::tells_all;

@@ -6,7 +6,7 @@ ghost use Rattle.sa_laws.specs.Turns.{FindsNone};
 ghost use Rattle.sa_check_moment.specs.Seen.{seen};
 
 use sa_base::{SpaceNo, ThreadNo};
-use sa_check_life::KeptLife;
+use sa_check_lives::KeptLife;
 use sa_check_moment::Moment;
 
 // No lock, no cont without its back, and an empty hand.

@@ -3,12 +3,12 @@ ghost use Rattle.std.specs.Prelude.{◌≡◌, ◌↔◌, IsTrue};
 ghost use Rattle.sa_laws.specs.Life.{first_lock};
 ghost use Rattle.sa_laws.specs.Readings.{Readings, has_hand, life_on};
 ghost use Rattle.sa_laws.specs.History.{begun, is_step};
-ghost use Rattle.sa_laws.specs.Locks.{TakesFor, CanTake, CanBeUsed, CanReady, CanRun, CanFree, CanCont, WithFirst, back_is_due, KeepsLocks, StepKeepsLocks, KeepsLocksIf, KeepsLocksIn, LocksAreKept};
+ghost use Rattle.sa_laws.specs.Locks.{TakesFor, CanTake, CanBeUsed, CanReady, CanRun, CanFree, CanCont, WithFirst, back_is_due, KeepsLocks, KeepsLocksIf, KeepsLocksIn, LocksAreKept};
 ghost use Rattle.sa_check_moment.specs.Seen.{seen, event};
 
 use crate::life::carried_by;
 use sa_base::{PACKAGE_PAGE, ProcNo, Record, SpaceNo, ThreadNo};
-use sa_check_life::{KeptLife, ListLock};
+use sa_check_lives::{KeptLife, ListLock};
 use sa_check_moment::Moment;
 use sa_check_shapes::{is_back, is_step, own_part, parted, stands_alone};
 

@@ -26,8 +26,8 @@ fn runs_on(moment: &Moment, p: ProcNo, s: SpaceNo, a: ActNo) -> bool
     moment.running(p) == Some(a) && moment.space_of_life(Some(a)) == Some(s)
 }
 
-/// Runs where owned: each processor is owned by the space of its running life.
-pub fn runs_where_owned(moment: &Moment) -> bool
+/// Runs where owned, after an event: each processor is owned by the space of its running life.
+pub fn each_runs_for_its_owner(moment: &Moment) -> bool
     ensures { let r = (seen moment.now).readings in
         IsTrue result ↔ (r.state.owners ≡ map (space_of_life r) r.running) }
 {

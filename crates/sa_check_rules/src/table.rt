@@ -8,7 +8,7 @@ ghost use Rattle.sa_check_moment.specs.Seen.{seen};
 
 use crate::life::{carried_by, finds_none, has_nothing, patience};
 use sa_base::{ActNo, BULK_RETURN, PACKAGE_PAGE, ProcNo, Record, SpaceNo};
-use sa_check_life::{KeptLife, ListLock};
+use sa_check_lives::{KeptLife, ListLock};
 use sa_check_moment::Moment;
 use sa_check_shapes::{are_of_locks, is_ins_of, is_passage, parted};
 

@@ -79,8 +79,8 @@ fn is_fetch_unless(s: SpaceNo, fetching: bool, records: &[Record]) -> bool
     }
 }
 
-/// After a block on a processor of this space comes an up of it, or the leave where its upcall page is absent.
-pub fn goes_on(p: ProcNo, s: SpaceNo, page: UpcallPage, records: &[Record]) -> bool
+/// What follows a block on a processor of this space: an up of it, or the leave where its upcall page is absent.
+pub fn follows_block(p: ProcNo, s: SpaceNo, page: UpcallPage, records: &[Record]) -> bool
     ensures { (r : Readings) → IsSeen r s page
         → (IsTrue result ↔ GoesOn page.resident p r s records.now) }
 {

@@ -1,5 +1,5 @@
 // The records of one kind, beside those that are due.
-ghost use Rattle.std.specs.Prelude.{◌≡◌, ◌≢◌, ◌↔◌, ◌++◌, [], map, IsTrue};
+ghost use Rattle.std.specs.Prelude.{◌≡◌, ◌≢◌, ◌↔◌, ◌++◌, [], IsTrue};
 ghost use Rattle.std.specs.Option.{option_to_list};
 ghost use Rattle.sa_laws.specs.Shape.{wants_in, lines_in, aims_in, told_run};
 ghost use Rattle.sa_check_shapes.specs.Due.{changes_of};

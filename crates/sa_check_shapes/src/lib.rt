@@ -9,8 +9,8 @@ mod parts;
 mod turns;
 
 pub use behind::{
-    UpcallPage, begins_as_interrupt, begins_with_line, begins_with_up, goes_on, goes_to, is_leave,
-    stops_and_goes,
+    UpcallPage, begins_as_interrupt, begins_with_line, begins_with_up, follows_block, goes_to,
+    is_leave, stops_and_goes,
 };
 pub use due::{Aimed, are_aims, are_lines, are_told, are_wants, has_aims, is_told};
 pub use kinds::{

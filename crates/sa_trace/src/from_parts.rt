@@ -25,30 +25,25 @@ fn from_fields(kind: Kind, f: &[Option<u64>]) -> Option<Record>
     ensures { result ≡ record_from kind f.now }
 {
     match kind {
-        Kind::Ins => Some(Record::Ins(space(f, 0)?, thread(f, 1)?, place(f, 2)?)),
-        Kind::Out => Some(Record::Out(space(f, 0)?, thread(f, 1)?, number(Field::Value, f, 2)?)),
-        Kind::Run => Some(Record::Run(space(f, 0)?, thread(f, 1)?)),
-        Kind::Stop => Some(Record::Stop(space(f, 0)?, carried(f, 1)?, activation(f, 2)?)),
-        Kind::Block => Some(Record::Block(
-            space(f, 0)?,
-            carried(f, 1)?,
-            activation(f, 2)?,
-            io(f, 3)?,
-        )),
-        Kind::Unblock => Some(Record::Unblock(space(f, 0)?, carried(f, 1)?, activation(f, 2)?)),
-        Kind::Cont => Some(Record::Cont(space(f, 0)?, carried(f, 1)?)),
-        Kind::Back => Some(Record::Back(space(f, 0)?, carried(f, 1)?)),
-        Kind::Ready => Some(Record::Ready(space(f, 0)?, thread(f, 1)?)),
-        Kind::Take => Some(Record::Take(space(f, 0)?, processor(f, 1)?, carried(f, 2)?)),
-        Kind::Free => Some(Record::Free(space(f, 0)?, processor(f, 1)?, carried(f, 2)?)),
-        Kind::Up => Some(Record::Up(space(f, 0)?, activation(f, 1)?)),
+        Kind::Ins => ins(f),
+        Kind::Out => out(f),
+        Kind::Run => run(f),
+        Kind::Stop => stop(f),
+        Kind::Block => block(f),
+        Kind::Unblock => unblock(f),
+        Kind::Cont => cont(f),
+        Kind::Back => back(f),
+        Kind::Ready => ready(f),
+        Kind::Take => taken(f),
+        Kind::Free => free(f),
+        Kind::Up => up(f),
         Kind::ToldAdd => Some(Record::Told(Note::Add(processor(f, 0)?))),
         Kind::ToldPreempted => Some(Record::Told(Note::Preempted(activation(f, 0)?))),
         Kind::ToldBlocked => Some(Record::Told(Note::Blocked(activation(f, 0)?))),
         Kind::ToldUnblocked => Some(Record::Told(Note::Unblocked(activation(f, 0)?))),
-        Kind::Move => Some(Record::Move(owner(f, 0)?, owner(f, 1)?)),
-        Kind::Want => Some(Record::Want(space(f, 0)?, demand(f, 1)?)),
-        Kind::Aim => Some(Record::Aim(processor(f, 0)?, owner(f, 1)?)),
+        Kind::Move => moved(f),
+        Kind::Want => want(f),
+        Kind::Aim => aim(f),
         Kind::Line => Some(Record::Line(processor(f, 0)?)),
         Kind::Fetch => Some(Record::Fetch(space(f, 0)?)),
         Kind::Fetched => Some(Record::Fetched(space(f, 0)?)),
@@ -57,6 +52,98 @@ fn from_fields(kind: Kind, f: &[Option<u64>]) -> Option<Record>
         Kind::Spin => Some(Record::Spin(processor(f, 0)?)),
         Kind::Tick => Some(Record::Tick),
     }
+}
+
+// The record of each kind with two fields or more.
+
+fn ins(f: &[Option<u64>]) -> Option<Record>
+    ensures { result ≡ record_from Kind.Ins f.now }
+{
+    Some(Record::Ins(space(f, 0)?, thread(f, 1)?, place(f, 2)?))
+}
+
+fn out(f: &[Option<u64>]) -> Option<Record>
+    ensures { result ≡ record_from Kind.Out f.now }
+{
+    Some(Record::Out(space(f, 0)?, thread(f, 1)?, number(Field::Value, f, 2)?))
+}
+
+fn run(f: &[Option<u64>]) -> Option<Record>
+    ensures { result ≡ record_from Kind.Run f.now }
+{
+    Some(Record::Run(space(f, 0)?, thread(f, 1)?))
+}
+
+fn stop(f: &[Option<u64>]) -> Option<Record>
+    ensures { result ≡ record_from Kind.Stop f.now }
+{
+    Some(Record::Stop(space(f, 0)?, carried(f, 1)?, activation(f, 2)?))
+}
+
+fn block(f: &[Option<u64>]) -> Option<Record>
+    ensures { result ≡ record_from Kind.Block f.now }
+{
+    Some(Record::Block(space(f, 0)?, carried(f, 1)?, activation(f, 2)?, io(f, 3)?))
+}
+
+fn unblock(f: &[Option<u64>]) -> Option<Record>
+    ensures { result ≡ record_from Kind.Unblock f.now }
+{
+    Some(Record::Unblock(space(f, 0)?, carried(f, 1)?, activation(f, 2)?))
+}
+
+fn cont(f: &[Option<u64>]) -> Option<Record>
+    ensures { result ≡ record_from Kind.Cont f.now }
+{
+    Some(Record::Cont(space(f, 0)?, carried(f, 1)?))
+}
+
+fn back(f: &[Option<u64>]) -> Option<Record>
+    ensures { result ≡ record_from Kind.Back f.now }
+{
+    Some(Record::Back(space(f, 0)?, carried(f, 1)?))
+}
+
+fn ready(f: &[Option<u64>]) -> Option<Record>
+    ensures { result ≡ record_from Kind.Ready f.now }
+{
+    Some(Record::Ready(space(f, 0)?, thread(f, 1)?))
+}
+
+fn taken(f: &[Option<u64>]) -> Option<Record>
+    ensures { result ≡ record_from Kind.Take f.now }
+{
+    Some(Record::Take(space(f, 0)?, processor(f, 1)?, carried(f, 2)?))
+}
+
+fn free(f: &[Option<u64>]) -> Option<Record>
+    ensures { result ≡ record_from Kind.Free f.now }
+{
+    Some(Record::Free(space(f, 0)?, processor(f, 1)?, carried(f, 2)?))
+}
+
+fn up(f: &[Option<u64>]) -> Option<Record>
+    ensures { result ≡ record_from Kind.Up f.now }
+{
+    Some(Record::Up(space(f, 0)?, activation(f, 1)?))
+}
+
+fn moved(f: &[Option<u64>]) -> Option<Record>
+    ensures { result ≡ record_from Kind.Move f.now }
+{
+    Some(Record::Move(owner(f, 0)?, owner(f, 1)?))
+}
+
+fn want(f: &[Option<u64>]) -> Option<Record>
+    ensures { result ≡ record_from Kind.Want f.now }
+{
+    Some(Record::Want(space(f, 0)?, demand(f, 1)?))
+}
+
+fn aim(f: &[Option<u64>]) -> Option<Record>
+    ensures { result ≡ record_from Kind.Aim f.now }
+{
+    Some(Record::Aim(processor(f, 0)?, owner(f, 1)?))
 }
 
 // What the field at a place names, if its number is in its range.

@@ -4,7 +4,7 @@
 ghost use Rattle.std.specs.Prelude.{◌≡◌, ◌+◌, IfOk, OnOk};
 ghost use Rattle.std.specs.List.{list_any};
 ghost use Rattle.sa_laws.specs.Readings.{Readings, running_of, life_if};
-ghost use Rattle.sa_laws.specs.History.{is_up, is_free, goes_on};
+ghost use Rattle.sa_laws.specs.History.{is_up, goes_on};
 ghost use Rattle.sa_check_lives.specs.View.{lives_of};
 ghost use Rattle.sa_check_moment.specs.Seen.{seen, at_end, lowers};
 ghost use Rattle.sa_check_moment.specs.Ending.{is_in, is_in_if, settles_by, scan_by, step_with, step_by, up_by, stepped_if, arisen_if};
@@ -12,8 +12,7 @@ ghost use Rattle.sa_check_moment.specs.Ending.{is_in, is_in_if, settles_by, scan
 use crate::moment::{Moment, Parts};
 use crate::start::Start;
 use sa_base::{ActNo, ProcNo, Record};
-use sa_check_life::{KeptLife, Scan, Stepped};
-use sa_check_lives::Lives;
+use sa_check_lives::{KeptLife, Lives, Scan, Stepped};
 use sa_check_shapes::is_step;
 use sa_laws::Place;
 use std::alloc::AllocError;
@@ -106,7 +105,7 @@ impl Moment {
         ensures { result ≡ settles_by lowers (seen self.now).readings first.now }
     {
         match *first {
-            Record::Ins(s, t, _) => !goes_on(self.thread(s, t).place()),
+            Record::Ins(s, t, _) => !runs_or_is_blocked(self.thread(s, t).place()),
             Record::Want(..) => !lowers,
             Record::Idle | Record::Block(..) => false,
             _ => true,
@@ -140,7 +139,7 @@ impl Moment {
 }
 
 // A thread there runs or is blocked.
-fn goes_on(place: Place) -> bool
+fn runs_or_is_blocked(place: Place) -> bool
     ensures { result ≡ goes_on place }
 {
     matches!(place, Place::Running(_) | Place::Blocked)

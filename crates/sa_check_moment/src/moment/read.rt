@@ -9,8 +9,8 @@ ghost use Rattle.sa_laws.specs.Record.{blocking, length_behind, length_in, is_th
 ghost use Rattle.sa_laws.specs.Step.{Needs};
 ghost use Rattle.sa_check_lives.specs.View.{lives_of};
 ghost use Rattle.sa_check_lives.specs.Recorded.{IsForPush, recorded};
-ghost use Rattle.sa_check_machine.specs.Replayed.{after};
-ghost use Rattle.sa_check_machine.specs.Needs.{CanChange, NeedsWith, Sees, seen_of};
+ghost use Rattle.sa_replay.specs.Replayed.{after};
+ghost use Rattle.sa_replay.specs.Needs.{CanChange, NeedsWith, Sees, seen_of};
 ghost use Rattle.sa_devices.specs.Pages.{HasPage};
 ghost use Rattle.sa_check_moment.specs.Seen.{seen, at_event, behind_record};
 ghost use Rattle.sa_check_moment.specs.Reading.{ReadsPush, ReadsList, begun_by, ended_by, pending_after, ready_after};
@@ -19,20 +19,20 @@ use crate::moment::{Moment, Parts};
 use sa_base::{ActNo, Item, PACKAGE_PAGE, ProcNo, Record, SpaceNo, ThreadNo};
 use sa_check_ios::{Pending, ReadyLists};
 use sa_check_lives::Lives;
-use sa_check_machine::{Beyond, LifeSeen, Replay};
 use sa_devices::IoKind;
 use sa_instr::Instr;
+use sa_replay::{Beyond, LifeSeen, Replay};
 use std::alloc::AllocError;
 use std::marker::Model;
 
 // What a block or a fetch is for, and how many events it takes.
 #[derive(Clone, Copy, Debug)]
-struct Begun {
+struct NewIo {
     kind: IoKind,
     length: u32,
 }
 
-impl Model for Begun {
+impl Model for NewIo {
     ghost use Rattle.sa_laws.specs.Record.{Blocking};
 
     ghost Value = { Blocking };
@@ -48,7 +48,7 @@ struct Before {
     // A take of the life that runs on the processor is for a push, where the record is one.
     for_push: bool,
     // The I/O that the record begins.
-    begun: Option<Begun>,
+    begun: Option<NewIo>,
     // The list into which a thread is put that the record makes ready.
     list: ProcNo,
 }
@@ -188,13 +188,13 @@ impl Moment {
     }
 
     // The I/O that the record begins.
-    fn begun_by(&self, what: &Record) -> Option<Begun>
+    fn begun_by(&self, what: &Record) -> Option<NewIo>
         ensures begun { result ≡ begun_by (seen self.now).workload (seen self.now).readings what.now }
         ensures page { IfSome result (λ b. HasPage b.kind) }
     {
         match *what {
             Record::Block(s, t, a, _) => Some(self.blocking(s, t, a)),
-            Record::Fetch(s) => Some(Begun {
+            Record::Fetch(s) => Some(NewIo {
                 kind: IoKind::Upcall(s),
                 length: self.workload().fetch(),
             }),
@@ -203,16 +203,16 @@ impl Moment {
     }
 
     // What the block of a life is for.
-    fn blocking(&self, s: SpaceNo, t: Option<ThreadNo>, a: ActNo) -> Begun
+    fn blocking(&self, s: SpaceNo, t: Option<ThreadNo>, a: ActNo) -> NewIo
         ensures begun { result ≡ blocking (seen self.now).workload (seen self.now).readings s t a }
         ensures page { HasPage result.kind }
     {
         match self.length_behind(s, t) {
-            Some(length) => Begun {
+            Some(length) => NewIo {
                 kind: IoKind::Plain(s, a),
                 length,
             },
-            None => Begun {
+            None => NewIo {
                 kind: IoKind::Page(s, a, self.page_for(s, t, a)),
                 length: self.workload().fetch(),
             },
@@ -328,7 +328,7 @@ fn read_pending(
     pending: &mut Pending,
     event: u64,
     what: &Record,
-    begun: Option<Begun>,
+    begun: Option<NewIo>,
 ) -> Result<(), AllocError>
     requires { IfSome begun (λ b. HasPage b.kind) }
     ensures { OnOk result (pending.new ≡ pending_after begun event what.now pending.old) }

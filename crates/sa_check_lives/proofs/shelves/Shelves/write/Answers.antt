@@ -1,7 +1,7 @@
 use Rattle.std.proofs.Common.{arith}
 use Rattle.std.specs.Option.{option_map}
 use Rattle.std.proofs.lemmas.Result.{on_ok_weaker, on_err_weaker}
-use Rattle.sa_check_life.specs.Change.{changed_by}
+use Rattle.sa_check_lives.specs.Change.{changed_by}
 use Rattle.sa_check_lives.proofs.ShelfLemmas.{shelf-put, shelf-kept}
 use Rattle.sa_check_lives.proofs.shelves.Shelves.write.Goals as goal
 

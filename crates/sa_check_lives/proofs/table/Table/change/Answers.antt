@@ -1,7 +1,7 @@
 use Rattle.std.proofs.Common.{◌≡◌, sym, ◌∙◌, ap, subst, Some}
 use Rattle.sa_laws.specs.Life.{has_lock}
 use Rattle.sa_laws.specs.Record.{with_life, locks_one}
-use Rattle.sa_check_life.specs.Change.{changed_by, adds_lock, enters, leaves}
+use Rattle.sa_check_lives.specs.Change.{changed_by, adds_lock, enters, leaves}
 use Rattle.sa_check_lives.specs.Table.{lives_in, AreAmong, IsThere, KeepsUnless, is_inside}
 use Rattle.sa_check_lives.proofs.Among.{among-more, holders-changed, insiders-changed}
 use Rattle.sa_check_lives.proofs.table.Table.change.Goals as goal

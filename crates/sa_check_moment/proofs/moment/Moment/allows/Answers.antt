@@ -1,4 +1,4 @@
-use Rattle.sa_check_machine.proofs.NeedLemmas.{needs}
+use Rattle.sa_replay.proofs.NeedLemmas.{needs}
 use Rattle.sa_check_moment.specs.Seen.{seen}
 use Rattle.sa_check_moment.proofs.moment.Moment.allows.Goals as goal
 

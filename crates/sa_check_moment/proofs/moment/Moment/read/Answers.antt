@@ -3,9 +3,9 @@ use Rattle.sa_laws.specs.Machine.{changed}
 use Rattle.sa_laws.specs.Record.{moved_after}
 use Rattle.sa_check_lives.specs.View.{lives_of}
 use Rattle.sa_check_lives.specs.Recorded.{recorded}
-use Rattle.sa_check_machine.specs.Replayed.{Replayed, after, roused_by}
-use Rattle.sa_check_machine.specs.Needs.{CanChange}
-use Rattle.sa_check_machine.proofs.NeedLemmas.{can-change}
+use Rattle.sa_replay.specs.Replayed.{Replayed, after, roused_by}
+use Rattle.sa_replay.specs.Needs.{CanChange}
+use Rattle.sa_replay.proofs.NeedLemmas.{can-change}
 use Rattle.sa_check_moment.specs.Board.{noted}
 use Rattle.sa_check_moment.specs.declared.moment.Parts.{Parts}
 use Rattle.sa_check_moment.specs.KeptFields.{kept_in}

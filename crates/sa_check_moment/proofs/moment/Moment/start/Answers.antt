@@ -15,11 +15,11 @@ invariant_of-result c =
       replay =
           c.in_ok-start.field-0;
       lives =
-          c.in_ok-new.field-0;
+          c.in_ok-new-4.field-0;
       pending =
-          c.in_ok-new-2.field-0;
-      ready = c.in_ok-new-3.field-0;
-      board = c.in_ok-new-4.field-0;
+          c.in_ok-new-3.field-0;
+      ready = c.in_ok-new-2.field-0;
+      board = c.in_ok-new.field-0;
       number = 0;
       last = None;
       moved = None;
