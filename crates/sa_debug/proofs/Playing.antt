@@ -4,7 +4,7 @@ use Rattle.sa_base.specs.declared.record.Item.{Item}
 use Rattle.sa_spaces.specs.Workload.{WorkloadView}
 use Rattle.sa_laws.specs.State.{State}
 use Rattle.sa_laws.specs.Machine.{changed}
-use Rattle.sa_check_machine.specs.Needs.{CanChange}
+use Rattle.sa_replay.specs.Needs.{CanChange}
 use Rattle.sa_debug.specs.Reached.{CanPlay}
 use Rattle.sa_debug.specs.Views.{state_behind}
 

@@ -4,7 +4,7 @@ use Rattle.sa_base.specs.declared.number.ProcNo.{ProcNo}
 use Rattle.sa_base.specs.declared.record.Item.{Item}
 use Rattle.sa_spaces.specs.Workload.{WorkloadView}
 use Rattle.sa_abstract.specs.Calls.{Calls}
-use Rattle.sa_check_machine.specs.Needs.{CanChange}
+use Rattle.sa_replay.specs.Needs.{CanChange}
 use Rattle.sa_core_model.specs.Machine.{Machine}
 use Rattle.sa_core_model.specs.End.{end_of}
 use Rattle.sa_core_model.specs.Run.{opening, IsMove}

@@ -1,12 +1,12 @@
 // A replay that follows a trace.
 ghost use Rattle.std.specs.Prelude.{◌≡◌, length, OnOk};
 ghost use Rattle.sa_laws.specs.State.{opening_state};
-ghost use Rattle.sa_check_machine.specs.Replayed.{opened};
+ghost use Rattle.sa_replay.specs.Replayed.{opened};
 ghost use Rattle.sa_debug.specs.Reached.{CanPlay};
 ghost use Rattle.sa_debug.specs.Views.{view_in, IsBehind};
 
 use sa_base::{Item, SpaceNo, ThreadNo};
-use sa_check_machine::Replay;
+use sa_replay::Replay;
 use sa_script::View;
 use std::alloc::AllocError;
 use std::marker::Model;

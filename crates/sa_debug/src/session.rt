@@ -1,7 +1,7 @@
 // The session.
 ghost use Rattle.std.specs.Prelude.{◌≡◌, ◌≤◌, ◌<◌, ◌⊎◌, ◌+◌, ◌%◌, Some, None, OnOk, OnErr, IfOk, IfSome, MatchResult};
 ghost use Rattle.sa_base.specs.declared.limits.TheConstants.{MAX_EVENTS};
-ghost use Rattle.sa_check_machine.specs.Replayed.{opened};
+ghost use Rattle.sa_replay.specs.Replayed.{opened};
 ghost use Rattle.sa_core.specs.View.{machine};
 ghost use Rattle.sa_core_model.specs.End.{end_of};
 ghost use Rattle.sa_core_model.specs.Run.{opening};
@@ -15,8 +15,8 @@ use crate::halts::Halts;
 use crate::points::Points;
 use sa_abstract::{SeatState, UserLevel};
 use sa_base::{End, ProcNo, SpaceNo, ThreadNo, Trace};
-use sa_check_machine::Replay;
 use sa_core::Core;
+use sa_replay::Replay;
 use sa_script::{DebugCommand, Point, Reply};
 use std::alloc::{AllocError, Global};
 use std::marker::Model;

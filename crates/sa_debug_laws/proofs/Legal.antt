@@ -5,9 +5,11 @@ use Rattle.sa_spaces.specs.Workload.{WorkloadView, IsWorkload}
 use Rattle.sa_core_model.specs.Run.{opening, IsMove}
 use Rattle.sa_core_model.specs.Run.Move.{turn}
 use Rattle.sa_package_model.specs.Step.{fast_calls}
-use Rattle.sa_fast_runs.specs.Runs.{FastMachine}
-use Rattle.sa_fast_runs.specs.Calls.{IsReached, IsReachedByTurns}
-use Rattle.sa_fast_runs.proofs.Calls.{start-reaches, turn-alone-reaches, reached-legal, reached-strict, reached-ends}
+use Rattle.sa_legal_runs.proofs.runs.LegalRuns.{runs-count}
+use Rattle.sa_fast_laws.proofs.FastLaws.{fast_level}
+use Rattle.sa_package_runs.specs.Runs.{FastMachine}
+use Rattle.sa_package_runs.specs.Calls.{IsReached, IsReachedByTurns}
+use Rattle.sa_package_runs.proofs.Calls.{start-reaches, turn-alone-reaches, reached-legal, reached-strict, reached-ends}
 use Rattle.sa_script.specs.declared.command.DebugCommand.{DebugCommand}
 use Rattle.sa_script.specs.declared.reply.Reply.{Reply}
 use Rattle.sa_debug.specs.Session.{Session, fresh, DoesSoFar}
@@ -31,6 +33,7 @@ legal : (w : WorkloadView) (budget : ℕ) (m : FastMachine) → IsWorkload w →
 legal w budget m ok is = record {
   run = reached-legal w m ok (by-moves w m is);
   strict = reached-strict w m ok is;
+  count = runs-count fast_level w is.moves m ok is.run;
   end = reached-ends w m budget ok (by-moves w m is);
 }
 

@@ -5,5 +5,6 @@ pub mod Legal
 pub mod Showing
 pub mod Standing
 pub mod Only
+pub mod Partly
 pub mod OneWay
 pub mod Told

@@ -10,7 +10,7 @@ use Rattle.sa_laws.specs.Ends.{EndsWith}
 use Rattle.sa_laws.specs.Event.{Event, events_of, items_of}
 use Rattle.sa_laws.specs.Readings.{Readings}
 use Rattle.sa_laws.specs.Rules.{UserRules}
-use Rattle.sa_legal.proofs.EventLemmas.{items-events}
+use Rattle.sa_histories.proofs.Traces.{items-events}
 use Rattle.sa_debug.specs.OverHistories.{AddsTurn, over_histories, read}
 use Rattle.sa_debug_laws.proofs.Only.{GoesOneWay}
 

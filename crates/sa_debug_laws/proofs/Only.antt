@@ -31,7 +31,7 @@ module _ {N : Type 0} (q : Watched N) (Before : N → N → Type 0) (goes : Goes
   given x t z reply other one two = (two.0 ∙ sym one.0, two.1 ∙ sym one.1)
 
   -- what turns keep: how far the thing has come
-  from : (a : N) (m : N) (p : ProcNo) (after : N) → Before a m → q.IsTurn m p after → Before a after
+  pub from : (a : N) (m : N) (p : ProcNo) (after : N) → Before a m → q.IsTurn m p after → Before a after
   from a m p after before made = goes.later a m after before (goes.turns m p after made)
 
   -- ENDS
@@ -144,14 +144,22 @@ module _ {N : Type 0} (q : Watched N) (Before : N → N → Type 0) (goes : Goes
   both-do (Run n) s t z reply other x one two before after = both-run n s t z reply other x one two before after
   both-do (Show space thread) s t z reply other x one two before after = given _ t z reply other one two
 
+  -- To two sessions from which the thing can come to one and the same state; so to two with one state of the thing.
+  pub only-before : (cs : List DebugCommand) (s t z : Session N) (replies others : List Reply) (x : N) → DoAll q cs s t replies → DoAll q cs s z others
+      → Before t.machine x → Before z.machine x → (z ≡ t) × (others ≡ replies)
+  only-before [] s t z replies others x one two before after = (two.0 ∙ sym one.0, two.1 ∙ sym one.1)
+  only-before (c ∷ cs) s t z replies others x one two before after =
+      let leads : Before one.0.machine x =
+      goes.later one.0.machine t.machine x
+      (does-all q (Before one.0.machine) (from one.0.machine) cs one.0 t one.2 one.5 (goes.here one.0.machine)) before in
+      let also : Before two.0.machine x =
+      goes.later two.0.machine z.machine x
+      (does-all q (Before two.0.machine) (from two.0.machine) cs two.0 z two.2 two.5 (goes.here two.0.machine)) after in
+      let first = both-do c s one.0 two.0 one.1 two.1 x one.4 two.4 leads also in
+      let rest = only-before cs one.0 t z one.2 two.2 x one.5 (subst (λ (y : Session N). DoAll q cs y z two.2) first.0 two.5) before after in
+      (rest.0, two.3 ∙ ap (λ (r : Reply). r ∷ two.2) first.1 ∙ ap (λ (rs : List Reply). one.1 ∷ rs) rest.1 ∙ sym one.3)
+
   pub only : (cs : List DebugCommand) (s t z : Session N) (replies others : List Reply) → DoAll q cs s t replies → DoAll q cs s z others
       → z.machine ≡ t.machine → (z ≡ t) × (others ≡ replies)
-  only [] s t z replies others one two same = (two.0 ∙ sym one.0, two.1 ∙ sym one.1)
-  only (c ∷ cs) s t z replies others one two same =
-      let before : Before one.0.machine t.machine =
-      does-all q (Before one.0.machine) (from one.0.machine) cs one.0 t one.2 one.5 (goes.here one.0.machine) in
-      let after : Before two.0.machine t.machine =
-      subst (Before two.0.machine) same (does-all q (Before two.0.machine) (from two.0.machine) cs two.0 z two.2 two.5 (goes.here two.0.machine)) in
-      let first = both-do c s one.0 two.0 one.1 two.1 t.machine one.4 two.4 before after in
-      let rest = only cs one.0 t z one.2 two.2 one.5 (subst (λ (y : Session N). DoAll q cs y z two.2) first.0 two.5) same in
-      (rest.0, two.3 ∙ ap (λ (r : Reply). r ∷ two.2) first.1 ∙ ap (λ (rs : List Reply). one.1 ∷ rs) rest.1 ∙ sym one.3)
+  only cs s t z replies others one two same =
+      only-before cs s t z replies others t.machine one two (goes.here t.machine) (subst (Before z.machine) same (goes.here z.machine))

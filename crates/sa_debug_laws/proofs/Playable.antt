@@ -13,8 +13,8 @@ use Rattle.sa_laws.specs.Readings.{Readings}
 use Rattle.sa_laws.specs.Record.{after_record}
 use Rattle.sa_laws.specs.History.{Test, begun, after_records, after_event, after_events}
 use Rattle.sa_laws.specs.Rules.{UserRules}
-use Rattle.sa_legal.specs.Fold.{AreLawful}
-use Rattle.sa_check_machine.proofs.NeedLemmas.{can-change}
+use Rattle.sa_histories.specs.Lawful.{AreLawful}
+use Rattle.sa_replay.proofs.NeedLemmas.{can-change}
 use Rattle.sa_debug.specs.Reached.{CanPlay}
 use Rattle.sa_debug.specs.Views.{state_behind}
 

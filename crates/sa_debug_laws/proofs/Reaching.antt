@@ -14,9 +14,9 @@ use Rattle.sa_core_model.specs.Run.{IsMove}
 use Rattle.sa_core_model.specs.Run.Move.{turn}
 use Rattle.sa_core_model.specs.Turn.{turned}
 use Rattle.sa_user_laws.specs.Level.{UserLevel}
-use Rattle.sa_match.proofs.Composed.{IsComposed, composed-goes}
-use Rattle.sa_user_events.proofs.Turns.{composed-turn}
-use Rattle.sa_legal_runs.proofs.Opening.{composed-opening}
+use Rattle.sa_legal_runs.proofs.matching.Composed.{IsComposed, composed-goes}
+use Rattle.sa_legal_runs.proofs.user.Turns.{composed-turn}
+use Rattle.sa_legal_runs.proofs.runs.Opening.{composed-opening}
 use Rattle.sa_debug.specs.Reached.{CanPlay, Reaches, IsPlayable}
 use Rattle.sa_debug_laws.proofs.Playable.{events-play}
 

@@ -31,14 +31,14 @@ use Rattle.sa_core_model.specs.Run.{setting}
 use Rattle.sa_core_model.specs.Standing.{contexts_of}
 use Rattle.sa_core_model.proofs.Phases.{at-owned}
 use Rattle.sa_core_model.proofs.Runs.{local-is}
-use Rattle.sa_fits.proofs.Hands.{split}
-use Rattle.sa_fits.proofs.OneLife.{carried_one}
-use Rattle.sa_fits.specs.Fits.{Holds, FitsThread}
-use Rattle.sa_match.proofs.Composed.{IsComposed, read, moment}
-use Rattle.sa_match.proofs.Begun.{begins-now, acts-at, nobody-runs}
-use Rattle.sa_match.proofs.Shown.{line-reads, owner-reads}
+use Rattle.sa_fast_laws.proofs.relation.Hands.{split}
+use Rattle.sa_fast_laws.proofs.relation.OneLife.{carried_one}
+use Rattle.sa_fast_laws.specs.FastFits.{Holds, FitsThread}
+use Rattle.sa_legal_runs.proofs.matching.Composed.{IsComposed, read, moment}
+use Rattle.sa_legal_runs.proofs.matching.EventBegins.{begins-now, acts-at, nobody-runs}
+use Rattle.sa_legal_runs.proofs.matching.Shown.{line-reads, owner-reads}
 use Rattle.sa_fast_laws.proofs.FastLaws.{fast_level}
-use Rattle.sa_fast_runs.specs.Runs.{FastMachine}
+use Rattle.sa_package_runs.specs.Runs.{FastMachine}
 use Rattle.sa_script.specs.declared.command.Point.{Point}
 use Rattle.sa_debug.specs.OverMachines.{point_of as point_in}
 use Rattle.sa_debug.specs.OverHistories.{is_in, point_of, stands_on}

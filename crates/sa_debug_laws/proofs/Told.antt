@@ -1,5 +1,5 @@
 -- A session of a machine with FastThreads is one of its history.
-use Rattle.std.proofs.Common.{◌≡◌, ℕ, ◌+◌, List, [], ◌∷◌, ◌++◌, length, sym, ap, ◌∙◌, subst, refl, arith}
+use Rattle.std.proofs.Common.{◌≡◌, ℕ, ◌+◌, List, [], ◌∷◌, ◌++◌, length, take, inl, inr, sym, ap, ◌∙◌, subst, refl, arith}
 use Rattle.std.specs.Prelude.{Option}
 use Rattle.sa_base.specs.declared.number.ProcNo.{ProcNo}
 use Rattle.sa_base.specs.declared.record.End.{End}
@@ -15,13 +15,13 @@ use Rattle.sa_laws.specs.State.{State, opening_state}
 use Rattle.sa_core_model.specs.Run.{opening, IsMove}
 use Rattle.sa_core_model.specs.Run.Move.{turn}
 use Rattle.sa_package_model.specs.Step.{fast_calls}
-use Rattle.sa_match.proofs.Composed.{IsComposed, read}
-use Rattle.sa_legal_runs.proofs.Opening.{composed-opening}
-use Rattle.sa_legal_runs.proofs.Runs.{reached-run, reached-opening, events-are, runs-count}
+use Rattle.sa_legal_runs.proofs.matching.Composed.{IsComposed, read}
+use Rattle.sa_legal_runs.proofs.runs.Opening.{composed-opening}
+use Rattle.sa_legal_runs.proofs.runs.LegalRuns.{reached-run, reached-opening, events-are, runs-count}
 use Rattle.sa_fast_laws.proofs.FastLaws.{fast_level}
-use Rattle.sa_fast_runs.specs.Runs.{FastMachine}
-use Rattle.sa_fast_runs.specs.Calls.{IsReachedByTurns}
-use Rattle.sa_fast_runs.proofs.Calls.{start-reaches, reached-legal, reached-strict, reached-ends}
+use Rattle.sa_package_runs.specs.Runs.{FastMachine}
+use Rattle.sa_package_runs.specs.Calls.{IsReachedByTurns}
+use Rattle.sa_package_runs.proofs.Calls.{start-reaches, reached-legal, reached-strict, reached-ends}
 use Rattle.sa_script.specs.declared.command.DebugCommand.{DebugCommand}
 use Rattle.sa_script.specs.declared.reply.Reply.{Reply}
 use Rattle.sa_debug.specs.OverHistories.{AddsTurn, over_histories, opening_items, stands_on, read as read_of}
@@ -29,10 +29,11 @@ use Rattle.sa_debug.specs.OverMachines.{over_machines}
 use Rattle.sa_debug.specs.Session.{Session, fresh, DoAll, DoesSoFar}
 use Rattle.sa_debug.specs.Views.{state_behind, view_in}
 use Rattle.sa_debug_laws.specs.Sessions.{IsSession}
-use Rattle.sa_debug_laws.specs.Told.{Leads, IsTold, by_history}
+use Rattle.sa_debug_laws.specs.Told.{Leads, IsTold, CameSoFar, LeadsSoFar, IsToldSoFar, by_history}
 use Rattle.sa_debug_laws.proofs.Legal.{reached, reached-keeps, by-moves}
 use Rattle.sa_debug_laws.proofs.OneWay.{Begins, histories-go}
 use Rattle.sa_debug_laws.proofs.Only.{only}
+use Rattle.sa_debug_laws.proofs.Partly.{only-partly, common-replies}
 use Rattle.sa_debug_laws.proofs.Playable.{events-state}
 use Rattle.sa_debug_laws.proofs.Reaching.{turn-goes}
 use Rattle.sa_debug_laws.proofs.Showing.{Shows, all-seen, so-far-seen}
@@ -113,3 +114,32 @@ module _ (w : WorkloadView) (budget : ℕ) (ok : IsWorkload w) where
   so-far-told cs s t replies c done comes =
       so-far-seen (over_machines fast_calls budget) (over_histories fast_threads w budget) (λ (m : FastMachine). m.items)
       (IsReachedByTurns w) fast-shows c s t comes (reached w budget cs s replies done)
+
+  -- what came so far is told of its history too
+  came-told : (cs : List DebugCommand) (s : Session FastMachine) (came : CameSoFar (over_machines fast_calls budget) cs (fresh (opening fast_calls w)) s)
+      → LeadsSoFar w budget cs (by_history s)
+  came-told cs s came = record {
+    count = came.count;
+    between = by_history came.between;
+    replies = came.replies;
+    done = leads (take came.count cs) came.between came.replies came.done;
+    last = elim came.last [
+      | inl same ↦ inl (ap (λ (x : Session FastMachine). by_history x) same)
+      | inr part ↦ inr (part.0, part.1, so-far-told (take came.count cs) came.between s came.replies part.0 came.done part.2)
+    ];
+  }
+
+  pub part-told : (cs : List DebugCommand) (s : Session FastMachine) (came : CameSoFar (over_machines fast_calls budget) cs (fresh (opening fast_calls w)) s)
+      → IsToldSoFar w budget cs came.count came.replies (by_history s)
+  unfolding came-told
+  part-told cs s came = record {
+    came = came-told cs s came;
+    count = refl;
+    answers = refl;
+    only = λ t other same as_many.
+        only-partly (over_histories fast_threads w budget) Begins (histories-go fast_threads w budget) cs (fresh (opening_items w)) (by_history s) t
+        (came-told cs s came) other same as_many;
+    common = λ t other same n less also.
+        common-replies (over_histories fast_threads w budget) Begins (histories-go fast_threads w budget) cs (fresh (opening_items w)) (by_history s) t
+        (came-told cs s came) other same n less also;
+  }

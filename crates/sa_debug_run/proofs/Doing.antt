@@ -1,27 +1,26 @@
 -- Command by command.
-use Rattle.std.proofs.Common.{◌≡◌, ℕ, zero, suc, ◌+◌, ◌<◌, ◌≤◌, List, [], ◌∷◌, ◌++◌, length, get_or, take, Option, Some, None, refl, sym, ap, ◌∙◌, subst, inl, inr, arith}
+use Rattle.std.proofs.Common.{◌≡◌, ℕ, ◌+◌, ◌<◌, ◌≤◌, List, [], ◌∷◌, ◌++◌, length, get_or, take, Option, Some, None, refl, sym, ap, ◌∙◌, subst, inl, inr}
 use Rattle.std.specs.Prelude.{unwrap_or}
 use Rattle.std.proofs.lemmas.Grind.{flat_map-append}
-use Rattle.std.proofs.lemmas.List.{append-nil, take_more}
+use Rattle.std.proofs.lemmas.List.{append-nil, take_more, take_all}
 use Rattle.std.proofs.lemmas.Option.{slice_get-get_or}
 use Rattle.sa_base.specs.declared.record.End.{End}
 use Rattle.sa_base.specs.declared.record.End.TheVariants.{Budget}
 use Rattle.sa_base.specs.declared.record.Item.{Item}
 use Rattle.sa_spaces.specs.Workload.{WorkloadView, IsWorkload}
-use Rattle.sa_laws.specs.Rules.{fast_threads}
+use Rattle.sa_laws.specs.Event.{events_of}
 use Rattle.sa_core_model.specs.End.{end_of}
 use Rattle.sa_core_model.specs.Run.{opening}
 use Rattle.sa_package_model.specs.Step.{fast_calls}
-use Rattle.sa_fast_runs.specs.Runs.{FastMachine}
+use Rattle.sa_package_runs.specs.Runs.{FastMachine}
 use Rattle.sa_script.specs.declared.command.DebugCommand.{DebugCommand}
 use Rattle.sa_script.specs.declared.reply.Reply.{Reply}
 use Rattle.sa_script.specs.Reply.{reply_text}
 use Rattle.sa_debug.specs.Session.{Watched, Session, fresh, Does, DoesSoFar, DoAll}
-use Rattle.sa_debug.specs.OverHistories.{over_histories, opening_items}
 use Rattle.sa_debug.specs.OverMachines.{over_machines}
 use Rattle.sa_debug_laws.specs.Sessions.{SessionsAreLegal, SessionsSoFarAreLegal, IsLegalSession}
-use Rattle.sa_debug_laws.specs.Told.{SessionsAreTold, SessionsSoFarAreTold, by_history}
-use Rattle.sa_debug_run.specs.Debugged.{replies_text, AreDone, CameSoFar, told_end, IsOver, RanSoFar}
+use Rattle.sa_debug_laws.specs.Told.{CameSoFar, SessionsAreTold, PartsOfSessionsAreTold}
+use Rattle.sa_debug_run.specs.Debugged.{replies_text, AreDone, told_end, IsOver, RanSoFar}
 
 do-push : {M : Type 0} (o : Watched M) (cs : List DebugCommand) (s between t : Session M) (replies : List Reply) (c : DebugCommand) (reply : Reply)
     → DoAll o cs s between replies → Does o c between t reply → DoAll o (cs ++ c ∷ []) s t (replies ++ reply ∷ [])
@@ -41,12 +40,6 @@ do-push o (d ∷ cs) s between t replies c reply done does = (
   done.4,
   do-push o cs done.0 between t done.2 c reply done.5 does,
 )
-
-take-all : {A : Type 0} (xs : List A) (i : ℕ) → length xs ≤ i → take i xs ≡ xs
-take-all [] zero past = refl
-take-all [] (suc i) past = refl
-take-all (x ∷ xs) zero past = absurd (omega arith)
-take-all (x ∷ xs) (suc i) past = ap (λ ys. x ∷ ys) (take-all xs i (omega arith))
 
 -- nothing was done yet
 pub done-none : (budget : ℕ) (commands : List DebugCommand) (s : Session FastMachine) (text : List ℕ) → text ≡ [] → AreDone budget (take 0 commands) s s text
@@ -71,7 +64,7 @@ done-more budget now commands i d s between t text more reply same within are do
 -- all of them are
 pub done-all : (budget : ℕ) (commands : List DebugCommand) (i : ℕ) (s t : Session FastMachine) (text : List ℕ) → length commands ≤ i
     → AreDone budget (take i commands) s t text → AreDone budget commands s t text
-done-all budget commands i s t text past are = subst (λ cs. AreDone budget cs s t text) (take-all commands i past) are
+done-all budget commands i s t text past are = subst (λ cs. AreDone budget cs s t text) (take_all i commands past) are
 
 -- memory ran out at a command, and after one
 pub came-at : (budget now : ℕ) (commands : List DebugCommand) (i : ℕ) (d : DebugCommand) (s between t : Session FastMachine) (text : List ℕ)
@@ -100,8 +93,8 @@ told-is None = refl
 told-is (Some end) = refl
 
 -- the session that begins at the opening of the workload
-begun : (w : WorkloadView) (m : FastMachine) (s : Session FastMachine) → m ≡ opening fast_calls w → s ≡ fresh m → s ≡ fresh (opening fast_calls w)
-begun w m s opens starts = starts ∙ ap (λ x. (λ (y : Session FastMachine). y) (fresh x)) opens
+from-opening : (w : WorkloadView) (m : FastMachine) (s : Session FastMachine) → m ≡ opening fast_calls w → s ≡ fresh m → s ≡ fresh (opening fast_calls w)
+from-opening w m s opens starts = starts ∙ ap (λ x. (λ (y : Session FastMachine). y) (fresh x)) opens
 
 -- a session that is over, and one that came so far
 pub over-so : (w : WorkloadView) (budget b c : ℕ) (commands : List DebugCommand) (m : FastMachine) (s t : Session FastMachine) (text : List ℕ)
@@ -110,16 +103,18 @@ pub over-so : (w : WorkloadView) (budget b c : ℕ) (commands : List DebugComman
     → AreDone b commands s t text → items ≡ t.machine.items
     → c ≡ b → o ≡ end_of fast_calls c t.machine → end ≡ unwrap_or o Budget → events ≡ t.machine.event → IsOver w budget commands text items end events
 over-so w budget b c commands m s t text items end o events legal tells ok opens starts same are shows kept ended told counts =
-    let first = begun w m s opens starts in
+    let first = from-opening w m s opens starts in
     let done : AreDone budget commands (fresh (opening fast_calls w)) t text =
     subst (λ n. AreDone n commands (fresh (opening fast_calls w)) t text) same (subst (λ x. AreDone b commands x t text) first are) in
+    let lawful : IsLegalSession w budget t.machine = legal w budget commands t done.replies ok done.done in
     record {
       session = t;
       done = done;
       shows = shows;
       ends = told ∙ told-is o ∙ ap told_end (ended ∙ ap (λ n. end_of fast_calls n t.machine) (kept ∙ same));
       counts = counts;
-      legal = legal w budget commands t done.replies ok done.done;
+      counted = ap (λ (xs : List Item). length (events_of xs)) shows ∙ lawful.count ∙ ap (λ (n : ℕ). n + 1) (sym counts);
+      legal = lawful;
       told = tells w budget commands t done.replies ok done.done;
     }
 
@@ -131,28 +126,12 @@ came-legal w budget commands t whole so_far ok came = elim came.last [
   | inr part ↦ so_far w budget (take came.count commands) came.between t came.replies part.0 ok came.done part.2
 ]
 
--- what came so far is told of its history too
-came-told : (w : WorkloadView) (budget : ℕ) (commands : List DebugCommand) (t : Session FastMachine)
-    → SessionsAreTold → SessionsSoFarAreTold → IsWorkload w
-    → CameSoFar (over_machines fast_calls budget) commands (fresh (opening fast_calls w)) t
-    → CameSoFar (over_histories fast_threads w budget) commands (fresh (opening_items w)) (by_history t)
-came-told w budget commands t whole so_far ok came = record {
-  count = came.count;
-  between = by_history came.between;
-  replies = came.replies;
-  done = (whole w budget (take came.count commands) came.between came.replies ok came.done).done;
-  last = elim came.last [
-    | inl same ↦ inl (ap (λ (x : Session FastMachine). by_history x) same)
-    | inr part ↦ inr (part.0, part.1, so_far w budget (take came.count commands) came.between t came.replies part.0 ok came.done part.2)
-  ];
-}
-
 pub partly-so : (w : WorkloadView) (budget b : ℕ) (commands : List DebugCommand) (m : FastMachine) (s t : Session FastMachine) (items : List Item)
-    → SessionsAreLegal → SessionsSoFarAreLegal → SessionsAreTold → SessionsSoFarAreTold → IsWorkload w → m ≡ opening fast_calls w
+    → SessionsAreLegal → SessionsSoFarAreLegal → PartsOfSessionsAreTold → IsWorkload w → m ≡ opening fast_calls w
     → s ≡ fresh m → b ≡ budget → CameSoFar (over_machines fast_calls b) commands s t → items ≡ t.machine.items
     → RanSoFar w budget commands items
-partly-so w budget b commands m s t items whole so_far told told_so_far ok opens starts same came shows =
-    let first = begun w m s opens starts in
+partly-so w budget b commands m s t items whole so_far told ok opens starts same came shows =
+    let first = from-opening w m s opens starts in
     let done : CameSoFar (over_machines fast_calls budget) commands (fresh (opening fast_calls w)) t =
     subst (λ n. CameSoFar (over_machines fast_calls n) commands (fresh (opening fast_calls w)) t) same
     (subst (λ x. CameSoFar (over_machines fast_calls b) commands x t) first came) in
@@ -161,5 +140,5 @@ partly-so w budget b commands m s t items whole so_far told told_so_far ok opens
       came = done;
       shows = shows;
       legal = came-legal w budget commands t whole so_far ok done;
-      told = came-told w budget commands t told told_so_far ok done;
+      told = told w budget commands t ok done;
     })

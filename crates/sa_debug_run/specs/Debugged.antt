@@ -1,24 +1,23 @@
 -- What comes of a session by a script.
-use Rattle.std.specs.Prelude.{◌≡◌, ◌⊎◌, ℕ, List, [], take, slice_get, Option, Some, None, Ok, Err}
+use Rattle.std.specs.Prelude.{◌≡◌, ◌⊎◌, ℕ, ◌+◌, List, [], length, Option, Some, None, Ok, Err}
 use Rattle.std.specs.List.{flat_map}
 use Rattle.sa_base.specs.declared.record.End.{End}
 use Rattle.sa_base.specs.declared.record.End.TheVariants.{Budget}
 use Rattle.sa_base.specs.declared.record.Item.{Item}
 use Rattle.sa_spaces.specs.Workload.{WorkloadView}
-use Rattle.sa_laws.specs.Rules.{fast_threads}
+use Rattle.sa_laws.specs.Event.{events_of}
 use Rattle.sa_core_model.specs.End.{end_of}
 use Rattle.sa_core_model.specs.Run.{opening}
 use Rattle.sa_package_model.specs.Step.{fast_calls}
-use Rattle.sa_fast_runs.specs.Runs.{FastMachine}
+use Rattle.sa_package_runs.specs.Runs.{FastMachine}
 use Rattle.sa_script.specs.declared.command.DebugCommand.{DebugCommand}
 use Rattle.sa_script.specs.declared.reply.Reply.{Reply}
 use Rattle.sa_script.specs.Reading.{script_of}
 use Rattle.sa_script.specs.Reply.{reply_text}
-use Rattle.sa_debug.specs.Session.{Watched, Session, fresh, DoesSoFar, DoAll}
-use Rattle.sa_debug.specs.OverHistories.{over_histories, opening_items}
+use Rattle.sa_debug.specs.Session.{Session, fresh, DoAll}
 use Rattle.sa_debug.specs.OverMachines.{over_machines}
 use Rattle.sa_debug_laws.specs.Sessions.{IsLegalSession}
-use Rattle.sa_debug_laws.specs.Told.{IsTold, by_history}
+use Rattle.sa_debug_laws.specs.Told.{IsTold, CameSoFar, IsToldSoFar, by_history}
 use Rattle.sa_debug_run.specs.declared.run.Undebugged.{Undebugged}
 use Rattle.sa_debug_run.specs.declared.run.Undebugged.TheVariants.{BadScript, OutOfMemory}
 
@@ -32,38 +31,32 @@ pub record AreDone (budget : ℕ) (commands : List DebugCommand) (s t : Session 
   pub done : DoAll (over_machines fast_calls budget) commands s t replies
   pub says : text ≡ replies_text replies
 
--- some of the commands were done, and the next one perhaps in part
-pub record CameSoFar {M : Type 0} (o : Watched M) (commands : List DebugCommand) (s t : Session M) : Type 0 where
-  pub count : ℕ
-  pub between : Session M
-  pub replies : List Reply
-  pub done : DoAll o (take count commands) s between replies
-  pub last : (t ≡ between) ⊎ ((c : DebugCommand) × (slice_get commands count ≡ Some c) × DoesSoFar o c between t)
-
 -- the end that the last line of the trace tells
 abbrev pub told_end : Option End → End
 told_end None = Budget
 told_end (Some end) = end
 
 -- The commands were done from the machine's opening on: these are the texts of the replies, the items of the trace, the end
--- that is told, and the number of events. The trace is a legal and strict run, and it has ended as the definitions say. And a
--- reader of the trace is told the same session: over histories the commands lead to this trace, with the same replies.
+-- that is told, and the number of events, which is that of the trace without the opening. The trace is a legal and strict run,
+-- and it has ended as the definitions say. And a reader of the trace is told the same session: over histories the commands lead
+-- to this trace, with the same replies.
 pub record IsOver (w : WorkloadView) (budget : ℕ) (commands : List DebugCommand) (replies : List ℕ) (items : List Item) (end : End) (events : ℕ) : Type 0 where
   pub session : Session FastMachine
   pub done : AreDone budget commands (fresh (opening fast_calls w)) session replies
   pub shows : items ≡ session.machine.items
   pub ends : end ≡ told_end (end_of fast_calls budget session.machine)
   pub counts : events ≡ session.machine.event
+  pub counted : length (events_of items) ≡ events + 1
   pub legal : IsLegalSession w budget session.machine
   pub told : IsTold w budget commands (by_history session) done.replies
 
--- the same, as far as it came
+-- the same, as far as it came: a reader of the trace is told this session alone, of those that did as many of the commands
 pub record IsPartly (w : WorkloadView) (budget : ℕ) (commands : List DebugCommand) (items : List Item) : Type 0 where
   pub session : Session FastMachine
   pub came : CameSoFar (over_machines fast_calls budget) commands (fresh (opening fast_calls w)) session
   pub shows : items ≡ session.machine.items
   pub legal : IsLegalSession w budget session.machine
-  pub told : CameSoFar (over_histories fast_threads w budget) commands (fresh (opening_items w)) (by_history session)
+  pub told : IsToldSoFar w budget commands came.count came.replies (by_history session)
 
 -- where memory ran out nothing ran, or some of the commands were done
 abbrev pub RanSoFar : WorkloadView → (budget : ℕ) → List DebugCommand → List Item → Type 0

@@ -4,7 +4,8 @@ ghost use Rattle.sa_core.specs.View.{machine};
 ghost use Rattle.sa_debug.specs.OverMachines.{over_machines, session};
 ghost use Rattle.sa_package_model.specs.Step.{fast_calls};
 ghost use Rattle.sa_script.specs.Text.{Fits};
-ghost use Rattle.sa_debug_run.specs.Debugged.{AreDone, CameSoFar};
+ghost use Rattle.sa_debug_laws.specs.Told.{CameSoFar};
+ghost use Rattle.sa_debug_run.specs.Debugged.{AreDone};
 
 use sa_debug::Session;
 use sa_package::FastThreads;

@@ -4,11 +4,11 @@ ghost use Rattle.sa_debug_run.specs.Debugged.{IsOver, RanSoFar, IsDebugged, IsUn
 
 use crate::replies::do_all;
 use sa_base::{Bad, End, MAX_EVENTS, Trace, Unread};
-use sa_check_machine::Replay;
 use sa_core::Core;
 use sa_debug::Session;
 use sa_debug_laws::laws::{fast_threads_can_be_debugged, sessions_are_legal, sessions_are_told};
 use sa_package::FastThreads;
+use sa_replay::Replay;
 use sa_script::laws::scripts_are_read;
 use sa_script::{DebugCommand, read_script};
 use sa_spaces::Workload;

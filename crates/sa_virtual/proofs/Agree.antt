@@ -10,9 +10,9 @@ use Rattle.sa_laws.specs.declared.place.Place.{Place}
 use Rattle.sa_laws.specs.declared.place.Place.TheVariants as places
 use Rattle.sa_laws.specs.State.{SpaceState, put_thread, is_waiting, no_threads}
 use Rattle.sa_laws.specs.Effect.{Effect}
-use Rattle.sa_check_machine.specs.Spaces.{space_in, with_space_in, place_in}
-use Rattle.sa_check_machine.proofs.ChangeLemmas.{is_there, put_own, put_other}
-use Rattle.sa_check_machine.proofs.ShapeLemmas.{was_made}
+use Rattle.sa_replay.specs.Spaces.{space_in, with_space_in, place_in}
+use Rattle.sa_replay.proofs.ChangeLemmas.{is_there, put_own, put_other}
+use Rattle.sa_replay.proofs.ShapeLemmas.{was_made}
 use Rattle.sa_virtual.specs.Holding.{one_where, one_if, kind, numbers, place_no, at_no, Counts, Agrees, AgreesAt, AllAgree}
 use Rattle.sa_virtual.proofs.Effects.{Tells}
 

@@ -22,7 +22,7 @@ use Rattle.sa_laws.specs.declared.place.Place.{Place}
 use Rattle.sa_laws.specs.declared.place.Place.TheVariants as places
 use Rattle.sa_laws.specs.State.{Thread, SpaceState, at_start, with_thread, is_waiting}
 use Rattle.sa_laws.specs.Effect.{Effect, effect, next, next_with, with_sync, answered, sync_effect, fork_effect, end_effect, effect_of}
-use Rattle.sa_check_machine.specs.Space.{CanDo}
+use Rattle.sa_replay.specs.Space.{CanDo}
 use Rattle.sa_sync.proofs.LawLemmas.{waits_parts}
 use Rattle.sa_links.proofs.Counting.{count_set}
 use Rattle.sa_virtual.specs.Holding.{one_where, kind, numbers, place_no}
@@ -102,8 +102,8 @@ module _ (x : SpaceState) (t : ThreadNo) (p : ProcNo) (runs : place_no x t.0 ≡
   runs_on : (after : Thread) (u : ℕ) → is_waiting after.place ≡ false → of_thread t after.place u ≡ 0
   runs_on after u is = ap (λ b. cond (t.0 == u) (one_where b) 0) is ∙ nought_is (t.0 == u)
 
-  goes_on : (after : Thread) → after.place ≡ places.Running p → Tells x (effect (with_thread x t after) [])
-  goes_on after is = alone after x.sync [] (ap kind is) (λ u. omega (arith, runs_on after u (ap is_waiting is)))
+  goes_alone : (after : Thread) → after.place ≡ places.Running p → Tells x (effect (with_thread x t after) [])
+  goes_alone after is = alone after x.sync [] (ap kind is) (λ u. omega (arith, runs_on after u (ap is_waiting is)))
 
   -- a call of what threads wait on
   told : (thread : Thread) (sync : Sync) (answer : SyncAnswer) → thread.place ≡ places.Running p
@@ -126,7 +126,7 @@ module _ (x : SpaceState) (t : ThreadNo) (p : ProcNo) (runs : place_no x t.0 ≡
       let child = at_start program places.Waiting in
       let new = record x { threads = parents ++ child ∷ [] } in
       let size : length parents ≡ made' = length-set x.threads t.0 after in
-      let parent = goes_on after is in
+      let parent = goes_alone after is in
       let there : (u : ℕ) → u < made' → place_no new u ≡ place_no (with_thread x t after) u = λ u below.
       ap (λ (y : Thread). y.place) (get_or_append_left parents (child ∷ []) (at_start 0 places.Done) u (omega (arith, size, below))) in
       let behind : (u : ℕ) → made' ≤ u → place_no new u ≡ (get_or (child ∷ []) (u - made') (at_start 0 places.Done)).place = λ u past.
@@ -170,7 +170,7 @@ module _ (x : SpaceState) (t : ThreadNo) (p : ProcNo) (runs : place_no x t.0 ≡
       (effect (with_thread x t (next_with thread reg (2 ^ 64 - 1))) []) in
       elim (nat_lt made' MAX_THREADS) as (λ b. Tells x (done b)) [
         | true ↦ forked (next_with thread reg made') program is
-        | false ↦ goes_on (next_with thread reg (2 ^ 64 - 1)) is
+        | false ↦ goes_alone (next_with thread reg (2 ^ 64 - 1)) is
       ]
 
   -- the end of a thread
@@ -185,15 +185,15 @@ module _ (x : SpaceState) (t : ThreadNo) (p : ProcNo) (runs : place_no x t.0 ≡
 
   module _ (def : SpaceView) (thread : Thread) (is : thread.place ≡ places.Running p) where
     pub tells_of : (instr : Instr) → CanDo def x t thread instr → Tells x (effect_of x t thread instr)
-    tells_of Compute can = goes_on _ is
-    tells_of (Set reg n) can = goes_on _ is
-    tells_of (Add reg n) can = goes_on _ is
-    tells_of (Sub reg n) can = goes_on _ is
-    tells_of (Jnz reg place) can = goes_on _ is
-    tells_of (Load reg cell) can = goes_on _ is
+    tells_of Compute can = goes_alone _ is
+    tells_of (Set reg n) can = goes_alone _ is
+    tells_of (Add reg n) can = goes_alone _ is
+    tells_of (Sub reg n) can = goes_alone _ is
+    tells_of (Jnz reg place) can = goes_alone _ is
+    tells_of (Load reg cell) can = goes_alone _ is
     tells_of (Store reg cell) can =
         alone (next thread) (stored x.sync cell (reg_value thread.regs reg)) [] (ap kind is) (λ u. omega (arith, runs_on (next thread) u (ap is_waiting is)))
-    tells_of (Out reg) can = goes_on (next thread) is
+    tells_of (Out reg) can = goes_alone (next thread) is
     tells_of (Fork reg program) can = forks thread reg program is
     tells_of (Join reg) can =
         let other' = reg_value thread.regs reg in
@@ -203,6 +203,6 @@ module _ (x : SpaceState) (t : ThreadNo) (p : ProcNo) (runs : place_no x t.0 ≡
     tells_of (Unlock m) can = synced (next thread) (unlocked x.sync t.0 m) is (unlocked_tells x.sync t.0 m (omega (arith, can.named.0, can.declared.mutexes)))
     tells_of (Wait k) can = synced (next thread) (waited x.sync t.0 k) is (waited_tells x.sync t.0 k (omega (arith, can.named.0, can.declared.semaphores)))
     tells_of (Signal k) can = synced (next thread) (signalled x.sync k) is (signalled_tells x.sync t.0 k (omega (arith, can.named.0, can.declared.semaphores)))
-    tells_of (Io length) can = goes_on (next thread) is
-    tells_of (Touch page) can = goes_on (next thread) is
+    tells_of (Io length) can = goes_alone (next thread) is
+    tells_of (Touch page) can = goes_alone (next thread) is
     tells_of End can = ends thread (omega (arith, can.made, can.few, can.joiners))

@@ -15,8 +15,8 @@ use Rattle.sa_laws.specs.declared.place.Place.TheVariants as places
 use Rattle.sa_laws.specs.State.{SpaceState, at_start, thread_in, put_thread, space_def, is_due}
 use Rattle.sa_laws.specs.Life.{Life, has_lock}
 use Rattle.sa_laws.specs.Record.{with_life}
-use Rattle.sa_check_machine.specs.Running.{IsAt, is_settled, can_move}
-use Rattle.sa_check_machine.specs.Spaces.{space_in, with_space_in, place_in}
+use Rattle.sa_replay.specs.Running.{IsAt, is_settled, can_move}
+use Rattle.sa_replay.specs.Spaces.{space_in, with_space_in, place_in}
 use Rattle.sa_virtual.specs.Virtual.{thread_of_life}
 use Rattle.sa_virtual.specs.Holding.{one_if, kind, at_no, threads_of, IsSized, StandWithin, HaveLives}
 use Rattle.sa_virtual.proofs.Agree.{this_space, other_space}

@@ -17,12 +17,12 @@ use Rattle.sa_laws.specs.State.{SpaceState, Runner, placed, placed_if, with_owne
 use Rattle.sa_laws.specs.Life.{held_with}
 use Rattle.sa_laws.specs.Record.{with_life, stopped_with, is_kind_of}
 use Rattle.sa_laws.specs.Step.{NobodyRuns, IsRunner}
-use Rattle.sa_check_machine.specs.Spaces.{place_in}
-use Rattle.sa_check_machine.specs.Index.{runner_at}
-use Rattle.sa_check_machine.specs.Inside.{IsReplay}
-use Rattle.sa_check_machine.proofs.IndexLemmas.{runner, index-finds, runs_within}
-use Rattle.sa_check_machine.proofs.ChangeLemmas.{is_there}
-use Rattle.sa_check_machine.proofs.ReplayLemmas.{leave_kept, owner_kept}
+use Rattle.sa_replay.specs.Spaces.{place_in}
+use Rattle.sa_replay.specs.Index.{runner_at}
+use Rattle.sa_replay.specs.Inside.{IsReplay}
+use Rattle.sa_replay.proofs.IndexLemmas.{runner, index-finds, runs_within}
+use Rattle.sa_replay.proofs.ChangeLemmas.{is_there}
+use Rattle.sa_replay.proofs.ReplayLemmas.{leave_kept, owner_kept}
 use Rattle.sa_virtual.specs.Virtual.{space_of}
 use Rattle.sa_virtual.specs.Holding.{Parts, Holds, Fits, counts_of, threads_of, AllAgree, AreOnce, in_queue, on_processors, in_ios, is_one, is_virtual, holds, holds_for, one_if, one_where, IsOwn}
 use Rattle.sa_virtual.proofs.Agree.{if_at, Moves, moved}

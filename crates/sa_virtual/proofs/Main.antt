@@ -21,10 +21,10 @@ use Rattle.sa_base.specs.declared.record.Item.{Item}
 use Rattle.sa_base.specs.Items.{items_at}
 use Rattle.sa_laws.specs.Event.{Event, items_of, events_of, before_events}
 use Rattle.sa_laws.proofs.Records.{number-kept}
-use Rattle.sa_check_machine.specs.Index.{runner_at}
-use Rattle.sa_check_machine.proofs.IndexLemmas.{runner}
+use Rattle.sa_replay.specs.Index.{runner_at}
+use Rattle.sa_replay.proofs.IndexLemmas.{runner}
 use Rattle.sa_virtual.specs.Virtual.{Virtuals, opening, space_of, list_of, placed_on, ready_of}
-use Rattle.sa_virtual.specs.Turn.{ran, run_of, misses, popped, taken_from, chosen, threads_in, has_some, round_from, stepped, with_step, carried_on, stopped, some_wait, moves_on, goes_on, quantum, turned_by, turned, evicted, event_on, after}
+use Rattle.sa_virtual.specs.Turn.{ran, run_of, misses, popped, taken_from, chosen, threads_in, has_some, round_from, stepped, with_step, carried_on, stopped, some_wait, moves_on, proceeds, quantum, turned_by, turned, evicted, event_on, after}
 use Rattle.sa_virtual.specs.Legal.{IsTurn, AreTurns, run_from}
 use Rattle.sa_virtual.specs.Runs.{RunsAreLegal}
 use Rattle.sa_virtual.specs.Holding.{one_where}
@@ -62,7 +62,7 @@ fewer l t (y ∷ xs) = elim (is_in l y) as (λ b. of_thread t (cond b (y ∷ fil
   | false ↦ omega (arith, fewer l t xs, sum_by-cons (λ (z : Listed). cond (eqb z.thread.0 t.0) 1 0) y xs)
 ]
 
-second : (b c : Bool) → b && c ≡ true → c ≡ true
+pub second : (b c : Bool) → b && c ≡ true → c ≡ true
 second true c is = is
 second false c is = cc
 
@@ -114,7 +114,7 @@ module _ (w : WorkloadView) (valid : IsWorkload w) (e : ℕ) (p : ProcNo) (insid
   moves v good room a at false is =
       steps (with_step a v) (record { stands = good.stands; quiet = good.quiet }) a at room (carried_on v p) (v.work a.0) refl refl
 
-  goes : (v : Virtuals) → Good w v → HasRoom v.base.state.spaces → (o : Option ActNo) → placed_on v p ≡ o → Met w e p v.base (goes_on w v p o)
+  goes : (v : Virtuals) → Good w v → HasRoom v.base.state.spaces → (o : Option ActNo) → placed_on v p ≡ o → Met w e p v.base (proceeds w v p o)
   goes v good room None is = places_first w e p v good inside is
   goes v good room (Some a) is = moves v good room a is (nat_le quantum (v.steps a.0) && some_wait v.queue) refl
 

@@ -15,8 +15,8 @@ use Rattle.sa_laws.specs.declared.place.Place.TheVariants as places
 use Rattle.sa_laws.specs.State.{State, Runner, owner_at, runner_of, placed_if, with_owner}
 use Rattle.sa_laws.specs.Life.{with_cont}
 use Rattle.sa_laws.specs.Record.{with_life, stopped_with}
-use Rattle.sa_check_machine.specs.Index.{runner_at}
-use Rattle.sa_check_machine.proofs.IndexLemmas.{runner}
+use Rattle.sa_replay.specs.Index.{runner_at}
+use Rattle.sa_replay.proofs.IndexLemmas.{runner}
 use Rattle.sa_virtual.specs.Virtual.{Virtuals, space_of, placed_on, thread_of, thread_of_life}
 use Rattle.sa_virtual.specs.Turn.{placing, stopped, carried_on}
 use Rattle.sa_virtual.specs.Holding.{Parts, parts_of, Holds, in_queue, one_if, threads_of}
@@ -39,6 +39,15 @@ quiet_set running p quiet q = elim (cases_eq q.0 p.0) [
 pub same_owners : (a : State) (s : SpaceNo) (t : Option ThreadNo) → (placed_if a s t places.Carried).owners ≡ a.owners
 same_owners a s None = refl
 same_owners a s (Some t) = refl
+
+-- the first of the queue is another one than that of a processor
+pub differs : (w : WorkloadView) (p : ProcNo) (v : Virtuals) (good : Good w v) (a : ActNo) → placed_on v p ≡ Some a → (first : ActNo) (rest : List ActNo)
+    → v.queue ≡ first ∷ rest → first.0 ≢ a.0
+differs w p v good a at first rest queue is =
+    let none = left.not_queued w (parts_of v) good.stands.runners good.stands.holds p a at in
+    let some : in_queue v.queue a.0 ≡ one_if first.0 a.0 + in_queue rest a.0 = ap (λ q. in_queue q a.0) queue ∙ unqueued rest first a.0 in
+    let one : one_if first.0 a.0 ≡ 1 = ap (λ b. cond b 1 0) (eq-eqb first.0 a.0 is) in
+    absurd (omega (arith, none, some, one))
 
 module _ (w : WorkloadView) (e : ℕ) (p : ProcNo) (v : Virtuals) (good : Good w v) (inside : p.0 < w.processors) (few : w.processors ≤ MAX_PROCESSORS)
     (a : ActNo) (at : placed_on v p ≡ Some a) where
@@ -71,19 +80,12 @@ module _ (w : WorkloadView) (e : ℕ) (p : ProcNo) (v : Virtuals) (good : Good w
     free : get_or now.placed p.0 None ≡ None
     free = get_or-set_same v.placed p.0 None None (omega (arith, inside, h.processors))
 
-    other : first.0 ≢ a.0
-    other is =
-        let none = left.not_queued w (parts_of v) good.stands.runners h p a at in
-        let some : in_queue v.queue a.0 ≡ one_if first.0 a.0 + in_queue rest a.0 = ap (λ q. in_queue q a.0) queue ∙ unqueued rest first a.0 in
-        let one : one_if first.0 a.0 ≡ 1 = ap (λ b. cond b 1 0) (eq-eqb first.0 a.0 is) in
-        absurd (omega (arith, none, some, one))
-
     owns_still : owner_at now.state p ≡ Some s
     owns_still = ap (λ owners. get_or owners p.0 None) (same_owners v.base.state s t) ∙ (left.stop_needs w (parts_of v) good.stands.runners h p a at t runs).0
 
     -- its thread is what it was
     same_thread : threads_of now.lives first.0 ≡ thread_of v first
-    same_thread = ap thread_of_life (put-other v.base.lives a.0 first.0 (option_map (stopped_with t) (v.base.lives a.0)) other)
+    same_thread = ap thread_of_life (put-other v.base.lives a.0 first.0 (option_map (stopped_with t) (v.base.lives a.0)) (differs w p v good a at first rest queue))
 
     quiet : IsQuiet (set v.base.running p.0 None)
     quiet = quiet_set v.base.running p good.quiet

@@ -21,10 +21,10 @@ use Rattle.sa_laws.specs.declared.place.Place.TheVariants as places
 use Rattle.sa_laws.specs.State.{SpaceState, Runner, opening_space, no_space, at_start, thread_in, is_waiting, space_def, no_threads}
 use Rattle.sa_laws.specs.Life.{new_life}
 use Rattle.sa_laws.specs.Readings.{Listed, first_listed}
-use Rattle.sa_check_machine.specs.Running.{IsAt}
-use Rattle.sa_check_machine.specs.Sound.{IsSound}
-use Rattle.sa_check_machine.proofs.OpeningLemmas.{opening-sound}
-use Rattle.sa_check_machine.proofs.ReplayLemmas.{opening_kept}
+use Rattle.sa_replay.specs.Running.{IsAt}
+use Rattle.sa_replay.specs.Sound.{IsSound}
+use Rattle.sa_replay.proofs.OpeningLemmas.{opening-sound}
+use Rattle.sa_replay.proofs.ReplayLemmas.{opening_kept}
 use Rattle.sa_virtual.specs.Virtual.{opening, opening_life, virtual, of_place, of_places, opening_queue, space_of}
 use Rattle.sa_virtual.specs.Holding.{parts_of, Holds, IsSized, IsOwn, Agrees, AllAgree, counts_of, threads_of, at_no, place_no, in_queue, on_processors, is_one, holds, carried, listed, worked, one_if, one_where, is_virtual}
 use Rattle.sa_virtual.specs.Turning.{Good, IsBelow, count_at}

@@ -12,13 +12,13 @@ use Rattle.sa_spaces.specs.Workload.{WorkloadView}
 use Rattle.sa_laws.specs.declared.place.Place.TheVariants as places
 use Rattle.sa_laws.specs.State.{State, Runner, placed, placed_if, with_owner, owner_at}
 use Rattle.sa_laws.specs.Step.{NobodyRuns}
-use Rattle.sa_check_machine.specs.Running.{is_running}
-use Rattle.sa_check_machine.specs.Spaces.{place_in}
-use Rattle.sa_check_machine.specs.Index.{runner_at}
-use Rattle.sa_check_machine.specs.Inside.{IsReplay}
-use Rattle.sa_check_machine.proofs.IndexLemmas.{runner, index-finds}
-use Rattle.sa_check_machine.proofs.ChangeLemmas.{is_there}
-use Rattle.sa_check_machine.proofs.ReplayLemmas.{enter_kept, owner_kept}
+use Rattle.sa_replay.specs.Running.{is_running}
+use Rattle.sa_replay.specs.Spaces.{place_in}
+use Rattle.sa_replay.specs.Index.{runner_at}
+use Rattle.sa_replay.specs.Inside.{IsReplay}
+use Rattle.sa_replay.proofs.IndexLemmas.{runner, index-finds}
+use Rattle.sa_replay.proofs.ChangeLemmas.{is_there}
+use Rattle.sa_replay.proofs.ReplayLemmas.{enter_kept, owner_kept}
 use Rattle.sa_virtual.specs.Virtual.{space_of}
 use Rattle.sa_virtual.specs.Holding.{Parts, Holds, Fits, counts_of, threads_of, AreOnce, in_queue, is_one, holds, carried, one_where, one_if}
 use Rattle.sa_virtual.proofs.Agree.{at_self, Moves, moved}

@@ -19,11 +19,11 @@ use Rattle.sa_laws.specs.State.{SpaceState, Runner, placed, thread_at, owner_at,
 use Rattle.sa_laws.specs.Readings.{Listed}
 use Rattle.sa_laws.specs.Record.{is_other_thread}
 use Rattle.sa_laws.specs.Step.{CanBeReady, NobodyRuns}
-use Rattle.sa_check_machine.specs.Running.{can_move, is_running, is_settled}
-use Rattle.sa_check_machine.specs.Spaces.{space_in, place_in}
-use Rattle.sa_check_machine.specs.Index.{runner_at}
-use Rattle.sa_check_machine.proofs.IndexLemmas.{runner, index-finds}
-use Rattle.sa_check_machine.proofs.ReplayLemmas.{put_kept, enter_kept}
+use Rattle.sa_replay.specs.Running.{can_move, is_running, is_settled}
+use Rattle.sa_replay.specs.Spaces.{space_in, place_in}
+use Rattle.sa_replay.specs.Index.{runner_at}
+use Rattle.sa_replay.proofs.IndexLemmas.{runner, index-finds}
+use Rattle.sa_replay.proofs.ReplayLemmas.{put_kept, enter_kept}
 use Rattle.sa_virtual.specs.Virtual.{space_of, list_of}
 use Rattle.sa_virtual.specs.Holding.{Parts, Holds, counts_of, threads_of, on_processors, is_one, listed, worked, numbers, one_if, one_where, kind}
 use Rattle.sa_virtual.proofs.Agree.{if_at, at_self, at_space, at_thread, Moves, moved}

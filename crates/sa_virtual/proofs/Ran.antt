@@ -17,17 +17,17 @@ use Rattle.sa_laws.specs.declared.place.Place.TheVariants as places
 use Rattle.sa_laws.specs.State.{SpaceState, Runner, with_space, thread_at, owner_at, next_instr, space_def, is_waiting, thread_in}
 use Rattle.sa_laws.specs.Effect.{Effect}
 use Rattle.sa_laws.specs.Machine.{next_effect}
-use Rattle.sa_check_machine.specs.Running.{is_running, IsAt}
-use Rattle.sa_check_machine.specs.Space.{CanDo}
-use Rattle.sa_check_machine.specs.Shape.{IsShaped}
-use Rattle.sa_check_machine.specs.Sound.{IsSound}
-use Rattle.sa_check_machine.proofs.ShapeLemmas.{shape, stays_sound, was_made}
-use Rattle.sa_check_machine.specs.Spaces.{space_in, with_space_in, place_in}
-use Rattle.sa_check_machine.specs.Index.{runner_at}
-use Rattle.sa_check_machine.specs.Inside.{IsReplay}
-use Rattle.sa_check_machine.proofs.IndexLemmas.{runner, runs_within}
-use Rattle.sa_check_machine.proofs.ChangeLemmas.{is_there}
-use Rattle.sa_check_machine.proofs.ReplayLemmas.{go_kept, stop_kept}
+use Rattle.sa_replay.specs.Running.{is_running, IsAt}
+use Rattle.sa_replay.specs.Space.{CanDo}
+use Rattle.sa_replay.specs.Shape.{IsShaped}
+use Rattle.sa_replay.specs.Sound.{IsSound}
+use Rattle.sa_replay.proofs.ShapeLemmas.{shape, stays_sound, was_made}
+use Rattle.sa_replay.specs.Spaces.{space_in, with_space_in, place_in}
+use Rattle.sa_replay.specs.Index.{runner_at}
+use Rattle.sa_replay.specs.Inside.{IsReplay}
+use Rattle.sa_replay.proofs.IndexLemmas.{runner, runs_within}
+use Rattle.sa_replay.proofs.ChangeLemmas.{is_there}
+use Rattle.sa_replay.proofs.ReplayLemmas.{go_kept, stop_kept}
 use Rattle.sa_virtual.specs.Virtual.{space_of, list_of}
 use Rattle.sa_virtual.specs.Holding.{Parts, Holds, Fits, IsSized, StandWithin, counts_of, threads_of, AllAgree, worked, numbers, at_no, one_where}
 use Rattle.sa_virtual.proofs.Effects.{Tells, tells_of}

@@ -27,12 +27,12 @@ use Rattle.sa_laws.specs.Life.{with_hand, held_with}
 use Rattle.sa_laws.specs.Readings.{Readings, is_resident}
 use Rattle.sa_laws.specs.Record.{with_life, is_kind_of, blocking, blocking_for, length_behind, length_in, after_record}
 use Rattle.sa_laws.specs.Step.{CanIns, IsTouched, IsMissed, IsValueOf, IsRunner}
-use Rattle.sa_check_machine.specs.Running.{is_running, HasCount, IsAt, CanRun}
-use Rattle.sa_check_machine.specs.Space.{CanDo}
-use Rattle.sa_check_machine.proofs.ShapeLemmas.{can_do}
-use Rattle.sa_check_machine.specs.Spaces.{space_in, with_space_in, place_in}
-use Rattle.sa_check_machine.specs.Index.{runner_at}
-use Rattle.sa_check_machine.proofs.IndexLemmas.{runner}
+use Rattle.sa_replay.specs.Running.{is_running, HasCount, IsAt, CanRun}
+use Rattle.sa_replay.specs.Space.{CanDo}
+use Rattle.sa_replay.proofs.ShapeLemmas.{can_do}
+use Rattle.sa_replay.specs.Spaces.{space_in, with_space_in, place_in}
+use Rattle.sa_replay.specs.Index.{runner_at}
+use Rattle.sa_replay.proofs.IndexLemmas.{runner}
 use Rattle.sa_virtual.specs.Virtual.{Virtuals, space_of, placed_on}
 use Rattle.sa_virtual.specs.Turn.{Turned, ran, misses}
 use Rattle.sa_virtual.specs.Holding.{Parts, parts_of, Holds, Stands, IsOwn, StandWithin, holds, holds_for, one_if, one_where}

@@ -17,7 +17,7 @@ use Rattle.sa_laws.specs.declared.place.Place.{Place}
 use Rattle.sa_laws.specs.State.{State, SpaceState, Thread, put_thread, with_space, space_at, thread_at, placed_if, next_instr, no_threads}
 use Rattle.sa_laws.specs.Effect.{Effect, next, with_sync, answered, effect_of}
 use Rattle.sa_laws.specs.Machine.{next_effect}
-use Rattle.sa_check_machine.specs.Spaces.{with_space_in}
+use Rattle.sa_replay.specs.Spaces.{with_space_in}
 use Rattle.sa_virtual.specs.Turning.{count_at, IsBelow}
 
 set_below : (c : ℕ) (spaces : List SpaceState) (s : SpaceNo) (x : SpaceState) → IsBelow c spaces → ((k : ℕ) → count_at x k ≤ c)

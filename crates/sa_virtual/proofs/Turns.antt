@@ -20,8 +20,8 @@ use Rattle.sa_laws.specs.State.{Runner, owner_at, runner_on, runner_of, with_own
 use Rattle.sa_laws.specs.Life.{Life, with_cont, without_lock, with_first, ran}
 use Rattle.sa_laws.specs.Readings.{Listed}
 use Rattle.sa_laws.specs.Record.{with_life, made_ready, locks, is_kind_of, is_io_of}
-use Rattle.sa_check_machine.specs.Index.{runner_at}
-use Rattle.sa_check_machine.proofs.IndexLemmas.{runner, index-finds}
+use Rattle.sa_replay.specs.Index.{runner_at}
+use Rattle.sa_replay.proofs.IndexLemmas.{runner, index-finds}
 use Rattle.sa_virtual.specs.Virtual.{Virtuals, space_of, list_of, placed_on, thread_of}
 use Rattle.sa_virtual.specs.Turn.{of_io, unblocked, placing, placed_first, pushed, taken_from, carried_on}
 use Rattle.sa_virtual.specs.Holding.{parts_of, Holds, IsOwn, in_ios, is_virtual, one_where, listed}

@@ -15,10 +15,10 @@ use Rattle.sa_laws.specs.Life.{Life, with_hand}
 use Rattle.sa_laws.specs.Readings.{Readings}
 use Rattle.sa_laws.specs.Record.{with_life, one_thread, is_io_of, is_io_of_other}
 use Rattle.sa_laws.specs.Step.{StandsIn, CanUnblock}
-use Rattle.sa_check_machine.specs.Running.{is_running}
-use Rattle.sa_check_machine.specs.Spaces.{place_in}
-use Rattle.sa_check_machine.proofs.ChangeLemmas.{is_there}
-use Rattle.sa_check_machine.proofs.ReplayLemmas.{put_kept}
+use Rattle.sa_replay.specs.Running.{is_running}
+use Rattle.sa_replay.specs.Spaces.{place_in}
+use Rattle.sa_replay.proofs.ChangeLemmas.{is_there}
+use Rattle.sa_replay.proofs.ReplayLemmas.{put_kept}
 use Rattle.sa_virtual.specs.Virtual.{space_of, thread_of_life}
 use Rattle.sa_virtual.specs.Holding.{Parts, Holds, counts_of, threads_of, AllAgree, holds, in_ios, AreOnce, IsOwn}
 use Rattle.sa_virtual.proofs.Agree.{at_self, Moves, moved}

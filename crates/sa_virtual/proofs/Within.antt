@@ -22,7 +22,7 @@ use Rattle.sa_sync.specs.Calls.{Change, locked, unlocked, waited, signalled, joi
 use Rattle.sa_laws.specs.declared.place.Place.TheVariants as places
 use Rattle.sa_laws.specs.State.{Thread, SpaceState, at_start, thread_in, with_thread}
 use Rattle.sa_laws.specs.Effect.{Effect, effect, next, next_with, with_sync, answered, sync_effect, fork_effect, end_effect, effect_of, local_effect}
-use Rattle.sa_check_machine.specs.Running.{IsAt, instr_in}
+use Rattle.sa_replay.specs.Running.{IsAt, instr_in}
 
 -- all threads of a space
 abbrev pub AllAt : SpaceView → SpaceState → Type 0

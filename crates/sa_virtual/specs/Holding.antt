@@ -17,11 +17,11 @@ use Rattle.sa_laws.specs.State.{State, SpaceState, Runner, thread_in, is_waiting
 use Rattle.sa_laws.specs.Life.{Life, has_lock}
 use Rattle.sa_laws.specs.Readings.{Listed}
 use Rattle.sa_laws.specs.Record.{is_io_of}
-use Rattle.sa_check_machine.specs.Running.{IsAt}
+use Rattle.sa_replay.specs.Running.{IsAt}
 use Rattle.sa_laws.specs.State.{space_def}
-use Rattle.sa_check_machine.specs.Spaces.{space_in}
-use Rattle.sa_check_machine.specs.Index.{runner_at}
-use Rattle.sa_check_machine.specs.Inside.{IsReplay}
+use Rattle.sa_replay.specs.Spaces.{space_in}
+use Rattle.sa_replay.specs.Index.{runner_at}
+use Rattle.sa_replay.specs.Inside.{IsReplay}
 use Rattle.sa_virtual.specs.Virtual.{Virtuals, space_of, list_of, thread_of_life}
 
 abbrev pub one_where : Bool → ℕ

@@ -10,7 +10,7 @@ use Rattle.sa_instr.specs.declared.instr.Reg.TheVariants.{R0}
 use Rattle.sa_spaces.specs.Space.{SpaceView}
 use Rattle.sa_spaces.specs.Workload.{WorkloadView}
 use Rattle.sa_laws.specs.Event.{Event}
-use Rattle.sa_legal.specs.Examples.{act}
+use Rattle.sa_histories.specs.Short.{act}
 
 abbrev pub s : ℕ → SpaceNo
 s n = record { 0 = n }

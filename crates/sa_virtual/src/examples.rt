@@ -1,7 +1,7 @@
 //! A short history. No function here does anything.
 ghost use Rattle.std.specs.Prelude.{◌≡◌, Some};
 ghost use Rattle.sa_base.specs.declared.record.End.TheVariants.{AllDone};
-ghost use Rattle.sa_legal.specs.Examples.{smallest};
+ghost use Rattle.sa_histories.specs.Short.{smallest};
 ghost use Rattle.sa_laws.specs.Event.{items_of};
 ghost use Rattle.sa_virtual.specs.Legal.{IsLegalVp, lost_of, EndOfVp};
 ghost use Rattle.sa_virtual.specs.Examples.{smallest_events, smallest_items};

@@ -9,7 +9,7 @@ use Rattle.sa_base.specs.declared.record.End.TheVariants.{AllDone, Stuck, Budget
 use Rattle.sa_spaces.specs.Workload.{WorkloadView, IsWorkload}
 use Rattle.sa_devices.specs.Ios.{due_of, io_no}
 use Rattle.sa_vp_model.specs.Board.{Board, opened}
-use Rattle.sa_vp_model.specs.Turn.{turned, begun, acts}
+use Rattle.sa_vp_model.specs.Turn.{turned, after_evictions, acts}
 use Rattle.sa_vp_model.specs.Needs.{CanAct, CanLose}
 use Rattle.sa_vp_model.specs.End.{end_of, is_done, is_stuck}
 use Rattle.sa_vp_model.specs.Run.{IsRead, TurnIsRead}
@@ -64,16 +64,16 @@ module _ (m : Parts) (budget spare : ℕ) (kept : IsKept m budget spare) (p : Pr
   pub event : m.number ≤ MAX_EVENTS
   event = omega (arith, last, kept.few)
 
-  pub can : CanAct p (begun (board_of m))
+  pub can : CanAct p (after_evictions (board_of m))
   can = can_act m.replay.workload p (board_of m) kept.read inside event
 
-  pub lose : CanLose (acts p (option_map io_no (due_of m.number m.devices.ios.under_way)) (begun (board_of m)))
+  pub lose : CanLose (acts p (option_map io_no (due_of m.number m.devices.ios.under_way)) (after_evictions (board_of m)))
   lose = can_lose m.replay.workload p (board_of m) kept.read inside event
 
   turn_read : TurnIsRead m.replay.workload p (board_of m) (turned p (board_of m)) kept.read
   turn_read = turns_are_read m.replay.workload p (board_of m) kept.read inside event
 
-  pub waits : BlocksByIos (acts p (option_map io_no (due_of m.number m.devices.ios.under_way)) (begun (board_of m)))
+  pub waits : BlocksByIos (acts p (option_map io_no (due_of m.number m.devices.ios.under_way)) (after_evictions (board_of m)))
   waits = read_waits m.replay.workload (turned p (board_of m)) turn_read.read
 
   pub work : CountsWork (board_of m)

@@ -6,3 +6,4 @@ pub mod Kept
 pub mod Reading
 pub mod OpenedBoard
 pub mod Waits
+pub mod Chain

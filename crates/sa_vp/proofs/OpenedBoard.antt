@@ -6,7 +6,7 @@ use Rattle.sa_base.specs.declared.record.Item.{Item}
 use Rattle.sa_spaces.specs.Workload.{WorkloadView}
 use Rattle.sa_links.specs.Lists.{Lists}
 use Rattle.sa_devices.specs.DevicesView.{DevicesView, opening as no_ios}
-use Rattle.sa_check_machine.specs.Replayed.{Replayed, opened as replay_opened}
+use Rattle.sa_replay.specs.Replayed.{Replayed, opened as replay_opened}
 use Rattle.sa_vp_model.specs.declared.limits.TheConstants.{VIRTUALS}
 use Rattle.sa_vp_model.specs.Board.{Board, opened, empty, first_ready}
 use Rattle.sa_vp.specs.declared.board.Parts.{Parts}

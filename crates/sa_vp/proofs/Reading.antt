@@ -10,7 +10,7 @@ use Rattle.sa_base.specs.declared.record.Record.TheVariants.{Run, Cont}
 use Rattle.sa_spaces.specs.Workload.{WorkloadView}
 use Rattle.sa_links.specs.Lists.{Lists}
 use Rattle.sa_laws.specs.State.{State}
-use Rattle.sa_check_machine.specs.Needs.{CanChange}
+use Rattle.sa_replay.specs.Needs.{CanChange}
 use Rattle.sa_vp_model.specs.Board.{no_lists}
 use Rattle.sa_vp_model.specs.Turn.{thread, picked, is_some_list}
 

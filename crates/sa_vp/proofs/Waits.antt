@@ -13,7 +13,7 @@ use Rattle.sa_spaces.specs.Workload.{WorkloadView}
 use Rattle.sa_devices.specs.Ios.{Io}
 use Rattle.sa_laws.specs.declared.place.Place.TheVariants as places
 use Rattle.sa_laws.specs.State.{Thread, space_at, at_start}
-use Rattle.sa_check_machine.specs.Counts.{is_ready, count_in}
+use Rattle.sa_replay.specs.Counts.{is_ready, count_in}
 use Rattle.sa_links.specs.Lists.{Lists}
 use Rattle.sa_virtual.specs.Virtual.{space_of, list_of}
 use Rattle.sa_virtual.specs.Turn.{round_from}

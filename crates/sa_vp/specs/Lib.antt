@@ -3,3 +3,4 @@ pub mod View
 pub mod Room
 pub mod Opening
 pub mod Waits
+pub mod Run

@@ -5,9 +5,9 @@ ghost use Rattle.sa_base.specs.declared.limits.TheConstants.{MAX_EVENTS, MAX_THR
 ghost use Rattle.sa_devices.specs.declared.kind.IoKind.TheVariants.{Plain, Page};
 ghost use Rattle.sa_devices.specs.Ios.{Io, io_at};
 ghost use Rattle.sa_instr.specs.declared.instr.Instr.TheVariants.{Io as IoOf, Out as OutOf};
-ghost use Rattle.sa_check_machine.specs.Needs.{CanChange, IsOverfull};
+ghost use Rattle.sa_replay.specs.Needs.{CanChange, IsOverfull};
 ghost use Rattle.sa_laws.specs.State.{thread_at};
-ghost use Rattle.sa_check_machine.specs.Replayed.{after};
+ghost use Rattle.sa_replay.specs.Replayed.{after};
 ghost use Rattle.sa_virtual.specs.Virtual.{space_of, list_of};
 ghost use Rattle.sa_virtual.specs.Turn.{of_io, round_from};
 ghost use Rattle.sa_vp_model.specs.Board.{of_space, list_in, with_list_in, queued, said};
@@ -21,10 +21,10 @@ use crate::numbers::{blocked_by, list_of, space_of};
 use crate::queue::put_behind;
 use crate::ready::Ready;
 use sa_base::{ActNo, IoNo, MAX_THREADS, ProcNo, Record, SpaceNo, ThreadNo, Trace, has_page};
-use sa_check_machine::Replay;
 use sa_devices::{Devices, IoKind};
 use sa_instr::{Instr, Reg};
 use sa_links::Links;
+use sa_replay::Replay;
 
 /// The items of an event at most.
 pub(crate) const EVENT_ITEMS: usize = 3;

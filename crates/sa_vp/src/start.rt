@@ -10,9 +10,9 @@ use crate::board::Parts;
 use crate::queue::{fill, opening_numbers};
 use crate::ready::Ready;
 use sa_base::{ActNo, MAX_THREADS, ProcNo, ThreadNo, Trace};
-use sa_check_machine::Replay;
 use sa_devices::Devices;
 use sa_links::Links;
+use sa_replay::Replay;
 use sa_spaces::Workload;
 use sa_vp_model::VIRTUALS;
 use std::alloc::{AllocError, Global};
@@ -132,10 +132,10 @@ impl Parts {
         ensures { IfOk result (λ m. board_of m ≡ opened w.now) }
     {
         w.ranges();
-        let replay = Replay::start(alloc, w)?;
-        let devices = Devices::new(alloc, w)?;
-        let rows = opening_rows(alloc, w)?;
         let tables = opening_tables(alloc, w.spaces().len(), w.processors())?;
+        let rows = opening_rows(alloc, w)?;
+        let devices = Devices::new(alloc, w)?;
+        let replay = Replay::start(alloc, w)?;
         Ok(Parts {
             replay,
             devices,

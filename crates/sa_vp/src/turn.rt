@@ -4,7 +4,7 @@ ghost use Rattle.std.specs.List.{range_with_len};
 ghost use Rattle.std.specs.Option.{option_map};
 ghost use Rattle.sa_base.specs.declared.limits.TheConstants.{MAX_EVENTS, MAX_SPACES};
 ghost use Rattle.sa_devices.specs.Ios.{due_of, io_no};
-ghost use Rattle.sa_vp_model.specs.Turn.{begun, acts, counted, loses, loss, turned, has_had_its_turn};
+ghost use Rattle.sa_vp_model.specs.Turn.{after_evictions, acts, counted, loses, loss, turned, has_had_its_turn};
 ghost use Rattle.sa_vp_model.specs.Needs.{CanAct, CanLose};
 ghost use Rattle.sa_vp_model.specs.End.{is_done, is_stuck};
 ghost use Rattle.sa_vp.specs.View.{board_of};
@@ -13,7 +13,7 @@ ghost use Rattle.sa_vp.specs.Waits.{BlocksByIos, CountsWork};
 
 use crate::board::{EVENT_ITEMS, Parts};
 use sa_base::{ActNo, ProcNo, SpaceNo, Trace};
-use sa_check_machine::Replay;
+use sa_replay::Replay;
 
 /// How many steps a virtual processor makes at most while others wait.
 pub(crate) const QUANTUM: u32 = 100;
@@ -79,11 +79,11 @@ impl Parts {
 
     /// One event of the processor.
     pub(crate) fn turn(&mut self, p: ProcNo)
-        requires can { CanAct p (begun (board_of self.old)) }
+        requires can { CanAct p (after_evictions (board_of self.old)) }
         requires counted { CountsWork (board_of self.old) }
         requires few { self.old.number ≤ MAX_EVENTS }
-        requires lose { CanLose (acts p (option_map io_no (due_of self.old.number self.old.devices.ios.under_way)) (begun (board_of self.old))) }
-        requires ios { BlocksByIos (acts p (option_map io_no (due_of self.old.number self.old.devices.ios.under_way)) (begun (board_of self.old))) }
+        requires lose { CanLose (acts p (option_map io_no (due_of self.old.number self.old.devices.ios.under_way)) (after_evictions (board_of self.old))) }
+        requires ios { BlocksByIos (acts p (option_map io_no (due_of self.old.number self.old.devices.ios.under_way)) (after_evictions (board_of self.old))) }
         requires io { 1 ≤ self.old.devices.ios.spare }
         requires room { EVENT_ITEMS ≤ self.old.trace.spare }
         ensures board { board_of self.new ≡ turned p (board_of self.old) }

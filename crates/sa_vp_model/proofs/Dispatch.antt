@@ -1,5 +1,5 @@
 -- A processor can act on each board that is read.
-use Rattle.std.proofs.Common.{◌≡◌, ℕ, ◌<◌, ◌≤◌, Bool, true, false, nat_le, ◌&&◌, List, [], ◌∷◌, slice_get, Option, Some, None, refl, sym, ap, subst, ◌∙◌, arith}
+use Rattle.std.proofs.Common.{◌≡◌, ℕ, ◌<◌, ◌≤◌, nat_le, List, [], ◌∷◌, slice_get, Option, Some, None, refl, sym, ap, subst, ◌∙◌, arith}
 use Rattle.std.specs.Option.{option_map}
 use Rattle.std.proofs.lemmas.Option.{same_Some}
 use Rattle.sa_base.specs.declared.number.ProcNo.{ProcNo}
@@ -14,8 +14,9 @@ use Rattle.sa_virtual.specs.Virtual.{Virtuals, placed_on}
 use Rattle.sa_virtual.specs.Turn as rules
 use Rattle.sa_virtual.specs.Holding.{numbers}
 use Rattle.sa_virtual.specs.Turning.{Good, HasRoom}
+use Rattle.sa_virtual.proofs.Main.{second}
 use Rattle.sa_vp_model.specs.Board.{Board, act_numbers}
-use Rattle.sa_vp_model.specs.Turn.{act, begun, thread}
+use Rattle.sa_vp_model.specs.Turn.{act, after_evictions, thread}
 use Rattle.sa_vp_model.specs.Mirror.{Own, board_of, Fits, IsBounded}
 use Rattle.sa_vp_model.specs.Needs.{CanAct, CanStep, CanRunOn, CanReady, CanComeBack, CanPlaceOn}
 use Rattle.sa_vp_model.specs.Run.{IsRead}
@@ -43,10 +44,6 @@ module _ (w : WorkloadView) (valid : IsWorkload w) (v : Virtuals) (good : Good w
     go : (q : List ActNo) → v.queue ≡ q → slice_get (act_numbers q) 0 ≡ Some a → CanPlaceOn p (act a) (board_of w v x)
     go [] is e = cc
     go (b ∷ rest) is e = subst (λ n. CanPlaceOn p (act n) (board_of w v x)) (same_Some _ _ e) (safe.places_it w valid v good x fits p inside b rest free is)
-
-  second : (c d : Bool) → c && d ≡ true → d ≡ true
-  second true d e = e
-  second false d e = cc
 
   -- a step
   module _ (a : ActNo) (at : placed_on v p ≡ Some a) where
@@ -99,9 +96,9 @@ module _ (w : WorkloadView) (valid : IsWorkload w) (v : Virtuals) (good : Good w
   }
 
 -- a board that is read can act at each turn
-pub can_act : (w : WorkloadView) (p : ProcNo) (b : Board) → IsRead w b → p.0 < w.processors → b.number ≤ MAX_EVENTS → CanAct p (begun b)
+pub can_act : (w : WorkloadView) (p : ProcNo) (b : Board) → IsRead w b → p.0 < w.processors → b.number ≤ MAX_EVENTS → CanAct p (after_evictions b)
 can_act w p b read inside few =
-    subst (λ (c : Board). CanAct p (begun c)) (sym read.is)
+    subst (λ (c : Board). CanAct p (after_evictions c)) (sym read.is)
     (acts w read.valid (turns.now w p b read inside few) (turns.good w p b read inside few) read.own (turns.fits w p b read inside few) p inside
     (turns.room w p b read inside few) refl (omega (arith, few, turns.number_is w p b read inside few))
     (record { begun = read.bounded.begun; steps = read.bounded.steps; blocked = read.bounded.blocked; lost = read.bounded.lost; due = read.bounded.due }))

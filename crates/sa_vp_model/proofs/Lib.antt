@@ -1,5 +1,6 @@
 pub mod Ios
 pub mod Tables
+pub mod Fitting
 pub mod Follows
 pub mod Unblocked
 pub mod Placed

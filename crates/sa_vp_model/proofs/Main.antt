@@ -12,11 +12,9 @@ use Rattle.sa_base.specs.declared.limits.TheConstants.{MAX_PROCESSORS, MAX_SPACE
 use Rattle.sa_spaces.specs.Workload.{WorkloadView, IsWorkload}
 use Rattle.sa_devices.specs.Ios.{Io, due_of, io_no}
 use Rattle.sa_lemmas.specs.Function.{put}
-use Rattle.sa_laws.specs.declared.place.Place.TheVariants as places
 use Rattle.sa_laws.specs.State.{runner_of}
 use Rattle.sa_virtual.specs.Virtual.{Virtuals, space_of, placed_on}
 use Rattle.sa_virtual.specs.Turn as rules
-use Rattle.sa_virtual.specs.Legal as legal
 use Rattle.sa_virtual.specs.Holding.{numbers, in_queue, one_if, one_where, is_virtual, parts_of}
 use Rattle.sa_virtual.specs.Turning.{Good, HasRoom}
 use Rattle.sa_virtual.proofs.Sums.{unqueued}
@@ -24,8 +22,9 @@ use Rattle.sa_virtual.proofs.Pushed.{placed_once}
 use Rattle.sa_virtual.proofs.Turns.{carrier}
 use Rattle.sa_vp_model.specs.declared.limits.TheConstants.{VIRTUALS}
 use Rattle.sa_vp_model.specs.Board.{Board, act_numbers}
-use Rattle.sa_vp_model.specs.Turn.{acts, goes_on, has_had_its_turn, is_some_list, moves_on, steps, steps_on}
+use Rattle.sa_vp_model.specs.Turn.{acts, proceeds, has_had_its_turn, is_some_list, moves_on, steps, steps_on}
 use Rattle.sa_vp_model.specs.Mirror.{Own, board_of, Fits}
+use Rattle.sa_vp_model.proofs.Fitting.{fit, threads-of, ready-of, work-of, blocked-of}
 use Rattle.sa_vp_model.proofs.Tables.{table_put}
 use Rattle.sa_vp_model.proofs.Follows.{Follows, Goes}
 use Rattle.sa_vp_model.proofs.Unblocked.{unblocks}
@@ -91,22 +90,8 @@ module _ (w : WorkloadView) (valid : IsWorkload w) (p : ProcNo) (inside : p.0 < 
         ∙ ap (λ f. put f a.0 (f a.0 + 1)) fits.steps
 
     pub fits' : Fits w now more
-    fits' = record {
-      threads = fits.threads;
-      steps = steps_are;
-      ready = fits.ready;
-      work = fits.work;
-      blocked = fits.blocked;
-      due = fits.due;
-      numbered = fits.numbered;
-      many_threads = fits.many_threads;
-      many_steps = length-set x.steps a.0 (get_or x.steps a.0 0 + 1) ∙ fits.many_steps;
-      many_ready = fits.many_ready;
-      many_work = fits.many_work;
-      many_blocked = fits.many_blocked;
-      many_lost = fits.many_lost;
-      many_pages = fits.many_pages;
-    }
+    fits' = fit (threads-of fits) (steps_are, length-set x.steps a.0 (get_or x.steps a.0 0 + 1) ∙ fits.many_steps) (ready-of fits)
+        (work-of fits) (blocked-of fits) fits.numbered fits.many_lost fits.many_pages
 
     abbrev step : List ℕ → Option ThreadNo → Board
     step ts t = steps_on p a (slice_get ts 0) t (board_of w now more)
@@ -166,7 +151,7 @@ module _ (w : WorkloadView) (valid : IsWorkload w) (p : ProcNo) (inside : p.0 < 
   turn_same a = ap (λ (f : ℕ → ℕ). nat_le rules.quantum (f a.0) && is_some_list (act_numbers v.queue)) fits.steps
       ∙ ap (λ b. nat_le rules.quantum (v.steps a.0) && b) (waits_same v.queue)
 
-  goes : (o : Option ActNo) → placed_on v p ≡ o → Goes w p v (rules.goes_on w v p o) x (goes_on p o (board_of w v x))
+  goes : (o : Option ActNo) → placed_on v p ≡ o → Goes w p v (rules.proceeds w v p o) x (proceeds p o (board_of w v x))
   goes None is = plainly _ _ (places_it w p v good x fits v.queue refl (all_small w valid v good))
   goes (Some a) is =
       subst (λ b. Goes w p v (rules.moves_on w v p a (nat_le rules.quantum (v.steps a.0) && rules.some_wait v.queue)) x (moves_on p a b (board_of w v x)))

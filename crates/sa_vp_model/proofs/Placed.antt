@@ -24,6 +24,7 @@ use Rattle.sa_vp_model.specs.declared.limits.TheConstants.{VIRTUALS}
 use Rattle.sa_vp_model.specs.Board.{Board, act_numbers, said}
 use Rattle.sa_vp_model.specs.Turn.{continued, places, places_first}
 use Rattle.sa_vp_model.specs.Mirror.{Own, board_of, Fits}
+use Rattle.sa_vp_model.proofs.Fitting.{StepsFit, fit, threads-of, steps-of, ready-of, work-of, blocked-of}
 use Rattle.sa_vp_model.proofs.Tables.{table_put}
 use Rattle.sa_vp_model.proofs.Follows.{Follows}
 
@@ -39,6 +40,14 @@ zero_most xs i k = elim (cases_eq k i) [
 
 abbrev pub item : Virtuals → ProcNo → Record → Item
 item v p what = record { event = v.base.number; proc = p; what = what }
+
+-- one that is placed begins to count its steps
+pub restarted : (w : WorkloadView) (v : Virtuals) (x : Own) → Fits w v x → (a : ActNo) → a.0 < VIRTUALS
+    → StepsFit (record v { steps = put v.steps a.0 0 }) (record x { steps = set x.steps a.0 0 })
+restarted w v x fits a within = (
+  table_put x.steps a.0 0 0 (omega (arith, within, fits.many_steps)) ∙ ap (λ f. put f a.0 0) fits.steps,
+  length-set x.steps a.0 0 ∙ fits.many_steps,
+)
 
 -- the board with this queue
 abbrev pub queue_of : WorkloadView → Virtuals → Own → List ℕ → Board
@@ -64,12 +73,6 @@ module _ (w : WorkloadView) (p : ProcNo) (v : Virtuals) (good : Good w v) (x : O
     abbrev turn : Option ThreadNo → Turned
     turn t = placing p (owner_at v.base.state p) t a [] rest v
 
-    steps : (λ b. get_or (set x.steps a.0 0) b 0) ≡ put v.steps a.0 0
-    steps = table_put x.steps a.0 0 0 (omega (arith, within, fits.many_steps)) ∙ ap (λ f. put f a.0 0) fits.steps
-
-    many : length (set x.steps a.0 0) ≡ VIRTUALS
-    many = length-set x.steps a.0 0 ∙ fits.many_steps
-
     goes_on_with : (t : Option ThreadNo) → thread_of v a ≡ t → places p a (queue_of w v x (act_numbers rest)) ≡ continued p s t (said p move before)
     goes_on_with t is = ap (λ u. continued p s u (said p move before)) (held a ∙ is)
 
@@ -77,22 +80,8 @@ module _ (w : WorkloadView) (p : ProcNo) (v : Virtuals) (good : Good w v) (x : O
     placed_with None is = record {
       own = own (x.items ++ item v p move ∷ []);
       is = goes_on_with None is;
-      fits = record {
-        threads = fits.threads;
-        steps = steps;
-        ready = fits.ready;
-        work = fits.work;
-        blocked = fits.blocked;
-        due = fits.due;
-        numbered = fits.numbered;
-        many_threads = fits.many_threads;
-        many_steps = many;
-        many_ready = fits.many_ready;
-        many_work = fits.many_work;
-        many_blocked = fits.many_blocked;
-        many_lost = fits.many_lost;
-        many_pages = fits.many_pages;
-      };
+      fits = fit (threads-of fits) (restarted w v x fits a within) (ready-of fits) (work-of fits) (blocked-of fits) fits.numbered fits.many_lost
+          fits.many_pages;
       lost = refl;
       items = refl;
       begun = omega arith;
@@ -103,22 +92,8 @@ module _ (w : WorkloadView) (p : ProcNo) (v : Virtuals) (good : Good w v) (x : O
     placed_with (Some t) is = record {
       own = own ((x.items ++ item v p move ∷ []) ++ item v p (rec.Cont s (Some t)) ∷ []);
       is = goes_on_with (Some t) is;
-      fits = record {
-        threads = fits.threads ∙ sym (ap (λ o. threads_of (with_life (with_cont true) o v.base.lives)) (good.quiet p));
-        steps = steps;
-        ready = fits.ready;
-        work = fits.work;
-        blocked = fits.blocked;
-        due = fits.due;
-        numbered = fits.numbered;
-        many_threads = fits.many_threads;
-        many_steps = many;
-        many_ready = fits.many_ready;
-        many_work = fits.many_work;
-        many_blocked = fits.many_blocked;
-        many_lost = fits.many_lost;
-        many_pages = fits.many_pages;
-      };
+      fits = fit (fits.threads ∙ sym (ap (λ o. threads_of (with_life (with_cont true) o v.base.lives)) (good.quiet p)), fits.many_threads)
+          (restarted w v x fits a within) (ready-of fits) (work-of fits) (blocked-of fits) fits.numbered fits.many_lost fits.many_pages;
       lost = refl;
       items = append_assoc x.items (item v p move ∷ []) (item v p (rec.Cont s (Some t)) ∷ []);
       begun = omega arith;
@@ -135,22 +110,8 @@ module _ (w : WorkloadView) (p : ProcNo) (v : Virtuals) (good : Good w v) (x : O
   places_it [] is small = record {
     own = record x { items = x.items ++ item v p rec.Tick ∷ [] };
     is = ap begins is ∙ ap (λ q. said p rec.Tick (queue_of w v x (act_numbers q))) (sym is);
-    fits = record {
-      threads = fits.threads;
-      steps = fits.steps;
-      ready = fits.ready;
-      work = fits.work;
-      blocked = fits.blocked;
-      due = fits.due;
-      numbered = fits.numbered;
-      many_threads = fits.many_threads;
-      many_steps = fits.many_steps;
-      many_ready = fits.many_ready;
-      many_work = fits.many_work;
-      many_blocked = fits.many_blocked;
-      many_lost = fits.many_lost;
-      many_pages = fits.many_pages;
-    };
+    fits = fit (threads-of fits) (steps-of fits) (ready-of fits) (work-of fits) (blocked-of fits) fits.numbered fits.many_lost
+        fits.many_pages;
     lost = refl;
     items = refl;
     begun = omega arith;

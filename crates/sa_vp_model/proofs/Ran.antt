@@ -25,8 +25,8 @@ use Rattle.sa_laws.specs.Machine.{next_effect}
 use Rattle.sa_laws.specs.Life.{with_hand, held_with}
 use Rattle.sa_laws.specs.Readings.{Readings, life_of, is_resident}
 use Rattle.sa_laws.specs.Record.{Blocking, after_record, with_life, blocking, blocking_for, length_behind, locks_one, page_in}
-use Rattle.sa_check_machine.specs.Index.{runner_at}
-use Rattle.sa_check_machine.proofs.IndexLemmas.{runner}
+use Rattle.sa_replay.specs.Index.{runner_at}
+use Rattle.sa_replay.proofs.IndexLemmas.{runner}
 use Rattle.sa_virtual.specs.Virtual.{Virtuals, space_of, list_of, placed_on}
 use Rattle.sa_virtual.specs.Turn.{Turned, ran, run_of, misses}
 use Rattle.sa_virtual.specs.Legal.{is_of}
@@ -38,6 +38,7 @@ use Rattle.sa_vp_model.specs.declared.limits.TheConstants.{VIRTUALS}
 use Rattle.sa_vp_model.specs.Board.{list_in, with_list_in}
 use Rattle.sa_vp_model.specs.Turn.{blocks, goes, ends_with, missed_page, runs_on, runs, one_more}
 use Rattle.sa_vp_model.specs.Mirror.{Own, board_of, Fits, AreLists, rows, total}
+use Rattle.sa_vp_model.proofs.Fitting.{fit, steps-of, ready-of, work-of, blocked-of}
 use Rattle.sa_vp_model.proofs.Ios.{numbered_more}
 use Rattle.sa_vp_model.proofs.Tables.{table_put, many_with, total_with}
 use Rattle.sa_vp_model.proofs.Roused.{few as few_threads}
@@ -164,24 +165,14 @@ module _ (w : WorkloadView) (valid : IsWorkload w) (p : ProcNo) (v : Virtuals) (
             evictions = w.evictions;
           };
     }) (sym for);
-    fits = record {
-      threads = blocked_threads w v good x fits a there small t;
-      steps = fits.steps;
-      ready = fits.ready;
-      work = fits.work;
-      blocked =
+    fits = fit (blocked_threads w v good x fits a there small t, length-set x.threads a.0 (Some t) ∙ fits.many_threads) (steps-of fits)
+        (ready-of fits) (work-of fits) (
           blocked_more w v good x fits a there small t r.under_way (let b = blocking w r s (Some t) a in
-          with_io' b.kind b.length) refl (λ q. ap (λ (b : Blocking). one_where (is_of (record { 0 = q }) b.kind)) for);
-      due = fits.due;
-      numbered = numbered_more r.begun r.under_way (let b = blocking w r s (Some t) a in with_io' b.kind b.length) refl fits.numbered;
-      many_threads = length-set x.threads a.0 (Some t) ∙ fits.many_threads;
-      many_steps = fits.many_steps;
-      many_ready = fits.many_ready;
-      many_work = fits.many_work;
-      many_blocked = length-set x.blocked s.0 (get_or x.blocked s.0 0 + 1) ∙ fits.many_blocked;
-      many_lost = fits.many_lost;
-      many_pages = fits.many_pages;
-    };
+              with_io' b.kind b.length) refl (λ q. ap (λ (b : Blocking). one_where (is_of (record { 0 = q }) b.kind)) for),
+          length-set x.blocked s.0 (get_or x.blocked s.0 0 + 1) ∙ fits.many_blocked,
+        )
+        (numbered_more r.begun r.under_way (let b = blocking w r s (Some t) a in with_io' b.kind b.length) refl fits.numbered)
+        fits.many_lost fits.many_pages;
     lost = refl;
     items = append_assoc x.items (item v p (rec.Block s (Some t) a (record { 0 = r.begun })) ∷ []) (item v p (rec.Move (Some s) None) ∷ []);
     begun = omega arith;
@@ -234,22 +225,8 @@ module _ (w : WorkloadView) (valid : IsWorkload w) (p : ProcNo) (v : Virtuals) (
   plainly = record {
     own = went_own;
     is = refl;
-    fits = record {
-      threads = fits.threads ∙ stays;
-      steps = fits.steps;
-      ready = fits.ready;
-      work = works;
-      blocked = fits.blocked;
-      due = due;
-      numbered = fits.numbered;
-      many_threads = fits.many_threads;
-      many_steps = fits.many_steps;
-      many_ready = fits.many_ready;
-      many_work = many_work';
-      many_blocked = fits.many_blocked;
-      many_lost = fits.many_lost;
-      many_pages = fits.many_pages;
-    };
+    fits = fit (fits.threads ∙ stays, fits.many_threads) (steps-of fits) (ready-of fits) (works, due, many_work') (blocked-of fits)
+        fits.numbered fits.many_lost fits.many_pages;
     lost = refl;
     items = refl;
     begun = omega arith;
@@ -266,22 +243,8 @@ module _ (w : WorkloadView) (valid : IsWorkload w) (p : ProcNo) (v : Virtuals) (
   outs reg = record {
     own = record went_own { items = went_own.items ++ item v p (rec.Out s t (reg_value thread.regs reg)) ∷ [] };
     is = refl;
-    fits = record {
-      threads = fits.threads ∙ stays;
-      steps = fits.steps;
-      ready = fits.ready;
-      work = works;
-      blocked = fits.blocked;
-      due = due;
-      numbered = fits.numbered;
-      many_threads = fits.many_threads;
-      many_steps = fits.many_steps;
-      many_ready = fits.many_ready;
-      many_work = many_work';
-      many_blocked = fits.many_blocked;
-      many_lost = fits.many_lost;
-      many_pages = fits.many_pages;
-    };
+    fits = fit (fits.threads ∙ stays, fits.many_threads) (steps-of fits) (ready-of fits) (works, due, many_work') (blocked-of fits)
+        fits.numbered fits.many_lost fits.many_pages;
     lost = refl;
     items = append_assoc x.items (item v p (rec.Ins s t thread.pc) ∷ []) (item v p (rec.Out s t (reg_value thread.regs reg)) ∷ []);
     begun = omega arith;
@@ -327,24 +290,14 @@ module _ (w : WorkloadView) (valid : IsWorkload w) (p : ProcNo) (v : Virtuals) (
               evictions = w.evictions;
             };
       }) (sym for_io);
-      fits = record {
-        threads = io_threads;
-        steps = fits.steps;
-        ready = fits.ready;
-        work = works;
-        blocked =
+      fits = fit (io_threads, length-set x.threads a.0 (Some t) ∙ fits.many_threads) (steps-of fits) (ready-of fits)
+          (works, due, many_work') (
             blocked_more w v good x fits a there small t r.under_way (let b = blocking w mid s (Some t) a in
-            with_io' b.kind b.length) refl (λ q. ap (λ (b : Blocking). one_where (is_of (record { 0 = q }) b.kind)) for_io);
-        due = due;
-        numbered = numbered_more r.begun r.under_way (let b = blocking w mid s (Some t) a in with_io' b.kind b.length) refl fits.numbered;
-        many_threads = length-set x.threads a.0 (Some t) ∙ fits.many_threads;
-        many_steps = fits.many_steps;
-        many_ready = fits.many_ready;
-        many_work = many_work';
-        many_blocked = length-set x.blocked s.0 (get_or x.blocked s.0 0 + 1) ∙ fits.many_blocked;
-        many_lost = fits.many_lost;
-        many_pages = fits.many_pages;
-      };
+                with_io' b.kind b.length) refl (λ q. ap (λ (b : Blocking). one_where (is_of (record { 0 = q }) b.kind)) for_io),
+            length-set x.blocked s.0 (get_or x.blocked s.0 0 + 1) ∙ fits.many_blocked,
+          )
+          (numbered_more r.begun r.under_way (let b = blocking w mid s (Some t) a in with_io' b.kind b.length) refl fits.numbered)
+          fits.many_lost fits.many_pages;
       lost = refl;
       items =
           ap (λ is. is ++ item v p (rec.Move (Some s) None) ∷ [])

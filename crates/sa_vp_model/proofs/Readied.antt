@@ -21,6 +21,7 @@ use Rattle.sa_virtual.proofs.Pushed.{known, number_is, number_other}
 use Rattle.sa_vp_model.specs.Board.{list_in, with_list_in}
 use Rattle.sa_vp_model.specs.Turn.{readies}
 use Rattle.sa_vp_model.specs.Mirror.{Own, board_of, Fits, AreLists, newest_first, rows}
+use Rattle.sa_vp_model.proofs.Fitting.{fit, steps-of, blocked-of}
 use Rattle.sa_vp_model.proofs.Tables.{lists_with, many_with, total_with, newest_own, newest_other}
 use Rattle.sa_vp_model.proofs.Follows.{Follows}
 use Rattle.sa_vp_model.proofs.Placed.{item}
@@ -90,31 +91,25 @@ module _ (w : WorkloadView) (p : ProcNo) (v : Virtuals) (good : Good w v) (x : O
     readied = record {
       own = own;
       is = refl;
-      fits = record {
-        threads =
-            fits.threads
+      fits = fit (
+        fits.threads
             ∙ sym (ap (λ o. threads_of (with_life without_lock o (with_life (made_ready first) o (with_life (locks v.base p l t) o v.base.lives))))
-            (good.quiet p));
-        steps = fits.steps;
-        ready = ready_with;
-        work = work_with others (drop 1 (list_in x.work s l)) (ap (drop 1) old_work);
-        blocked = fits.blocked;
-        due = omega (
-          arith,
-          fits.due,
-          total_with w.processors (length w.spaces) x.work s l (drop 1 (list_in x.work s l)) fits.many_work inside within (fits.work s.0 inside).many,
-          ap length old_work,
-          ap (λ ys. length (drop 1 ys)) old_work,
-        );
-        numbered = fits.numbered;
-        many_threads = fits.many_threads;
-        many_steps = fits.many_steps;
-        many_ready = many_with w.processors (length w.spaces) x.ready s l (first.0 ∷ list_in x.ready s l) fits.many_ready inside within;
-        many_work = many_with w.processors (length w.spaces) x.work s l (drop 1 (list_in x.work s l)) fits.many_work inside within;
-        many_blocked = fits.many_blocked;
-        many_lost = fits.many_lost;
-        many_pages = fits.many_pages;
-      };
+            (good.quiet p)),
+        fits.many_threads,
+      )
+          (steps-of fits)
+          (ready_with, many_with w.processors (length w.spaces) x.ready s l (first.0 ∷ list_in x.ready s l) fits.many_ready inside within) (
+            work_with others (drop 1 (list_in x.work s l)) (ap (drop 1) old_work),
+            omega (
+              arith,
+              fits.due,
+              total_with w.processors (length w.spaces) x.work s l (drop 1 (list_in x.work s l)) fits.many_work inside within (fits.work s.0 inside).many,
+              ap length old_work,
+              ap (λ ys. length (drop 1 ys)) old_work,
+            ),
+            many_with w.processors (length w.spaces) x.work s l (drop 1 (list_in x.work s l)) fits.many_work inside within,
+          )
+          (blocked-of fits) fits.numbered fits.many_lost fits.many_pages;
       lost = refl;
       items = ap (λ is. is ++ item v p (rec.Free s l t) ∷ []) (append_assoc x.items (item v p (rec.Take s l t) ∷ []) (item v p (rec.Ready s first) ∷ []))
           ∙ append_assoc x.items (item v p (rec.Take s l t) ∷ item v p (rec.Ready s first) ∷ []) (item v p (rec.Free s l t) ∷ []);

@@ -1,7 +1,6 @@
 -- One that has made its steps gives way to the first of the queue.
-use Rattle.std.proofs.Common.{◌≡◌, ◌≢◌, ℕ, ◌+◌, ◌<◌, true, cond, List, [], ◌∷◌, ◌++◌, append_assoc, get_or, set, Option, Some, None, refl, sym, ap, ◌∙◌, arith}
+use Rattle.std.proofs.Common.{◌≡◌, ℕ, ◌<◌, true, List, [], ◌∷◌, ◌++◌, append_assoc, get_or, set, Option, Some, None, refl, sym, ap, ◌∙◌, arith}
 use Rattle.std.specs.Prelude.{All, slice_get}
-use Rattle.std.proofs.lemmas.Bool.{eq-eqb}
 use Rattle.std.proofs.lemmas.List.{length-set, get_or-set_other, map-append}
 use Rattle.std.proofs.lemmas.List.Elements.{All-head}
 use Rattle.sa_base.specs.declared.number.ProcNo.{ProcNo}
@@ -19,19 +18,18 @@ use Rattle.sa_laws.specs.Life.{with_cont}
 use Rattle.sa_laws.specs.Record.{with_life, stopped_with}
 use Rattle.sa_virtual.specs.Virtual.{Virtuals, space_of, thread_of, placed_on}
 use Rattle.sa_virtual.specs.Turn.{Turned, placing, stopped, some_wait}
-use Rattle.sa_virtual.specs.Holding.{threads_of, one_if, in_queue, parts_of}
+use Rattle.sa_virtual.specs.Holding.{threads_of}
 use Rattle.sa_virtual.specs.Turning.{Good}
-use Rattle.sa_virtual.proofs.Sums.{unqueued}
 use Rattle.sa_virtual.proofs.Kept.{threads_new}
-use Rattle.sa_virtual.proofs.Left as left
-use Rattle.sa_virtual.proofs.MoreTurns.{same_owners, quiet_set}
+use Rattle.sa_virtual.proofs.MoreTurns.{same_owners, quiet_set, differs}
 use Rattle.sa_vp_model.specs.declared.limits.TheConstants.{VIRTUALS}
 use Rattle.sa_vp_model.specs.Board.{Board, act_numbers, said}
 use Rattle.sa_vp_model.specs.Turn.{continued, places, stops, gives_way}
 use Rattle.sa_vp_model.specs.Mirror.{Own, Fits}
+use Rattle.sa_vp_model.proofs.Fitting.{fit, ready-of, work-of, blocked-of}
 use Rattle.sa_vp_model.proofs.Tables.{table_put}
 use Rattle.sa_vp_model.proofs.Follows.{Follows}
-use Rattle.sa_vp_model.proofs.Placed.{zero_most, item, queue_of}
+use Rattle.sa_vp_model.proofs.Placed.{zero_most, item, restarted, queue_of}
 
 module _ (w : WorkloadView) (p : ProcNo) (v : Virtuals) (good : Good w v) (x : Own) (fits : Fits w v x) (a : ActNo) (at : placed_on v p ≡ Some a)
     (within : a.0 < VIRTUALS)
@@ -47,13 +45,6 @@ module _ (w : WorkloadView) (p : ProcNo) (v : Virtuals) (good : Good w v) (x : O
   gives q = gives_way p a (slice_get (act_numbers q) 0) (stops p a t (queue_of w v x (act_numbers q)))
 
   module _ (first : ActNo) (rest : List ActNo) (queue : v.queue ≡ first ∷ rest) (small : first.0 < VIRTUALS) where
-    other : first.0 ≢ a.0
-    other is =
-        let none = left.not_queued w (parts_of v) good.stands.runners good.stands.holds p a at in
-        let some : in_queue v.queue a.0 ≡ one_if first.0 a.0 + in_queue rest a.0 = ap (λ q. in_queue q a.0) queue ∙ unqueued rest first a.0 in
-        let one : one_if first.0 a.0 ≡ 1 = ap (λ b. cond b 1 0) (eq-eqb first.0 a.0 is) in
-        absurd (omega (arith, none, some, one))
-
     abbrev now : State
     now = placed_if v.base.state s t places.Carried
 
@@ -61,7 +52,7 @@ module _ (w : WorkloadView) (p : ProcNo) (v : Virtuals) (good : Good w v) (x : O
     owner = ap (λ owners. get_or owners p.0 None) (same_owners v.base.state s t) ∙ (good.stands.holds.fits p).owned a at
 
     held : get_or (set x.threads a.0 t) first.0 None ≡ thread_of v first
-    held = get_or-set_other x.threads a.0 first.0 t None other ∙ ap (λ (f : ℕ → Option ThreadNo). f first.0) fits.threads
+    held = get_or-set_other x.threads a.0 first.0 t None (differs w p v good a at first rest queue) ∙ ap (λ (f : ℕ → Option ThreadNo). f first.0) fits.threads
 
     abbrev move : Record
     move = rec.Move (Some s) (Some (space_of first))
@@ -97,29 +88,12 @@ module _ (w : WorkloadView) (p : ProcNo) (v : Virtuals) (good : Good w v) (x : O
         table_put x.threads a.0 t None (omega (arith, within, fits.many_threads)) ∙ ap (λ f. put f a.0 t) fits.threads
         ∙ sym (threads_new w (stopped_with t) a v.base.lives t good.stands.holds.lives (λ life. refl))
 
-    steps : (λ b. get_or (set x.steps first.0 0) b 0) ≡ put v.steps first.0 0
-    steps = table_put x.steps first.0 0 0 (omega (arith, small, fits.many_steps)) ∙ ap (λ f. put f first.0 0) fits.steps
-
     follows : (u : Option ThreadNo) → thread_of v first ≡ u → Follows w p v (turn u) x (gives v.queue)
     follows None is = record {
       own = own said';
       is = goes None is;
-      fits = record {
-        threads = threads;
-        steps = steps;
-        ready = fits.ready;
-        work = fits.work;
-        blocked = fits.blocked;
-        due = fits.due;
-        numbered = fits.numbered;
-        many_threads = length-set x.threads a.0 t ∙ fits.many_threads;
-        many_steps = length-set x.steps first.0 0 ∙ fits.many_steps;
-        many_ready = fits.many_ready;
-        many_work = fits.many_work;
-        many_blocked = fits.many_blocked;
-        many_lost = fits.many_lost;
-        many_pages = fits.many_pages;
-      };
+      fits = fit (threads, length-set x.threads a.0 t ∙ fits.many_threads) (restarted w v x fits first small)
+          (ready-of fits) (work-of fits) (blocked-of fits) fits.numbered fits.many_lost fits.many_pages;
       lost = refl;
       items = append_assoc x.items (item v p stop ∷ []) (item v p move ∷ []);
       begun = omega arith;
@@ -130,24 +104,13 @@ module _ (w : WorkloadView) (p : ProcNo) (v : Virtuals) (good : Good w v) (x : O
     follows (Some u) is = record {
       own = own (said' ++ item v p (rec.Cont (space_of first) (Some u)) ∷ []);
       is = goes (Some u) is;
-      fits = record {
-        threads =
-            threads ∙ sym (ap (λ o. threads_of (with_life (with_cont true) o (with_life (stopped_with t) (Some a) v.base.lives)))
-            (quiet_set v.base.running p good.quiet p));
-        steps = steps;
-        ready = fits.ready;
-        work = fits.work;
-        blocked = fits.blocked;
-        due = fits.due;
-        numbered = fits.numbered;
-        many_threads = length-set x.threads a.0 t ∙ fits.many_threads;
-        many_steps = length-set x.steps first.0 0 ∙ fits.many_steps;
-        many_ready = fits.many_ready;
-        many_work = fits.many_work;
-        many_blocked = fits.many_blocked;
-        many_lost = fits.many_lost;
-        many_pages = fits.many_pages;
-      };
+      fits = fit (
+        threads ∙ sym (ap (λ o. threads_of (with_life (with_cont true) o (with_life (stopped_with t) (Some a) v.base.lives)))
+            (quiet_set v.base.running p good.quiet p)),
+        length-set x.threads a.0 t ∙ fits.many_threads,
+      )
+          (restarted w v x fits first small) (ready-of fits) (work-of fits) (blocked-of fits) fits.numbered
+          fits.many_lost fits.many_pages;
       lost = refl;
       items = ap (λ is. is ++ item v p (rec.Cont (space_of first) (Some u)) ∷ []) (append_assoc x.items (item v p stop ∷ []) (item v p move ∷ []))
           ∙ append_assoc x.items (item v p stop ∷ item v p move ∷ []) (item v p (rec.Cont (space_of first) (Some u)) ∷ []);

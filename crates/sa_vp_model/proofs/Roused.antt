@@ -16,8 +16,8 @@ use Rattle.sa_laws.specs.declared.place.Place.{Place}
 use Rattle.sa_laws.specs.declared.place.Place.TheVariants as places
 use Rattle.sa_laws.specs.State.{SpaceState, at_start, is_waiting}
 use Rattle.sa_laws.specs.Machine.{next_effect}
-use Rattle.sa_check_machine.specs.Index.{runner_at}
-use Rattle.sa_check_machine.proofs.IndexLemmas.{runner}
+use Rattle.sa_replay.specs.Index.{runner_at}
+use Rattle.sa_replay.proofs.IndexLemmas.{runner}
 use Rattle.sa_sync.specs.Sync.{waits_of}
 use Rattle.sa_virtual.specs.Virtual.{Virtuals, space_of, list_of, placed_on}
 use Rattle.sa_virtual.specs.Holding.{numbers, worked, parts_of, one_where, at_no, place_no}

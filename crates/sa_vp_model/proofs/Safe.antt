@@ -24,14 +24,13 @@ use Rattle.sa_sync.specs.Sync.{Sync, semaphore_at}
 use Rattle.sa_devices.specs.declared.kind.IoKind.TheVariants.{Plain, Page}
 use Rattle.sa_devices.specs.Ios.{Io, due_of}
 use Rattle.sa_base.specs.Pages.{has_page}
-use Rattle.sa_laws.specs.declared.place.Place.TheVariants as places
 use Rattle.sa_laws.specs.State.{no_space, next_instr, thread_at, space_def, runner_of}
 use Rattle.sa_laws.specs.Machine.{next_effect}
-use Rattle.sa_check_machine.specs.Needs.{CanChange}
-use Rattle.sa_check_machine.specs.Running.{IsAt, IsFull}
-use Rattle.sa_check_machine.specs.Spaces.{space_in}
-use Rattle.sa_check_machine.specs.Index.{runner_at}
-use Rattle.sa_check_machine.proofs.IndexLemmas.{runner}
+use Rattle.sa_replay.specs.Needs.{CanChange}
+use Rattle.sa_replay.specs.Running.{IsAt, IsFull}
+use Rattle.sa_replay.specs.Spaces.{space_in}
+use Rattle.sa_replay.specs.Index.{runner_at}
+use Rattle.sa_replay.proofs.IndexLemmas.{runner}
 use Rattle.sa_virtual.specs.Virtual.{Virtuals, space_of, list_of, placed_on, thread_of, ready_of}
 use Rattle.sa_virtual.specs.Turn.{of_io, placing}
 use Rattle.sa_virtual.specs.Turn as rules

@@ -29,6 +29,7 @@ use Rattle.sa_virtual.specs.Turning.{Good}
 use Rattle.sa_vp_model.specs.Board.{list_in, with_list_in}
 use Rattle.sa_vp_model.specs.Turn.{looks, takes, takes_from, picked, left_of, is_some_list}
 use Rattle.sa_vp_model.specs.Mirror.{Own, board_of, Fits, AreLists, newest_first, rows}
+use Rattle.sa_vp_model.proofs.Fitting.{fit, threads-of, steps-of, ready-of, work-of, blocked-of}
 use Rattle.sa_vp_model.proofs.Tables.{lists_with, many_with, picked_one, some_one, left_one, newest_few, newest_less, newest_stays}
 use Rattle.sa_vp_model.proofs.Follows.{Follows}
 use Rattle.sa_vp_model.proofs.Placed.{item}
@@ -164,25 +165,15 @@ module _ (w : WorkloadView) (p : ProcNo) (v : Virtuals) (good : Good w v) (x : O
     taken = record {
       own = taken_own;
       is = ap (λ o. takes p s l o (left_of old own) (board_of w v x)) picks;
-      fits = record {
-        threads =
-            fits.threads
+      fits = fit (
+        fits.threads
             ∙ sym (ap (λ o. threads_of (with_life without_lock o (with_life (with_first (ran t)) o (with_life (locks v.base p l None) o v.base.lives))))
-            (good.quiet p));
-        steps = fits.steps;
-        ready = ready_with;
-        work = fits.work;
-        blocked = fits.blocked;
-        due = fits.due;
-        numbered = fits.numbered;
-        many_threads = fits.many_threads;
-        many_steps = fits.many_steps;
-        many_ready = many_with w.processors (length w.spaces) x.ready s l (left_of old own) fits.many_ready inside below';
-        many_work = fits.many_work;
-        many_blocked = fits.many_blocked;
-        many_lost = fits.many_lost;
-        many_pages = fits.many_pages;
-      };
+            (good.quiet p)),
+        fits.many_threads,
+      )
+          (steps-of fits)
+          (ready_with, many_with w.processors (length w.spaces) x.ready s l (left_of old own) fits.many_ready inside below')
+          (work-of fits) (blocked-of fits) fits.numbered fits.many_lost fits.many_pages;
       lost = refl;
       items = ap (λ is. is ++ item v p (rec.Free s l (Some t)) ∷ []) (append_assoc x.items (item v p (rec.Take s l None) ∷ []) (item v p (rec.Run s t) ∷ []))
           ∙ append_assoc x.items (item v p (rec.Take s l None) ∷ item v p (rec.Run s t) ∷ []) (item v p (rec.Free s l (Some t)) ∷ []);
@@ -209,22 +200,8 @@ module _ (w : WorkloadView) (p : ProcNo) (v : Virtuals) (good : Good w v) (x : O
   looked None is = record {
     own = record x { items = x.items ++ item v p rec.Idle ∷ [] };
     is = refl;
-    fits = record {
-      threads = fits.threads;
-      steps = fits.steps;
-      ready = fits.ready;
-      work = fits.work;
-      blocked = fits.blocked;
-      due = fits.due;
-      numbered = fits.numbered;
-      many_threads = fits.many_threads;
-      many_steps = fits.many_steps;
-      many_ready = fits.many_ready;
-      many_work = fits.many_work;
-      many_blocked = fits.many_blocked;
-      many_lost = fits.many_lost;
-      many_pages = fits.many_pages;
-    };
+    fits = fit (threads-of fits) (steps-of fits) (ready-of fits) (work-of fits) (blocked-of fits) fits.numbered fits.many_lost
+        fits.many_pages;
     lost = refl;
     items = refl;
     begun = omega arith;

@@ -18,7 +18,7 @@ use Rattle.sa_devices.proofs.SoundLemmas.{length-evicted}
 use Rattle.sa_laws.specs.declared.place.Place.{Place}
 use Rattle.sa_laws.specs.declared.place.Place.TheVariants as places
 use Rattle.sa_laws.specs.State.{Thread, space_at}
-use Rattle.sa_check_machine.specs.Counts.{is_ready, count_in}
+use Rattle.sa_replay.specs.Counts.{is_ready, count_in}
 use Rattle.sa_virtual.specs.Virtual.{Virtuals}
 use Rattle.sa_virtual.specs.Turn as rules
 use Rattle.sa_virtual.specs.Legal as legal
@@ -26,10 +26,11 @@ use Rattle.sa_virtual.specs.Holding.{at_no}
 use Rattle.sa_virtual.specs.Turning.{Good, HasRoom, IsBelow}
 use Rattle.sa_virtual.proofs.Main.{turn_is_legal}
 use Rattle.sa_vp_model.specs.Board.{Board}
-use Rattle.sa_vp_model.specs.Turn.{acts, begun, counted, lost_now, loses, turned}
+use Rattle.sa_vp_model.specs.Turn.{acts, after_evictions, counted, lost_now, loses, turned}
 use Rattle.sa_vp_model.specs.Mirror.{Own, board_of, Fits, IsBounded}
 use Rattle.sa_vp_model.specs.Needs.{CanLose}
 use Rattle.sa_vp_model.specs.Run.{IsRead, TurnIsRead, TurnsAreRead, lost_in}
+use Rattle.sa_vp_model.proofs.Fitting.{fit, threads-of, steps-of, ready-of, work-of, blocked-of}
 use Rattle.sa_vp_model.proofs.Follows.{Goes, behind}
 use Rattle.sa_vp_model.proofs.Main.{turns}
 
@@ -63,22 +64,8 @@ module _ (w : WorkloadView) (p : ProcNo) (b : Board) (read : IsRead w b) (inside
   good = record { stands = read.good.stands; quiet = read.good.quiet }
 
   pub fits : Fits w now x
-  fits = record {
-    threads = read.fits.threads;
-    steps = read.fits.steps;
-    ready = read.fits.ready;
-    work = read.fits.work;
-    blocked = read.fits.blocked;
-    due = read.fits.due;
-    numbered = read.fits.numbered;
-    many_threads = read.fits.many_threads;
-    many_steps = read.fits.many_steps;
-    many_ready = read.fits.many_ready;
-    many_work = read.fits.many_work;
-    many_blocked = read.fits.many_blocked;
-    many_lost = read.fits.many_lost;
-    many_pages = length-evicted v.base.number w.evictions v.base.pages ∙ read.fits.many_pages;
-  }
+  fits = fit (threads-of read.fits) (steps-of read.fits) (ready-of read.fits) (work-of read.fits) (blocked-of read.fits)
+      read.fits.numbered read.fits.many_lost (length-evicted v.base.number w.evictions v.base.pages ∙ read.fits.many_pages)
 
   pub number_is : b.number ≡ v.base.number
   number_is = ap (λ (c : Board). c.number) read.is
@@ -149,10 +136,10 @@ module _ (w : WorkloadView) (p : ProcNo) (b : Board) (read : IsRead w b) (inside
 
   -- before they are counted
   abbrev pub acted : Board
-  acted = acts p (option_map io_no (due_of b.number b.devices.ios.under_way)) (begun b)
+  acted = acts p (option_map io_no (due_of b.number b.devices.ios.under_way)) (after_evictions b)
 
   acted_is : acted ≡ shown
-  acted_is = ap (λ (c : Board). acts p (option_map io_no (due_of c.number c.devices.ios.under_way)) (begun c)) read.is ∙ gone.is
+  acted_is = ap (λ (c : Board). acts p (option_map io_no (due_of c.number c.devices.ios.under_way)) (after_evictions c)) read.is ∙ gone.is
 
   pub can_lose : CanLose acted
   can_lose = subst CanLose (sym acted_is) (record {
@@ -168,22 +155,10 @@ module _ (w : WorkloadView) (p : ProcNo) (b : Board) (read : IsRead w b) (inside
     is = same;
     valid = read.valid;
     good = legal_turn.1;
-    fits = record {
-      threads = gone.fits.threads;
-      steps = gone.fits.steps;
-      ready = gone.fits.ready;
-      work = gone.fits.work;
-      blocked = gone.fits.blocked;
-      due = gone.fits.due;
-      numbered = gone.fits.numbered;
-      many_threads = gone.fits.many_threads;
-      many_steps = gone.fits.many_steps;
-      many_ready = gone.fits.many_ready;
-      many_work = gone.fits.many_work;
-      many_blocked = gone.fits.many_blocked;
-      many_lost = length-map-range_with_len (λ k. get_or gone.own.lost k 0 + lost_now shown k) 0 (length gone.own.lost) ∙ many;
-      many_pages = gone.fits.many_pages;
-    };
+    fits = fit (threads-of gone.fits) (steps-of gone.fits) (ready-of gone.fits) (work-of gone.fits) (blocked-of gone.fits)
+        gone.fits.numbered
+        (length-map-range_with_len (λ k. get_or gone.own.lost k 0 + lost_now shown k) 0 (length gone.own.lost) ∙ many)
+        gone.fits.many_pages;
     bounded = bounded;
     below = λ s k. omega (arith, legal_turn.2 s k, number_after);
   }

@@ -32,6 +32,7 @@ use Rattle.sa_vp_model.specs.declared.limits.TheConstants.{VIRTUALS}
 use Rattle.sa_vp_model.specs.Board.{Board, act_numbers}
 use Rattle.sa_vp_model.specs.Turn.{completes, completed_by, one_less}
 use Rattle.sa_vp_model.specs.Mirror.{Own, board_of, Fits}
+use Rattle.sa_vp_model.proofs.Fitting.{fit, steps-of, ready-of, work-of}
 use Rattle.sa_vp_model.proofs.Ios.{due_found, over, IsOver, numbered_over}
 use Rattle.sa_vp_model.proofs.Follows.{Follows, behind}
 
@@ -138,22 +139,12 @@ module _ (w : WorkloadView) (p : ProcNo) (v : Virtuals) (good : Good w v) (x : O
   unblocks = record {
     own = own;
     is = same;
-    fits = record {
-      threads = fits.threads ∙ sym (threads_same (with_hand (one_thread (thread_of v a))) a v.base.lives (λ life. refl));
-      steps = fits.steps;
-      ready = fits.ready;
-      work = fits.work;
-      blocked = blocked;
-      due = fits.due;
-      numbered = numbered_over v.base.begun (is_io_of_other a) ios fits.numbered;
-      many_threads = fits.many_threads;
-      many_steps = fits.many_steps;
-      many_ready = fits.many_ready;
-      many_work = fits.many_work;
-      many_blocked = length-set x.blocked s.0 (get_or x.blocked s.0 0 - 1) ∙ fits.many_blocked;
-      many_lost = fits.many_lost;
-      many_pages = ap (λ o. length (with_page v.base.pages o)) gone.found ∙ length-completed io.kind v.base.pages ∙ fits.many_pages;
-    };
+    fits = fit
+        (fits.threads ∙ sym (threads_same (with_hand (one_thread (thread_of v a))) a v.base.lives (λ life. refl)), fits.many_threads)
+        (steps-of fits) (ready-of fits) (work-of fits)
+        (blocked, length-set x.blocked s.0 (get_or x.blocked s.0 0 - 1) ∙ fits.many_blocked)
+        (numbered_over v.base.begun (is_io_of_other a) ios fits.numbered) fits.many_lost
+        (ap (λ o. length (with_page v.base.pages o)) gone.found ∙ length-completed io.kind v.base.pages ∙ fits.many_pages);
     lost = refl;
     items = refl;
     begun = omega arith;

@@ -15,7 +15,7 @@ use Rattle.sa_devices.specs.Ios.{Io, due_of, io_at, io_no}
 use Rattle.sa_devices.specs.Pages.{IsKind}
 use Rattle.sa_laws.specs.State.{State, next_instr, thread_at, with_owner}
 use Rattle.sa_laws.specs.Machine.{next_effect}
-use Rattle.sa_check_machine.specs.Needs.{CanChange, IsOverfull}
+use Rattle.sa_replay.specs.Needs.{CanChange, IsOverfull}
 use Rattle.std.specs.Option.{option_map}
 use Rattle.sa_virtual.specs.Virtual.{space_of, list_of}
 use Rattle.sa_virtual.specs.Turn.{of_io}

@@ -20,7 +20,7 @@ use Rattle.sa_base.specs.Pages.{has_page}
 use Rattle.sa_links.specs.Lists.{with_list}
 use Rattle.sa_laws.specs.State.{State, Runner, thread_at, next_instr, runner_on, owner_at, space_at}
 use Rattle.sa_laws.specs.Machine.{next_effect}
-use Rattle.sa_check_machine.specs.Counts.{is_ready, count_in}
+use Rattle.sa_replay.specs.Counts.{is_ready, count_in}
 use Rattle.sa_virtual.specs.Virtual.{space_of, list_of}
 use Rattle.sa_virtual.specs.Turn.{of_io, quantum, round_from}
 use Rattle.sa_virtual.specs.Holding.{numbers}
@@ -190,17 +190,17 @@ abbrev pub moves_on : ProcNo → ActNo → Bool → Board → Board
 moves_on p a true b = relieves p a b
 moves_on p a false b = steps p a b
 
-abbrev pub goes_on : ProcNo → Option ActNo → Board → Board
-goes_on p None b = places_first p (slice_get (queued b) 0) b
-goes_on p (Some a) b = moves_on p a (has_had_its_turn b a) b
+abbrev pub proceeds : ProcNo → Option ActNo → Board → Board
+proceeds p None b = places_first p (slice_get (queued b) 0) b
+proceeds p (Some a) b = moves_on p a (has_had_its_turn b a) b
 
 abbrev pub acts : ProcNo → Option IoNo → Board → Board
 acts p (Some io) b = completes p io b
-acts p None b = goes_on p (slice_index_or b.placed p.0 None) b
+acts p None b = proceeds p (slice_index_or b.placed p.0 None) b
 
 -- the evictions of the event come first
-abbrev pub begun : Board → Board
-begun b = record b { devices = record b.devices { pages = evicted b.number b.devices.evictions b.devices.pages } }
+abbrev pub after_evictions : Board → Board
+after_evictions b = record b { devices = record b.devices { pages = evicted b.number b.devices.evictions b.devices.pages } }
 
 -- at the end of the event each space loses as many of its ready threads as it has blocked virtual processors
 abbrev pub loss : State → List ℕ → ℕ → ℕ
@@ -216,4 +216,4 @@ abbrev pub counted : Board → Board
 counted b = record b { lost = loses b; number = b.number + 1 }
 
 abbrev pub turned : ProcNo → Board → Board
-turned p b = let now = begun b in counted (acts p (option_map io_no (due_of now.number now.devices.ios.under_way)) now)
+turned p b = let now = after_evictions b in counted (acts p (option_map io_no (due_of now.number now.devices.ios.under_way)) now)

@@ -1,7 +1,7 @@
 use Rattle.std.proofs.Common.{ap, sym, ◌∙◌}
 use Rattle.sa_core.specs.View.{machine}
 use Rattle.sa_core_model.specs.Run.{opening}
-use Rattle.sa_fast_runs.specs.Runs.{FastMachine}
+use Rattle.sa_package_runs.specs.Runs.{FastMachine}
 use Rattle.sa_package_model.specs.Step.{fast_calls}
 use Rattle.sa_debug.specs.OverMachines.{session}
 use Rattle.sa_debug_run.proofs.Doing.{over-so, partly-so}
@@ -15,7 +15,7 @@ pub returns-in_default-do_all-clause-err : goal.returns-in_default-do_all-clause
 returns-in_default-do_all-clause-err c =
     partly-so c.args.workload c.args.budget c.start-session.result.core.budget c.args.commands.now (machine c.in-Ok-start.core) (session c.start-session.result)
     (session c.do_all.new.debugged) c.into_trace.result.items c.sessions_are_legal.ensures.whole c.sessions_are_legal.ensures.so_far
-    c.sessions_are_told.ensures.whole c.sessions_are_told.ensures.so_far c.ranges-2.ensures
+    c.sessions_are_told.ensures.partly c.ranges-2.ensures
     c.in-Ok-start.ensures.opening c.start-session.ensures.session
     (c.start-session.ensures.budget ∙ c.in-Ok-start.ensures.budget) c.in_default-do_all.ensures.err c.into_trace.ensures
 

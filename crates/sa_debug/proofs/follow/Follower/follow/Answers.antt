@@ -1,5 +1,5 @@
 use Rattle.std.proofs.Common.{arith, ap, ◌∙◌}
-use Rattle.sa_check_machine.specs.Replayed.{Replayed}
+use Rattle.sa_replay.specs.Replayed.{Replayed}
 use Rattle.sa_laws.specs.State.{opening_state}
 use Rattle.sa_debug.proofs.Playing.{can-change, behind-change}
 use Rattle.sa_debug.proofs.follow.Follower.follow.Goals as goal

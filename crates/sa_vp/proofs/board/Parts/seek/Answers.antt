@@ -1,6 +1,6 @@
 use Rattle.std.proofs.Common.{sym, ap, ◌∙◌}
 use Rattle.sa_base.specs.declared.number.SpaceNo.{SpaceNo}
-use Rattle.sa_check_machine.specs.Counts.{is_ready, count_in}
+use Rattle.sa_replay.specs.Counts.{is_ready, count_in}
 use Rattle.sa_laws.specs.State.{space_at}
 use Rattle.sa_vp.specs.View.{board_of}
 use Rattle.sa_vp.proofs.Waits.{none_sought}

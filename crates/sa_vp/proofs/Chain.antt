@@ -19,7 +19,7 @@ use Rattle.sa_vp_model.specs.Runs.{board_after, RunIsRead}
 use Rattle.sa_vp_model.proofs.Runs.{runs_are_read}
 use Rattle.sa_virtual.specs.Virtual.{opening}
 use Rattle.sa_virtual.specs.Legal.{IsLegalVp, EndsWith, after_all}
-use Rattle.sa_vp_run.specs.Run.{first_turns, first_events, EndsAt, IsVpRun, RunsSoFar, RunsTo}
+use Rattle.sa_vp.specs.Run.{first_turns, first_events, EndsAt, IsVpRun, RunsSoFar, RunsTo}
 
 -- the board after the first turns by an order
 abbrev pub board_at : WorkloadView → Order → ℕ → Board

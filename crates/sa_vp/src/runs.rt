@@ -1,12 +1,12 @@
 ghost use Rattle.std.specs.Prelude.{◌≡◌, ◌⊎◌, ◌≤◌, [], IfOk, IfErr};
 ghost use Rattle.sa_sched.specs.Kind.{order_of, AreAmong};
-ghost use Rattle.sa_vp_run.specs.Run.{RunsTo, RunsSoFar};
+ghost use Rattle.sa_vp.specs.Run.{RunsTo, RunsSoFar};
 
+use crate::vp::Vp;
 use sa_base::{End, MAX_EVENTS, Trace};
 use sa_sched::laws::turns_are_in_order;
 use sa_sched::{Kind, Schedule};
 use sa_spaces::Workload;
-use sa_vp::Vp;
 use std::alloc::Global;
 
 /// A run that ended.

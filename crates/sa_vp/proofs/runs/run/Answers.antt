@@ -6,8 +6,8 @@ use Rattle.sa_sched.specs.Turns.{Turns, start, turned_often}
 use Rattle.sa_vp_model.specs.End.{end_of}
 use Rattle.sa_vp.specs.View.{VpView}
 use Rattle.sa_vp.proofs.Kept.{goes-on}
-use Rattle.sa_vp_run.proofs.Chain.{board_at, next-at, one-more, schedule-more, ended-as, so-far-as}
-use Rattle.sa_vp_run.proofs.turns.run.Goals as goal
+use Rattle.sa_vp.proofs.Chain.{board_at, next-at, one-more, schedule-more, ended-as, so-far-as}
+use Rattle.sa_vp.proofs.runs.run.Goals as goal
 
 pub loop-end-init : goal.loop-end-init
 loop-end-init c =
@@ -15,14 +15,14 @@ loop-end-init c =
     let order = order_of c.args.kind in
     let is = c.in-Ok.ensures.opening in
     let number : c.in-Ok.vp.board.number ≡ 1 = ap (λ (v : VpView). v.board.number) is in
-    let begun : c.new-schedule.result ≡ start order w.processors = search rules in
+    let starts : c.new-schedule.result ≡ start order w.processors = search rules in
     record {
       some = omega (arith, number);
       board = ap (λ (v : VpView). v.board) is ∙ sym (ap (λ k. board_at w order (k - 1)) number);
       goes_on = λ k below. absurd (omega (arith, below, number));
       among = λ k below. absurd (omega (arith, below, number));
-      schedule = begun ∙ sym (ap (λ k. turned_often (start order w.processors) (k - 1)) number);
-      processors = ap (λ (s : Turns). s.processors) begun;
+      schedule = starts ∙ sym (ap (λ k. turned_often (start order w.processors) (k - 1)) number);
+      processors = ap (λ (s : Turns). s.processors) starts;
       workload = ap (λ (v : VpView). v.board.workload) is;
       budget = ap (λ (v : VpView). v.budget) is;
       within = omega (arith, number);

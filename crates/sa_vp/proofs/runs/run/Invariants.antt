@@ -3,8 +3,8 @@ use Rattle.sa_sched.specs.Kind.{order_of}
 use Rattle.sa_sched.specs.Order.{processor_at}
 use Rattle.sa_sched.specs.Turns.{start, turned_often}
 use Rattle.sa_vp_model.specs.End.{end_of}
-use Rattle.sa_vp_run.proofs.Chain.{board_at}
-use Rattle.sa_vp_run.proofs.turns.run.Given as goal
+use Rattle.sa_vp.proofs.Chain.{board_at}
+use Rattle.sa_vp.proofs.runs.run.Given as goal
 
 -- the turns so far were made
 abbrev pub invariant-loop-end : goal.invariant-loop-end
