@@ -3,7 +3,7 @@ use Rattle.std.proofs.Common.{◌≢◌, ℕ, ◌<◌, true, false, List, length
 use Rattle.sa_base.specs.declared.number.ThreadNo.{ThreadNo}
 use Rattle.sa_code.specs.declared.state.PackageState.{PackageState}
 use Rattle.sa_code.specs.declared.state.Frame.{Frame}
-use Rattle.sa_code.specs.Micro.{taken, pushed, popped, list_in, HasList, CanChange, CanPush, CanPop}
+use Rattle.sa_code.specs.Micro.{taken, pushed, popped, list_in, HasList, CanChange, CanPop}
 use Rattle.sa_code.specs.Changes.{ChangesOnly, IsPackage}
 use Rattle.sa_code.proofs.Steps.{pushed-changes_only, popped-changes_only, taken-list}
 use Rattle.sa_code.proofs.Kept.{has_holder, has_lock}
@@ -15,12 +15,6 @@ can_change-taken s f h list = record {
   list = record { there = list.there; inside = list.inside };
   locked = (taken-list s f (list_in f) (has_lock s (list_in f).0 h list.inside) (has_holder s (list_in f).0 h list.inside)).lock;
 }
-
-pub can_push-taken : (s : PackageState) (f : Frame) → CanPush s f → CanPush (taken s f (list_in f) false).state (taken s f (list_in f) false).frame
-can_push-taken s f h = record { thread = h.thread; pushes = h.pushes; below = h.below; unlisted = h.unlisted }
-
-pub can_pop-taken : (s : PackageState) (f : Frame) → CanPop s f → CanPop (taken s f (list_in f) false).state (taken s f (list_in f) false).frame
-can_pop-taken s f h = record { some = h.some; carries = h.carries }
 
 -- after an effect it can be freed
 pub can_change-pushed : (s : PackageState) (f : Frame) (t : ThreadNo) → CanChange s f

@@ -1,11 +1,9 @@
 -- The outcomes of a micro-operation, each with what led to it.
-use Rattle.std.proofs.Common.{◌≡◌, ℕ, Bool, true, false, [], ◌∷◌, Option, Some, None, slice_get, All, refl}
-use Rattle.std.proofs.lemmas.List.Elements.{All-cons, All-nil}
+use Rattle.std.proofs.Common.{◌≡◌, ℕ, Bool, true, false, [], ◌∷◌, Option, Some, None, slice_get, refl}
 use Rattle.sa_base.specs.declared.limits.TheConstants.{PACKAGE_PAGE}
 use Rattle.sa_base.specs.declared.number.ProcNo.{ProcNo}
 use Rattle.sa_base.specs.declared.number.ThreadNo.{ThreadNo}
-use Rattle.sa_base.specs.declared.record.Record.{Record}
-use Rattle.sa_base.specs.declared.record.Record.TheVariants.{Run, Ready, Take, Free as FreeOf, Back, Spin}
+use Rattle.sa_base.specs.declared.record.Record.TheVariants.{Back, Spin}
 use Rattle.sa_lists.specs.ReadyView.{thread, is_locked}
 use Rattle.sa_code.specs.declared.code.Op.{Op}
 use Rattle.sa_code.specs.declared.code.Op.TheVariants.{TakePush, Push, TakePop, Pop, Free, Leave, Yield}
@@ -65,29 +63,3 @@ micro_at-outcome P s f resident None can o = absurd can
 pub micro-outcome : (P : Micro → Type 0) (s : PackageState) (f : Frame) (pages : ℕ) → CanDo s f (slice_get s.code f.pc)
     → Outcomes P s f (slice_get s.code f.pc) (is_resident pages PACKAGE_PAGE) → P (micro s f pages)
 micro-outcome P s f pages can o = micro_at-outcome P s f (is_resident pages PACKAGE_PAGE) (slice_get s.code f.pc) can o
-
--- the records that micro-operations say
-pub record Sayings (P : Record → Type 0) (s : PackageState) : Type 0 where
-  pub spin : (l : ProcNo) → P (Spin l)
-  pub take : (l : ProcNo) (t : Option ThreadNo) → P (Take s.space l t)
-  pub ready : (t : ThreadNo) → P (Ready s.space t)
-  pub run : (t : ThreadNo) → P (Run s.space t)
-  pub free : (l : ProcNo) (t : Option ThreadNo) → P (FreeOf s.space l t)
-  pub back : (t : Option ThreadNo) → P (Back s.space t)
-
-one : (P : Record → Type 0) (r : Record) → P r → All P (r ∷ [])
-one P r h = All-cons P r [] h (All-nil P)
-
-pub micro-says : (P : Record → Type 0) (s : PackageState) (f : Frame) (pages : ℕ) → CanDo s f (slice_get s.code f.pc) → Sayings P s
-    → All P (micro s f pages).says
-micro-says P s f pages can says = micro-outcome (λ m. All P m.says) s f pages can (record {
-  spun = λ list held. one P _ (says.spin (list_in f));
-  took_to_push = λ op list push free. one P _ (says.take (list_in f) f.thread);
-  took_to_pop = λ op list free. one P _ (says.take (list_in f) f.thread);
-  faulted = λ change absent. All-nil P;
-  did_push = λ t op change e push. one P _ (says.ready t);
-  did_pop = λ t op change pop e. one P _ (says.run (thread t));
-  did_free = λ op change. one P _ (says.free (list_in f) f.thread);
-  left = λ op. All-nil P;
-  yielded = λ op. one P _ (says.back f.thread);
-})

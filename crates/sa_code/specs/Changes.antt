@@ -87,9 +87,3 @@ in_section (Some Push) = true
 in_section (Some Pop) = true
 in_section (Some Free) = true
 in_section _ = false
-
--- the end of a routine or of a copy
-abbrev pub is_end : Option Op → Bool
-is_end (Some Leave) = true
-is_end (Some Yield) = true
-is_end _ = false

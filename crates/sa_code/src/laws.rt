@@ -1,5 +1,5 @@
 //! Laws of the micro-operations alone, over the values that contracts see. No function here does anything.
-ghost use Rattle.std.specs.Prelude.{◌≡◌, ◌≢◌, ◌<◌, ◌≤◌, ℕ, List, ◌∷◌, true, false, length, Some, None, slice_get};
+ghost use Rattle.std.specs.Prelude.{◌≡◌, ◌≢◌, ◌<◌, ◌≤◌, ℕ, List, true, false, length, Some, None, slice_get};
 ghost use Rattle.sa_base.specs.declared.number.ProcNo.{ProcNo};
 ghost use Rattle.sa_base.specs.declared.number.SpaceNo.{SpaceNo};
 ghost use Rattle.sa_base.specs.declared.number.ThreadNo.{ThreadNo};

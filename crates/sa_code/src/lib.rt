@@ -8,5 +8,5 @@ mod operation;
 mod state;
 
 pub use code::{CODE_PLACES, Code, Op, routines};
-pub use operation::micro;
+pub use operation::{add_record, micro};
 pub use state::{Frame, MAX_LISTS, MicroDone, PackageState};

@@ -59,14 +59,14 @@ fn operate(
         Op::Free => free(state, frame, seen, trace),
         Op::Leave => MicroDone::Left,
         Op::Yield => {
-            add(trace, seen, Record::Back(state.space, frame.thread));
+            add_record(trace, seen, Record::Back(state.space, frame.thread));
             MicroDone::Yielded
         }
     }
 }
 
-// Adds a record of the event.
-fn add(trace: &mut Trace, seen: &Seen, what: Record)
+/// Adds a record of the event.
+pub fn add_record(trace: &mut Trace, seen: &Seen, what: Record)
     requires { 1 ≤ trace.old.spare }
     ensures items { trace.new.items ≡ trace.old.items
         ++ items_at seen.now.event seen.now.proc (what ∷ []) }
@@ -105,11 +105,11 @@ fn take(state: &mut PackageState, frame: &mut Frame, seen: &Seen, trace: &mut Tr
     let list = list_of(frame);
     state.lists.are_apart();
     if !state.lists.try_lock(list) {
-        add(trace, seen, Record::Spin(list));
+        add_record(trace, seen, Record::Spin(list));
         return MicroDone::Spun;
     }
     state.holders[usize::from(list.0)] = frame.thread;
-    add(trace, seen, Record::Take(state.space, list, frame.thread));
+    add_record(trace, seen, Record::Take(state.space, list, frame.thread));
     frame.pc += 1;
     MicroDone::Did
 }
@@ -131,7 +131,7 @@ fn push(state: &mut PackageState, frame: &mut Frame, seen: &Seen, trace: &mut Tr
         unreachable!()
     };
     state.lists.push(list_of(frame), thread);
-    add(trace, seen, Record::Ready(state.space, thread));
+    add_record(trace, seen, Record::Ready(state.space, thread));
     frame.pushed = None;
     frame.pc += 1;
     MicroDone::Did
@@ -160,7 +160,7 @@ fn pop(state: &mut PackageState, frame: &mut Frame, seen: &Seen, trace: &mut Tra
         unreachable!()
     };
     state.holders[usize::from(list.0)] = Some(thread);
-    add(trace, seen, Record::Run(state.space, thread));
+    add_record(trace, seen, Record::Run(state.space, thread));
     frame.thread = Some(thread);
     frame.pc += 1;
     MicroDone::Did
@@ -192,7 +192,7 @@ fn free(state: &mut PackageState, frame: &mut Frame, seen: &Seen, trace: &mut Tr
     state.lists.are_apart();
     state.lists.unlock(list);
     state.holders[usize::from(list.0)] = None;
-    add(trace, seen, Record::Free(state.space, list, frame.thread));
+    add_record(trace, seen, Record::Free(state.space, list, frame.thread));
     frame.pc += 1;
     MicroDone::Did
 }

@@ -2,7 +2,7 @@
 use Rattle.std.proofs.Common.{rules, ◌≡◌, ℕ, zero, suc, ◌+◌, true, Some, is_some, slice_get, refl, subst, ◌⊎◌, inl, inr}
 use Rattle.std.proofs.lemmas.Option.{same_Some}
 use Rattle.sa_code.specs.declared.code.Op.{Op}
-use Rattle.sa_code.specs.declared.code.Op.TheVariants.{TakePush, Push, TakePop, Pop, Free, Leave, Yield}
+use Rattle.sa_code.specs.declared.code.Op.TheVariants.{Push, Pop, Free, Leave, Yield}
 use Rattle.sa_copies.specs.Copies.{package_ops, is_in_section, section_at, copy_at}
 use Rattle.sa_copies.specs.Runs.{is_over, is_section_op}
 
@@ -67,21 +67,12 @@ sections-copied = at_copies (λ c d. section_at d ≡ section_at c) refl refl re
 pub copies-copied : (c d : ℕ) → copy_at c ≡ Some d → copy_at d ≡ Some d
 copies-copied = at_copies (λ c d. copy_at d ≡ Some d) refl refl refl refl refl refl refl refl
 
-pub sections-ops : (pc : ℕ) → is_some (section_at pc) ≡ is_section_op (slice_get package_ops pc)
-sections-ops pc = search rules
-
 pub copies-ops : (pc : ℕ) → is_some (copy_at pc) ≡ is_section_op (slice_get package_ops pc)
 copies-ops pc = search rules
 
 -- the operation after another
-pub next-take_push : (pc : ℕ) → slice_get package_ops pc ≡ Some TakePush → slice_get package_ops (pc + 1) ≡ Some Push
-next-take_push pc e = search rules
-
 pub next-push : (pc : ℕ) → slice_get package_ops pc ≡ Some Push → slice_get package_ops (pc + 1) ≡ Some Free
 next-push pc e = search rules
-
-pub next-take_pop : (pc : ℕ) → slice_get package_ops pc ≡ Some TakePop → slice_get package_ops (pc + 1) ≡ Some Pop
-next-take_pop pc e = search rules
 
 pub next-pop : (pc : ℕ) → slice_get package_ops pc ≡ Some Pop → slice_get package_ops (pc + 1) ≡ Some Free
 next-pop pc e = search rules

@@ -1,5 +1,5 @@
 // The copies, and where the sections are.
-ghost use Rattle.std.specs.Prelude.{◌≡◌, ◌+◌, ◌≤◌, ◌++◌, length, take, count_by};
+ghost use Rattle.std.specs.Prelude.{◌≡◌, ◌+◌, ◌≤◌, ◌++◌, length, count_by};
 ghost use Rattle.std.specs.List.{filter_map};
 ghost use Rattle.sa_code.specs.Routines.{routine_ops};
 ghost use Rattle.sa_copies.specs.Copies.{copied, with_copies, package_ops, is_in_section, is_end, is_leave, is_take, behind_last_leave, section_at, copy_at};

@@ -1,5 +1,5 @@
 //! Laws of the copies alone, over the values that contracts see. No function here does anything.
-ghost use Rattle.std.specs.Prelude.{◌≡◌, ◌≢◌, ◌+◌, ℕ, List, ◌∷◌, Bool, true, false, ◌⊎◌, ◌↔◌, is_some, Some, slice_get};
+ghost use Rattle.std.specs.Prelude.{◌≡◌, ◌≢◌, ◌+◌, ℕ, List, ◌∷◌, true, false, ◌⊎◌, ◌↔◌, is_some, Some, slice_get};
 ghost use Rattle.sa_base.specs.declared.context.Seen.{Seen};
 ghost use Rattle.sa_code.specs.declared.code.Op.TheVariants.{TakePush, Push, TakePop, Pop, Free, Leave, Yield};
 ghost use Rattle.sa_code.specs.declared.state.PackageState.{PackageState};

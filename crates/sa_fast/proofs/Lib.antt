@@ -1,5 +1,4 @@
 pub mod WorkLemmas
-pub mod ThreadLemmas
 pub mod WakeLemmas
 pub mod Moves
 pub mod WorkSteps

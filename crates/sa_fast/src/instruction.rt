@@ -1,20 +1,19 @@
 // The effect of one instruction of a thread.
-ghost use Rattle.std.specs.Prelude.{◌≡◌, ◌≢◌, ◌+◌, ◌<◌, ◌≤◌, ℕ, ◌++◌, ◌∷◌, [], length, Some, None};
-ghost use Rattle.std.specs.Option.{option_map};
+ghost use Rattle.std.specs.Prelude.{◌≡◌, ◌≢◌, ◌+◌, ◌<◌, ◌≤◌, ℕ, ◌++◌, [], length, Some, None};
 ghost use Rattle.sa_base.specs.Items.{items_at};
 ghost use Rattle.sa_instr.specs.Instr.{IsInRange, NamesDeclared};
 ghost use Rattle.sa_lists.specs.ReadyView.{next_made};
 ghost use Rattle.sa_sync.specs.Sync.{WaitsNowhere, Waits, with_joiners, joiners_at};
-ghost use Rattle.sa_abstract.specs.Walk.{program_at};
 ghost use Rattle.sa_code.specs.Micro.{is_resident};
 ghost use Rattle.sa_fast.specs.Threads.{block_at, moved_to};
 ghost use Rattle.sa_fast.specs.Work.{with_name, added_all, IsUnlisted, IsWork};
-ghost use Rattle.sa_fast.specs.Instruction.{Outcome, outcome, outcome_of, went, told_by, forked, joins, blocks, touched, ended, next_of, value_in, with_thread, says_of, instr_of, run, run_says, IsAt, CanRun};
+ghost use Rattle.sa_fast.specs.Instruction.{outcome, outcome_of, went, told_by, forked, joins, blocks, touched, ended, next_of, value_in, says_of, instr_of, run, run_says, IsAt, CanRun};
 
 use crate::shared::Shared;
 use crate::threads::{Block, Place};
 use crate::work::WorkLists;
 use sa_base::{MAX_THREADS, PAGES, Record, Seen, SpaceNo, ThreadNo, Trace, has_page};
+use sa_code::add_record;
 use sa_instr::{Instr, MAX_INSTRUCTIONS, MAX_PROGRAMS, Reg, Regs, local};
 use sa_spaces::SpaceDef;
 use sa_sync::{SyncAnswer, SyncState};
@@ -93,25 +92,16 @@ fn tell_records(
     let ran = Record::Ins(space, t, block.pc);
     match instr {
         Instr::Out(reg) => {
-            add(trace, seen, ran);
-            add(trace, seen, Record::Out(space, t, block.regs.get(reg)));
+            add_record(trace, seen, ran);
+            add_record(trace, seen, Record::Out(space, t, block.regs.get(reg)));
         }
         Instr::Touch(page) => {
             if has_page(seen.pages, page) {
-                add(trace, seen, ran);
+                add_record(trace, seen, ran);
             }
         }
-        _ => add(trace, seen, ran),
+        _ => add_record(trace, seen, ran),
     }
-}
-
-// Adds a record of the event.
-fn add(trace: &mut Trace, seen: &Seen, what: Record)
-    requires { 1 ≤ trace.old.spare }
-    ensures items { trace.new.items ≡ trace.old.items ++ items_at seen.now.event seen.now.proc (what ∷ []) }
-    ensures spare { trace.new.spare + 1 ≡ trace.old.spare }
-{
-    trace.say(seen.event, seen.proc, what);
 }
 
 // The effect of an instruction at which the thread with this block stands.

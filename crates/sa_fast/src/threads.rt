@@ -1,7 +1,6 @@
 // The blocks of a space's threads.
-ghost use Rattle.std.specs.Prelude.{◌≡◌, ◌<◌, ◌≤◌, ◌+◌, Bool, length, count_by, cond, IfOk, replicate};
+ghost use Rattle.std.specs.Prelude.{◌≡◌, ◌<◌, ◌≤◌, ◌+◌, count_by, cond, IfOk, replicate};
 ghost use Rattle.sa_fast.specs.Threads.{unmade, block_at, with_block, is_loaded, is_active, is_done};
-ghost use Rattle.sa_fast.specs.declared.threads.Place.TheVariants as places;
 
 use sa_base::{MAX_THREADS, ThreadNo};
 use sa_instr::Regs;
@@ -143,13 +142,6 @@ impl Threads {
         ensures { result ≡ count_by (λ b. is_done b.place) self.now }
     {
         self.done
-    }
-
-    /// Says that there are 512 blocks. It does nothing.
-    pub fn has_all(&self)
-        ensures { length self.now ≡ MAX_THREADS }
-    {
-        let _ = &self.blocks;
     }
 }
 

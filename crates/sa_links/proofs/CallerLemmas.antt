@@ -1,9 +1,8 @@
 -- What proofs of callers need of the lists.
-use Rattle.std.proofs.Common.{◌≡◌, ◌≢◌, ℕ, ◌+◌, ◌<◌, List, [], ◌++◌, length, inl, inr, ap, sym, arith}
-use Rattle.std.proofs.lemmas.Bool.{cases_eq}
+use Rattle.std.proofs.Common.{◌≡◌, ◌≢◌, ℕ, ◌+◌, ◌<◌, List, [], ◌++◌, length, ap, sym, arith}
 use Rattle.std.proofs.lemmas.List.{get_or-set_other, get_or-set_same, length-set}
-use Rattle.sa_links.specs.Lists.{Lists, list_at, count_in, count_in_all, HasSameCounts, IsApart, IsIn, IsListed, with_list}
-use Rattle.sa_links.proofs.Counting.{count-append, count_at, count_set, count_two}
+use Rattle.sa_links.specs.Lists.{Lists, list_at, count_in, count_in_all, HasSameCounts, with_list}
+use Rattle.sa_links.proofs.Counting.{count-append, count_set}
 
 -- the lists once one of them is replaced
 pub list_same : (c : Lists) (l : ℕ) (xs : List ℕ) → l < length c.lists → list_at (with_list c l xs).lists l ≡ xs
@@ -19,16 +18,6 @@ lists_same c l xs = length-set c.lists l xs
 pub count_with : (x : ℕ) (c : Lists) (l : ℕ) (xs : List ℕ) → l < length c.lists
     → count_in_all x (with_list c l xs).lists + count_in x (list_at c.lists l) ≡ count_in_all x c.lists + count_in x xs
 count_with x c l xs h = count_set x c.lists l xs h
-
--- what is in one list is in the lists, and in no other one
-pub in_listed : (c : Lists) (l x : ℕ) → IsIn x (list_at c.lists l) → IsListed c x
-in_listed c l x h = let a = count_at x c.lists l in omega arith
-
-pub in_one : (c : Lists) (l m x : ℕ) → IsApart c → l < length c.lists → IsIn x (list_at c.lists l) → IsIn x (list_at c.lists m) → l ≡ m
-in_one c l m x apart h hl hm = elim (cases_eq l m) [
-  | inl same ↦ same
-  | inr other ↦ let t = count_two x c.lists l m other h in let o = apart.once x in absurd (omega arith)
-]
 
 -- a list that is moved to the end of another leaves each number as often as it was
 pub counts_moved : (c : Lists) (l m : ℕ) → l ≢ m → l < length c.lists → m < length c.lists

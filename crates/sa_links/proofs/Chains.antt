@@ -4,7 +4,7 @@
 --     chain_kept, rest_kept      a chain stays where it has neither node
 --     chain_aimed      the last node of a chain is joined to another one
 --     chain_with, chain_without      a node is put into a chain, and taken out of it
-use Rattle.std.proofs.Common.{◌≡◌, ◌≢◌, ℕ, suc, ◌≤◌, ◌<◌, List, [], ◌∷◌, ◌++◌, length, get_or, refl, sym, ap, ◌∙◌, subst, arith}
+use Rattle.std.proofs.Common.{◌≡◌, ◌≢◌, ℕ, ◌≤◌, ◌<◌, List, [], ◌∷◌, ◌++◌, length, get_or, refl, sym, ap, ◌∙◌, subst, arith}
 use Rattle.std.proofs.lemmas.List.{get_or-set_other, get_or-set_same, length-set}
 use Rattle.sa_links.specs.Lists.{count_in}
 use Rattle.sa_links.specs.Rings.{Wires, joined, IsEdge, IsChain}
@@ -137,11 +137,3 @@ chain_without w x a xs ys z c once lz hp hq =
     let front = chain_aimed w q a xs x parts.0 (λ k. front_once k a xs ys (fewer k)) (first_lacks a xs ys z fewer lz-all) hp hq in
     let rest = rest_kept_first w p ys z back.1 (lacks_tail p x ys lp-xy) (λ k. back_once k a xs ys (fewer k)) lz-ys in
     chain_join (joined w p q) a xs ys z front rest
-
-pub last_below : (m a : ℕ) (xs : List ℕ) → a < m → ((k d : ℕ) → k < length xs → get_or xs k d < m) → last_of a xs < m
-last_below m a [] h below = h
-last_below m a (x ∷ xs) h below = last_below m x xs (below 0 0 (omega arith)) (λ k d l. below (suc k) d (omega arith))
-
-pub first_below : (m : ℕ) (ys : List ℕ) (z : ℕ) → z < m → ((k d : ℕ) → k < length ys → get_or ys k d < m) → first_of ys z < m
-first_below m [] z h below = h
-first_below m (y ∷ ys) z h below = below 0 0 (omega arith)

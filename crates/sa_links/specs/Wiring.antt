@@ -6,10 +6,11 @@ use Rattle.sa_links.specs.Rings.{Wires, IsRings, lists_of}
 use Rattle.sa_links.specs.declared.node.Node.{Node, Node'}
 use Rattle.sa_links.specs.contracts.node.Node.{the_row}
 
--- the block of `size` nodes that begins at base has a node at p, and which
+-- the block of `size` nodes that begins at base has a node at p
 abbrev pub IsNodePlace : Ptr → ℕ → Ptr → Type 0
 IsNodePlace base size p = IsPlace the_row base size p
 
+-- which of its nodes that is, from 0 on
 abbrev pub node_index : Ptr → Ptr → ℕ
 node_index base p = index_of the_row base p
 

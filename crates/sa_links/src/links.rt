@@ -1,5 +1,5 @@
 // Disjoint lists of node numbers, as callers see them.
-ghost use Rattle.std.specs.Prelude.{◌≡◌, ◌≢◌, ◌-◌, ◌<◌, ◌≤◌, ◌↔◌, [], ◌∷◌, ◌++◌, length, take, drop, replicate, slice_get, IfOk, IfSome, IsTrue};
+ghost use Rattle.std.specs.Prelude.{◌≡◌, ◌≢◌, ◌-◌, ◌<◌, ◌↔◌, [], ◌∷◌, ◌++◌, length, take, drop, replicate, slice_get, IfOk, IfSome, IsTrue};
 ghost use Rattle.sa_links.specs.Lists.{HasSameCounts, IsApart, IsFree, IsIn, IsListed, IsNext, list_at, with_list, without};
 
 use crate::block::{Place, at, begin_of};

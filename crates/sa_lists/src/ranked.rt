@@ -1,5 +1,5 @@
 // Lists of threads in the order of ranks: a chain for each rank of each list.
-ghost use Rattle.std.specs.Prelude.{◌≡◌, ℕ, false, ◌+◌, ◌*◌, ◌-◌, ◌<◌, ◌≤◌, ◌↔◌, nat_lt, [], length, take, drop, replicate, slice_get, slice_set, IfOk, IfSome, IsTrue};
+ghost use Rattle.std.specs.Prelude.{◌≡◌, ℕ, false, ◌+◌, ◌*◌, ◌-◌, ◌<◌, ◌↔◌, nat_lt, [], length, take, drop, replicate, slice_get, slice_set, IfOk, IfSome, IsTrue};
 ghost use Rattle.sa_links.specs.Lists.{IsApart, IsFree, list_at, with_list};
 ghost use Rattle.sa_lists.specs.ReadyView.{inserted, opening_ranks, rank_of};
 ghost use Rattle.sa_lists.specs.Chains.{Ranked, width_of, words_of, IsNoted};

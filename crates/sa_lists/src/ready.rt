@@ -1,5 +1,5 @@
 // Ready lists under locks, as callers see them.
-ghost use Rattle.std.specs.Prelude.{◌≡◌, ◌<◌, ◌≤◌, ◌-◌, ◌↔◌, [], true, false, not, find, length, IsTrue, IfOk, IfSome};
+ghost use Rattle.std.specs.Prelude.{◌≡◌, ◌<◌, ◌≤◌, ◌-◌, [], ◌↔◌, true, false, not, find, length, IsTrue, IfOk, IfSome};
 ghost use Rattle.std.specs.Bool.{OnFalse};
 ghost use Rattle.std.specs.List.{range_with_len};
 ghost use Rattle.std.specs.Option.{option_map};
@@ -251,14 +251,6 @@ impl ReadyLists {
         ensures { IsTrue result ↔ (list_of self.now l.0 ≡ []) }
     {
         self.lists.is_empty(l.0)
-    }
-
-    /// Whether a thread is in no list.
-    pub fn is_unlisted(&self, t: ThreadNo) -> bool
-        requires { t.0 < self.now.threads }
-        ensures { IsTrue result ↔ IsUnlisted self.now t.0 }
-    {
-        self.lists.is_free(t.0)
     }
 
     /// Says what holds of all ready lists: above all, that a thread is in at most one of them, and once.

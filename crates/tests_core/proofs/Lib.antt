@@ -1,2 +1,0 @@
-mod LocalLemmas
-mod Rounds

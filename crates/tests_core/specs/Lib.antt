@@ -1,2 +1,0 @@
-pub mod OneThread
-pub mod Kept

@@ -1,5 +1,0 @@
-//! Tests of sources and sinks.
-#![tactic(auto)]
-
-#[cfg(test)]
-mod sources;

@@ -1,0 +1,4 @@
+pub mod Asks
+pub mod Plain
+pub mod OneThread
+pub mod Kept

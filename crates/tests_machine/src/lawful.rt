@@ -1,0 +1,184 @@
+// A caller that relies on the kernel's contracts alone: its trace is a history, at each event of which the kernel's laws hold.
+ghost use Rattle.std.specs.Prelude.{◌≡◌, ℕ, ◌<◌, ◌≤◌, [], None, IsTrue, IfOk, IfSome, OnOk};
+ghost use Rattle.sa_kernel.specs.Kept.{kernel_of, processors, scene};
+ghost use Rattle.sa_kernel_model.specs.State.{line_of};
+ghost use Rattle.sa_kernel_model.specs.Entering.{MayEnter};
+ghost use Rattle.sa_laws.specs.History.{Test};
+ghost use Rattle.tests_machine.specs.Plain.{GoesFrom, IsAtWork, IsLawful, IsPlain, IsSameSlice};
+
+use crate::fitting::{Bench, fits};
+use sa_base::{MAX_EVENTS, ProcNo, Record, Stopped, ThreadNo, Trace};
+use sa_kernel::{Entry, Kernel};
+use sa_kernel_laws::quiet_events_go_on;
+use sa_spaces::Workload;
+use sa_trace::kind_counts;
+use sa_workload::read;
+use std::alloc::{AllocError, Global};
+use std::test::Fail;
+
+const TURNS: u64 = 4000;
+
+// Two spaces on three processors; the upcall page of one is absent at first.
+const TEXT: &str =
+    "workload 2\nprocessors 3\nfetch 3\nslice 50\nspaces 2\nspace 0 0 0 0 1\nprogram 1\nend\nspace 0 0 0 0 1\nabsent 0\nprogram 1\nend\nclose\n";
+
+// The context of a thread at work.
+fn at_work() -> Stopped<u64>
+    ensures { IsAtWork result }
+{
+    Stopped {
+        ctx: 0,
+        thread: Some(ThreadNo(0)),
+        idle: false,
+    }
+}
+
+// What enters the kernel on the processor: an interrupt or a completion where it is due, else what the event's number says.
+fn candidate(kernel: &Kernel<u64>, event: u64, p: ProcNo) -> Entry<u64>
+    requires { p.0 < processors kernel.now }
+    ensures { IsPlain result }
+{
+    if kernel.line(p).is_some() {
+        return match kernel.owner(p) {
+            None => Entry::Interrupt(None),
+            Some(_) => Entry::Interrupt(Some(at_work())),
+        };
+    }
+    if let Some(io) = kernel.due(event) {
+        return Entry::Complete(io);
+    }
+    match event % 7 {
+        0..=2 => Entry::More(1),
+        3 => Entry::Idle,
+        4 => Entry::GiveBack,
+        _ => Entry::InterruptOwn(ProcNo((event % 3) as u16)),
+    }
+}
+
+// The same, if it fits.
+fn choose(kernel: &Kernel<u64>, event: u64, p: ProcNo) -> Option<Entry<u64>>
+    requires { p.0 < processors kernel.now }
+    ensures fits { IfSome result (MayEnter (kernel_of kernel.now) p event) }
+    ensures plain { IfSome result IsPlain }
+{
+    let entry = candidate(kernel, event, p);
+    if fits(kernel, p, event, &entry) {
+        Some(entry)
+    } else {
+        None
+    }
+}
+
+// An event of an entry.
+fn enter(
+    kernel: &mut Kernel<u64>,
+    trace: &mut Trace,
+    event: u64,
+    p: ProcNo,
+    entry: Entry<u64>,
+) -> Result<(), AllocError>
+    requires within { p.0 < processors kernel.old }
+    requires later { kernel.old.last < event }
+    requires event { event ≤ MAX_EVENTS }
+    requires fit { MayEnter (kernel_of kernel.old) p event entry }
+    requires plain { IsPlain entry }
+    requires fetched { (kernel_of kernel.old).telling ≡ [] }
+    ensures lawful { OnOk result ((slice last : ℕ) → GoesFrom slice last event (scene kernel.old trace.old) (scene kernel.new trace.new)) }
+    ensures last { OnOk result (kernel.new.last ≡ event) }
+{
+    kernel.reserve(1)?;
+    trace.reserve(kernel.need())?;
+    kernel.evict(event);
+    kernel.enter(p, event, entry, trace);
+    Ok(())
+}
+
+// Whether no slice ends between the events.
+fn is_same_slice(slice: u32, last: u64, event: u64) -> bool
+    ensures { IsTrue result → IsSameSlice slice last event }
+{
+    slice == 0 || event / u64::from(slice) == last / u64::from(slice)
+}
+
+// An event in which nothing happens but a tick; the kernel hears of it only where a slice ends.
+fn tick(
+    kernel: &mut Kernel<u64>,
+    trace: &mut Trace,
+    slice: u32,
+    last: u64,
+    event: u64,
+    p: ProcNo,
+) -> Result<(), AllocError>
+    requires within { p.0 < processors kernel.old }
+    requires later { kernel.old.last < event }
+    requires event { event ≤ MAX_EVENTS }
+    requires low { line_of (kernel_of kernel.old) p ≡ None }
+    requires fetched { (kernel_of kernel.old).telling ≡ [] }
+    ensures lawful { OnOk result (GoesFrom slice last event (scene kernel.old trace.old) (scene kernel.new trace.new)) }
+    ensures last { OnOk result (kernel.new.last ≤ event) }
+{
+    trace.reserve(1)?;
+    kernel.evict(event);
+    trace.say(event, p, Record::Tick);
+    if is_same_slice(slice, last, event) {
+        quiet_events_go_on::<u64>();
+        return Ok(());
+    }
+    trace.reserve(kernel.need())?;
+    kernel.slice_end(p, event, trace);
+    Ok(())
+}
+
+// One turn: a notice is fetched, or else the kernel is entered where something fits, or a tick comes where nobody owns the
+// processor. The last event is answered.
+fn turn(
+    kernel: &mut Kernel<u64>,
+    trace: &mut Trace,
+    slice: u32,
+    last: u64,
+    event: u64,
+    p: ProcNo,
+) -> Result<u64, AllocError>
+    requires later { kernel.old.last < event }
+    requires event { event ≤ MAX_EVENTS }
+    ensures lawful { IfOk result (λ now. GoesFrom slice last now (scene kernel.old trace.old) (scene kernel.new trace.new)) }
+    ensures last { OnOk result (kernel.new.last ≤ event) }
+{
+    if kernel.next_note().is_some() || p.0 >= kernel.processors() {
+        return Ok(last);
+    }
+    if let Some(entry) = choose(kernel, event, p) {
+        enter(kernel, trace, event, p, entry)?;
+        return Ok(event);
+    }
+    if kernel.line(p).is_some() || kernel.owner(p).is_some() {
+        return Ok(last);
+    }
+    tick(kernel, trace, slice, last, event, p)?;
+    Ok(event)
+}
+
+// A run from the opening.
+fn run(alloc: Global, w: &Workload) -> Result<Bench, AllocError>
+    ensures { IfOk result (λ b. (test : Test) → (last : ℕ) × IsLawful test w.now last (scene b.kernel b.trace)) }
+{
+    let mut trace = Trace::new(alloc);
+    let mut kernel = Kernel::start(alloc, w, &mut trace)?;
+    let mut last = 0;
+    for event in 1..TURNS {
+        let p = ProcNo((event % 5) as u16);
+        last = turn(&mut kernel, &mut trace, w.slice(), last, event, p)?;
+    }
+    Ok(Bench { kernel, trace })
+}
+
+#[test]
+fn a_caller_keeps_the_laws(rt: HostRuntime) -> Result<(), Fail> {
+    let w = read(rt.alloc(), TEXT.as_bytes())?;
+    let bench = run(rt.alloc(), &w)?;
+    let counts = kind_counts(bench.trace.items());
+    for kind in [3, 11, 12, 13, 14, 15, 16, 17, 18, 19, 22] {
+        assert!(rt; counts[kind] > 0, "no record of kind {kind}");
+    }
+    Ok(())
+}
