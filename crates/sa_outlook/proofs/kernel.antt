@@ -1,0 +1,5 @@
+pub mod HeldContexts
+pub mod Parts
+pub mod Closings
+pub mod Entries
+pub mod Upcalls

@@ -1,0 +1,6 @@
+pub mod Calls
+pub mod Phases
+pub mod EventBegins
+pub mod OneTurn
+pub mod Ends
+pub mod Regular

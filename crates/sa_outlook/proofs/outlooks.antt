@@ -1,0 +1,3 @@
+pub mod AlikeOutlooks
+pub mod Runs
+pub mod Search

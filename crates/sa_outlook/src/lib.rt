@@ -1,0 +1,3 @@
+//! The outlook of a machine: what decides how it goes on, without the numbers of activations, I/Os and events. Over any user level
+//! that looks at no such number, equal outlooks lead to equal outlooks by the same turns, and to the same ends.
+#![tactic(auto)]
