@@ -93,6 +93,14 @@ impl Assign {
         self.lines[usize::from(p.0)]
     }
 
+    /// Whether the processor is marked as idle.
+    pub fn is_marked(&self, p: ProcNo) -> bool
+        requires { p.0 < length self.now.owners }
+        ensures { result ≡ slice_index_or self.now.marks p.0 false }
+    {
+        self.marks[usize::from(p.0)]
+    }
+
     /// Another space owns the processor, or none.
     pub fn set_owner(&mut self, p: ProcNo, s: Option<SpaceNo>)
         requires { p.0 < length self.old.owners }

@@ -1,14 +1,18 @@
-ghost use Rattle.std.specs.Prelude.{◌≡◌, ℕ, ◌+◌, ◌≤◌, ◌<◌, None, OnOk, OnErr, IfOk};
+ghost use Rattle.std.specs.Prelude.{◌≡◌, ℕ, ◌+◌, ◌≤◌, ◌<◌, length, None, Some, slice_get, slice_index_or, OnOk, OnErr, IfOk};
+ghost use Rattle.std.specs.Option.{option_copied};
 ghost use Rattle.sa_base.specs.declared.limits.TheConstants.{MAX_EVENTS};
 ghost use Rattle.sa_kernel_model.specs.State.{line_of};
 ghost use Rattle.sa_core_model.specs.Turn.{committed};
 ghost use Rattle.sa_core_model.specs.End.{end_of, committable, local_on};
 ghost use Rattle.sa_core_model.specs.Run.{opening, IsTurn, AreNextLocal};
+ghost use Rattle.sa_core_model.specs.Standing.{IsBetween};
+ghost use Rattle.sa_kernel.specs.Kept.{kernel_of};
 ghost use Rattle.sa_core.specs.View.{machine, IsSame};
 
 use crate::machine::CoreParts;
 use sa_abstract::{SeatState, UserLevel};
-use sa_base::{End, ProcNo, Trace};
+use sa_base::{End, ProcNo, SpaceNo, Trace};
+use sa_kernel::Kernel;
 use sa_spaces::Workload;
 use std::alloc::{AllocError, Global};
 use std::marker::Model;
@@ -161,6 +165,36 @@ impl<U: UserLevel> Core<U> {
         ensures { result.now ≡ (machine self.now).workload }
     {
         &self.machine.workload
+    }
+
+    /// The kernel.
+    pub fn kernel(&self) -> &Kernel<U::Ctx>
+        ensures { kernel_of result.now ≡ (machine self.now).kernel }
+    {
+        &self.machine.kernel
+    }
+
+    /// The user level of a space.
+    pub fn user(&self, s: SpaceNo) -> &U
+        requires { s.0 < length (machine self.now).users }
+        ensures { slice_get (machine self.now).users s.0 ≡ Some result.now }
+    {
+        self.machine.users.level(s)
+    }
+
+    /// The context that runs on the processor.
+    pub fn running(&self, p: ProcNo) -> Option<&U::Ctx>
+        requires { p.0 < (machine self.now).workload.processors }
+        ensures { option_copied result ≡ slice_index_or (machine self.now).contexts p.0 None }
+    {
+        self.machine.contexts[usize::from(p.0)].as_ref()
+    }
+
+    /// Shows what always holds between two events. It does nothing.
+    pub fn keeps(&self)
+        ensures { IsBetween U.stands (machine self.now) }
+    {
+        let _machine = &self.budget;
     }
 
     /// The event that raised the processor's line, or `None` where the line is low.

@@ -267,6 +267,14 @@ impl<U: UserLevel> Users<U> {
         Stopped { ctx, thread, idle }
     }
 
+    /// The user level of a space.
+    pub(crate) fn level(&self, s: SpaceNo) -> &U
+        requires { s.0 < length self.now }
+        ensures { slice_get self.now s.0 ≡ Some result.now }
+    {
+        &self.levels[usize::from(s.0)]
+    }
+
     /// Whether a context is inside the package.
     pub(crate) fn owes(&self, s: SpaceNo, ctx: &U::Ctx) -> bool
         requires within { s.0 < length self.now }

@@ -2,3 +2,4 @@ pub mod IosLemmas
 pub mod KeptLemmas
 pub mod LawLemmas
 pub mod SoundLemmas
+pub mod Copying

@@ -13,6 +13,10 @@ listed first [] = []
 listed first (None ∷ places) = listed (first + 1) places
 listed first (Some e ∷ places) = record { number = first; ends = e.ends; kind = e.kind } ∷ listed (first + 1) places
 
+-- what is kept of an I/O at the place of its number
+abbrev pub entry_of : Io → Entry
+entry_of io = record { ends = io.ends; kind = io.kind }
+
 -- what the heap holds of an I/O: its end and its number
 abbrev pub Key : Type 0
 Key = Reverse (ℕ × ℕ)

@@ -1,4 +1,4 @@
-ghost use Rattle.std.specs.Prelude.{◌≡◌, ◌≢◌, ℕ, ◌+◌, ◌≤◌, ◌<◌, ◌^◌, ◌↔◌, [], length, IsTrue, IsSome, IfSome, Some, IfOk, OnOk, OnErr, slice_index};
+ghost use Rattle.std.specs.Prelude.{◌≡◌, ◌≢◌, ℕ, ◌+◌, ◌≤◌, ◌<◌, ◌^◌, ◌↔◌, [], ◌++◌, length, map, IsTrue, IsSome, IfSome, Some, IfOk, OnOk, OnErr, slice_index};
 ghost use Rattle.std.specs.List.{list_any};
 ghost use Rattle.std.specs.Option.{option_map};
 ghost use Rattle.sa_devices.specs.Ios.{one_fetch};
@@ -6,7 +6,7 @@ ghost use Rattle.sa_devices.specs.Pages.{IsKind, completed, evicted};
 
 use crate::kind::IoKind;
 use crate::pages::{all_but, complete, evict_at};
-use crate::under_way::UnderWay;
+use crate::under_way::{Entry, UnderWay};
 use arrayvec::ArrayVec;
 use sa_base::{IoNo, MAX_EVENTS, MAX_SPACES, SpaceNo};
 use sa_spaces::{Evict, Workload};
@@ -42,6 +42,7 @@ impl Model for Devices {
 impl Devices {
     ghost use Rattle.sa_devices.specs.DevicesView.{DevicesView, IosView, opening, begun_with, ended_with};
     ghost use Rattle.sa_devices.specs.Ios.{Io, due_of, io_at, io_no, fetches};
+    ghost use Rattle.sa_devices.specs.Kept.{entry_of};
 
     /// The devices at the opening of a workload: nothing is under way, and the pages that the workload names are
     /// absent. Fails only where memory runs out.
@@ -138,6 +139,20 @@ impl Devices {
         ensures { result ≡ list_any (fetches s.0) self.now.ios.under_way }
     {
         self.fetching[usize::from(s.0)] > 0
+    }
+
+    /// The resident pages of each space: bit k for page k.
+    pub fn all_pages(&self) -> &[u16]
+        ensures { result.now ≡ self.now.pages }
+    {
+        self.pages.as_slice()
+    }
+
+    /// Adds the I/Os under way, in the order of their numbers, at the end of `out`. Fails only where memory runs out.
+    pub fn copy_ios(&self, out: &mut Vec<Entry>) -> Result<(), AllocError>
+        ensures { OnOk result (out.new.items ≡ out.old.items ++ map entry_of self.now.ios.under_way) }
+    {
+        self.ios.copy_to(out)
     }
 
     /// Whether an I/O is under way.

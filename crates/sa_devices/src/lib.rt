@@ -10,3 +10,4 @@ mod under_way;
 pub use devices::Devices;
 pub use kind::IoKind;
 pub use pages::{all_but, complete, evict_at};
+pub use under_way::Entry;

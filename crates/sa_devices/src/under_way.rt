@@ -1,8 +1,8 @@
-ghost use Rattle.std.specs.Prelude.{◌≡◌, ℕ, ◌+◌, ◌≤◌, ◌<◌, ◌^◌, ◌↔◌, [], ◌∷◌, length, IsTrue, IsSome, IfSome, Some, OnOk, OnErr, vec_len};
+ghost use Rattle.std.specs.Prelude.{◌≡◌, ℕ, ◌+◌, ◌≤◌, ◌<◌, ◌^◌, ◌↔◌, [], ◌∷◌, ◌++◌, length, map, IsTrue, IsSome, IfSome, Some, OnOk, OnErr, vec_len};
 ghost use Rattle.std.specs.Option.{option_map};
 ghost use Rattle.std.specs.BinaryHeap.{heap_items, heap_len, heap_capacity, IsHeap, KeepsHeap};
 ghost use Rattle.std.specs.List.Sorted.{IsPermutation};
-ghost use Rattle.sa_devices.specs.Kept.{key_cmp, ends_at, HaveKeys, AreKept};
+ghost use Rattle.sa_devices.specs.Kept.{key_cmp, ends_at, entry_of, listed, HaveKeys, AreKept};
 
 use crate::kind::IoKind;
 use sa_base::IoNo;
@@ -13,9 +13,11 @@ use std::marker::Model;
 
 /// An I/O under way, at the place of its number.
 #[derive(Clone, Copy, Debug)]
-pub(crate) struct Entry {
-    pub(crate) ends: u64,
-    pub(crate) kind: IoKind,
+pub struct Entry {
+    /// The event from which on it is due.
+    pub ends: u64,
+    /// What it is for.
+    pub kind: IoKind,
 }
 
 /// The I/Os that were begun, by their numbers: the place of one that is over is empty. Those under way are
@@ -120,6 +122,13 @@ impl UnderWay {
         entry.kind
     }
 
+    /// Adds the I/Os under way, in the order of their numbers, at the end of `out`. Fails only where memory runs out.
+    pub fn copy_to(&self, out: &mut Vec<Entry>) -> Result<(), AllocError>
+        ensures { OnOk result (out.new.items ≡ out.old.items ++ map entry_of self.now.under_way) }
+    {
+        copy_entries(self.places.as_slice(), out)
+    }
+
     /// Whether no I/O is under way.
     pub fn is_empty(&self) -> bool
         ensures { IsTrue result ↔ (self.now.under_way ≡ []) }
@@ -156,6 +165,18 @@ fn drop_over(places: &[Option<Entry>], by_end: &mut BinaryHeap<Reverse<(u64, u32
         }
         by_end.pop();
     }
+}
+
+// Adds the I/Os under way at the end of `out`. Fails only where memory runs out.
+fn copy_entries(places: &[Option<Entry>], out: &mut Vec<Entry>) -> Result<(), AllocError>
+    ensures { OnOk result (out.new.items ≡ out.old.items ++ map entry_of (listed 0 places.now)) }
+{
+    for place in places {
+        if let Some(entry) = place {
+            out.push(*entry)?;
+        }
+    }
+    Ok(())
 }
 
 // Whether the I/O with this end and this number is under way.

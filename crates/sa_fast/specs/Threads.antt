@@ -1,5 +1,5 @@
 -- The blocks of a space's threads, as callers see them: a list of blocks, by the numbers of the threads.
-use Rattle.std.specs.Prelude.{◌≡◌, ℕ, Bool, true, false, List, length, count_by, replicate, slice_index_or, slice_set}
+use Rattle.std.specs.Prelude.{◌≡◌, ℕ, ◌≤◌, Bool, true, false, List, length, count_by, replicate, slice_index_or, slice_set}
 use Rattle.sa_base.specs.declared.limits.TheConstants.{MAX_THREADS}
 use Rattle.sa_instr.specs.declared.limits.TheConstants.{REGISTERS}
 use Rattle.sa_fast.specs.declared.threads.Block.{Block}
@@ -53,9 +53,11 @@ active_of threads = count_by (λ b. is_active b.place) threads
 abbrev pub done_of : List Block → ℕ
 done_of threads = count_by (λ b. is_done b.place) threads
 
--- there is a block for each thread, and these are the counts
-pub record IsCounted (threads : List Block) (load active done : ℕ) : Type 0 where
+-- there is a block for each thread, these are the counts, and no thread from `used` on was ever made
+pub record IsCounted (threads : List Block) (load active done used : ℕ) : Type 0 where
   pub all : length threads ≡ MAX_THREADS
   pub loads : load ≡ load_of threads
   pub actives : active ≡ active_of threads
   pub ends : done ≡ done_of threads
+  pub most : used ≤ MAX_THREADS
+  pub rest : (t : ℕ) → used ≤ t → block_at threads t ≡ unmade

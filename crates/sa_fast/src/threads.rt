@@ -1,5 +1,5 @@
 // The blocks of a space's threads.
-ghost use Rattle.std.specs.Prelude.{◌≡◌, ◌<◌, ◌≤◌, ◌+◌, count_by, cond, IfOk, replicate};
+ghost use Rattle.std.specs.Prelude.{◌≡◌, ◌<◌, ◌≤◌, ◌+◌, ℕ, count_by, cond, IfOk, length, replicate, take};
 ghost use Rattle.sa_fast.specs.Threads.{unmade, block_at, with_block, is_loaded, is_active, is_done};
 
 use sa_base::{MAX_THREADS, ThreadNo};
@@ -70,6 +70,8 @@ pub struct Threads {
     load: u16,
     active: u16,
     done: u16,
+    // the blocks from here on are of threads that were not made
+    used: u16,
 }
 
 impl Model for Threads {
@@ -81,7 +83,7 @@ impl Model for Threads {
 
     ghost view = { λ t. t.blocks.items };
 
-    ghost invariant = { λ t. IsCounted t.blocks.items t.load t.active t.done };
+    ghost invariant = { λ t. IsCounted t.blocks.items t.load t.active t.done t.used };
 }
 
 impl Threads {
@@ -100,6 +102,7 @@ impl Threads {
             load: 0,
             active: 0,
             done: 0,
+            used: 0,
         })
     }
 
@@ -120,7 +123,16 @@ impl Threads {
         self.load = moved(self.load, old.is_loaded(), block.place.is_loaded());
         self.active = moved(self.active, old.is_active(), block.place.is_active());
         self.done = moved(self.done, old.is_done(), block.place.is_done());
+        self.used = self.used.max(t.0 + 1);
         self.blocks[t.0 as usize] = block;
+    }
+
+    /// The blocks of the first threads; no thread after them was made.
+    pub fn blocks(&self) -> &[Block]
+        ensures first { result.now ≡ take (length result.now) self.now }
+        ensures rest { (t : ℕ) → length result.now ≤ t → block_at self.now t ≡ unmade }
+    {
+        &self.blocks[..self.used as usize]
     }
 
     /// How many threads are ready or run.

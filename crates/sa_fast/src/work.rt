@@ -1,6 +1,6 @@
 // Lists of threads that are still to be made ready.
-ghost use Rattle.std.specs.Prelude.{◌≡◌, ◌+◌, ◌<◌, ℕ, [], ◌∷◌, replicate, Some, IfOk};
-ghost use Rattle.sa_links.specs.Lists.{count_in, count_in_all};
+ghost use Rattle.std.specs.Prelude.{◌≡◌, ◌+◌, ◌<◌, ◌↔◌, ℕ, [], ◌∷◌, ◌++◌, replicate, Some, IfOk, IsTrue, OnOk};
+ghost use Rattle.sa_links.specs.Lists.{count_in, count_in_all, list_at};
 ghost use Rattle.sa_fast.specs.Work.{with_name, added, joined, without_first, IsUnlisted, IsWork, AreApart};
 
 use sa_base::{MAX_THREADS, ThreadNo};
@@ -36,6 +36,23 @@ impl WorkLists {
     {
         let chains = Links::new(alloc, u32::from(MAX_THREADS), u32::from(MAX_THREADS))?;
         Ok(WorkLists { chains })
+    }
+
+    /// Adds the threads of the list that is named by a thread, in order, at the end of `out`. Fails only where memory runs
+    /// out.
+    pub fn copy_list(&self, name: ThreadNo, out: &mut Vec<u32>) -> Result<(), AllocError>
+        requires { name.0 < MAX_THREADS }
+        ensures { OnOk result (out.new.items ≡ out.old.items ++ list_at self.now name.0) }
+    {
+        self.chains.copy_list(u32::from(name.0), out)
+    }
+
+    /// Whether no list is named by this thread.
+    pub fn is_empty(&self, name: ThreadNo) -> bool
+        requires { name.0 < MAX_THREADS }
+        ensures { IsTrue result ↔ (list_at self.now name.0 ≡ []) }
+    {
+        self.chains.is_empty(u32::from(name.0))
     }
 
     /// Puts a thread that is in no list at the end of a context's list.

@@ -116,7 +116,7 @@ impl<C: Drop> Parts<C> {
     }
 
     // The space whose turn it is to be served first.
-    fn first_space(&self, event: u64) -> u16
+    pub(crate) fn first_space(&self, event: u64) -> u16
         requires { HasSizes (state_of self.now) }
         ensures is { result ≡ first_space (state_of self.now) event }
         ensures within { result < length self.now.demands.items }

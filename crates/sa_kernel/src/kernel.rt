@@ -1,5 +1,6 @@
-ghost use Rattle.std.specs.Prelude.{◌≡◌, ℕ, ◌+◌, ◌≤◌, ◌<◌, [], Some, IsSome, IfSome, IfOk, OnOk, OnErr};
-ghost use Rattle.std.specs.Option.{option_map};
+ghost use Rattle.std.specs.Prelude.{◌≡◌, ℕ, ◌+◌, ◌≤◌, ◌<◌, [], length, Some, IsSome, IfSome, IfOk, OnOk, OnErr};
+ghost use Rattle.std.specs.Option.{option_map, option_copied};
+ghost use Rattle.sa_acts.specs.Table.{held_of};
 ghost use Rattle.sa_base.specs.declared.number.ActNo.{ActNo};
 ghost use Rattle.sa_devices.specs.Ios.{due_of, io_at, io_no};
 ghost use Rattle.sa_base.specs.Recorded.{Adds};
@@ -8,7 +9,9 @@ ghost use Rattle.sa_laws.specs.History.{Test};
 use crate::parts::Parts;
 use crate::seen::Lows;
 use crate::start::OPENING;
-use sa_base::{IoNo, MAX_EVENTS, MAX_PROCESSORS, Note, ProcNo, Seen, SpaceNo, Stopped, Trace};
+use sa_assign::Assign;
+use sa_base::{ActNo, IoNo, MAX_EVENTS, MAX_PROCESSORS, Note, ProcNo, Seen, SpaceNo, Stopped, Trace};
+use sa_devices::Devices;
 use sa_kernel_model::{ENTRY_ITEMS, Entry, Given};
 use sa_spaces::Workload;
 use std::alloc::{AllocError, Global};
@@ -39,8 +42,8 @@ impl<C: Drop> Model for Kernel<C> {
 impl<C: Drop> Kernel<C> {
     ghost use Rattle.sa_kernel.specs.Kept.{KernelView, kernel_of, scene, processors};
     ghost use Rattle.sa_kernel_model.specs.Entering.{need_of, MayEnter, upcalls};
-    ghost use Rattle.sa_kernel_model.specs.State.{owner_of, line_of};
-    ghost use Rattle.sa_kernel_model.specs.Closing.{closed};
+    ghost use Rattle.sa_kernel_model.specs.State.{owner_of, line_of, untold_of, taken_of};
+    ghost use Rattle.sa_kernel_model.specs.Closing.{closed, first_space};
     ghost use Rattle.sa_kernel_model.specs.Entries.{entered, next_note, after_fetch, evicted_at};
     ghost use Rattle.sa_kernel_model.specs.Opening.{opened};
     ghost use Rattle.sa_kernel_model.specs.Enters.{Enters};
@@ -218,6 +221,57 @@ impl<C: Drop> Kernel<C> {
         ensures { result ≡ line_of (kernel_of self.now) p }
     {
         self.parts.assign.line(p)
+    }
+
+    /// Of each processor: its owner, its aim, its line and its idle mark.
+    pub fn assign(&self) -> &Assign
+        ensures { result.now ≡ (kernel_of self.now).assign }
+    {
+        &self.parts.assign
+    }
+
+    /// The I/Os under way, and the resident pages of each space.
+    pub fn devices(&self) -> &Devices
+        ensures ios { result.now.ios.under_way ≡ (kernel_of self.now).under_way }
+        ensures pages { result.now.pages ≡ (kernel_of self.now).pages }
+    {
+        &self.parts.devices
+    }
+
+    /// The number of processors that each space announced last.
+    pub fn demands(&self) -> &[u16]
+        ensures { result.now ≡ (kernel_of self.now).demands }
+    {
+        self.parts.demands.as_slice()
+    }
+
+    /// What the space was not told yet, in order.
+    pub fn untold(&self, s: SpaceNo) -> &[Note]
+        requires { s.0 < length (kernel_of self.now).demands }
+        ensures { result.now ≡ untold_of (kernel_of self.now) s.0 }
+    {
+        self.parts.notices.untold(s)
+    }
+
+    /// The context that is held of an activation: `None` exactly where none is.
+    pub fn held(&self, a: ActNo) -> Option<&Stopped<C>>
+        ensures { option_copied result ≡ held_of ((kernel_of self.now).acts a.0) }
+    {
+        self.parts.acts.held(a)
+    }
+
+    /// How many activations of the space are taken and not given back.
+    pub fn taken(&self, s: SpaceNo) -> u32
+        ensures { result ≡ length (taken_of (kernel_of self.now) s.0) }
+    {
+        self.parts.acts.taken(s)
+    }
+
+    /// The space that an event serves first, of those of one priority.
+    pub fn first_space(&self, event: u64) -> u16
+        ensures { result ≡ first_space (kernel_of self.now) event }
+    {
+        self.parts.first_space(event)
     }
 
     /// The I/O that is due at the event and was due first, or `None` where none is due.

@@ -5,3 +5,4 @@ pub mod RingChanges
 pub mod Joining
 pub mod LinksSteps
 pub mod CallerLemmas
+pub mod Copying

@@ -1,5 +1,5 @@
 // Disjoint lists of node numbers, as callers see them.
-ghost use Rattle.std.specs.Prelude.{◌≡◌, ◌≢◌, ◌-◌, ◌<◌, ◌↔◌, [], ◌∷◌, ◌++◌, length, take, drop, replicate, slice_get, IfOk, IfSome, IsTrue};
+ghost use Rattle.std.specs.Prelude.{◌≡◌, ◌≢◌, ◌-◌, ◌<◌, ◌↔◌, [], ◌∷◌, ◌++◌, length, take, drop, replicate, slice_get, IfOk, IfSome, IsTrue, OnOk};
 ghost use Rattle.sa_links.specs.Lists.{HasSameCounts, IsApart, IsFree, IsIn, IsListed, IsNext, list_at, with_list, without};
 
 use crate::block::{Place, at, begin_of};
@@ -186,6 +186,19 @@ impl Links {
     {
         let here = place_of(&self.nodes, self.begin, node as usize);
         at(&self.nodes, at(&self.nodes, here).next).number
+    }
+
+    /// Adds the nodes of `list`, in order, at the end of `out`. Fails only where memory runs out.
+    pub fn copy_list(&self, list: u32, out: &mut Vec<u32>) -> Result<(), AllocError>
+        requires { list < length self.now.lists }
+        ensures { OnOk result (out.new.items ≡ out.old.items ++ list_at self.now.lists list) }
+    {
+        let mut next = self.front(list);
+        while let Some(node) = next {
+            out.push(node)?;
+            next = self.after(node);
+        }
+        Ok(())
     }
 
     /// Whether a node is in no list.

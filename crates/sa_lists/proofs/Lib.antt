@@ -6,3 +6,4 @@ pub mod RankBits
 pub mod Orders
 pub mod Blocks
 pub mod Storage
+pub mod Copying

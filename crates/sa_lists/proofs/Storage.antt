@@ -3,6 +3,7 @@ use Rattle.std.proofs.Common.{◌≡◌, ◌≢◌, ◌↔◌, ℕ, ◌+◌, ◌
 use Rattle.std.proofs.lemmas.Bool.{cases_eq, cases_lt, true≢false}
 use Rattle.std.proofs.lemmas.List.{get_or-set_other, get_or-set_same, get_or_past, get_or-replicate, length-replicate, length-set, length-take, set-get_or}
 use Rattle.std.proofs.lemmas.List.Sums.{sum_by-take-drop}
+use Rattle.std.proofs.Math.Nat.{mul-le-mul_right}
 use Rattle.sa_links.specs.Lists.{Lists, list_at, count_in, count_in_all, IsIn, IsApart, with_list}
 use Rattle.sa_links.proofs.Counting.{count_other, count_at}
 use Rattle.sa_lists.specs.declared.ranks.Ranks.{Ranks}
@@ -56,8 +57,12 @@ module _ (kind : Ranks) (links : Lists) (filled : List RankSet) (of : List ℕ) 
   pub chain-inside : (l k : ℕ) → l < length filled → k < width_of kind → l * width_of kind + k < length links.lists
   chain-inside l k less small = subst (λ n. l * width_of kind + k < n) (sym h.size) (chain_below l (length filled) k (width_of kind) less small)
 
+  -- the chains of a list are among all chains
+  pub blocks_within : (l : ℕ) → l < length filled → (l + 1) * width_of kind ≤ length links.lists
+  blocks_within l less = subst (λ n. (l + 1) * width_of kind ≤ n) (sym h.size) (mul-le-mul_right (width_of kind) (let more : l + 1 ≤ length filled = omega arith in more))
+
   module _ (l : ℕ) (here : l < length filled) where
-    list-joined : list_at now.lists.lists l ≡ joined (chains_of links.lists (width_of kind) l)
+    pub list-joined : list_at now.lists.lists l ≡ joined (chains_of links.lists (width_of kind) l)
     list-joined = ap (λ ls. list_at ls l) (sym lists_are) ∙ list-is (width_of kind) links.lists (length filled) l here
 
     -- a rank of the set is one of the list's

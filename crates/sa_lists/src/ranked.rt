@@ -1,8 +1,8 @@
 // Lists of threads in the order of ranks: a chain for each rank of each list.
-ghost use Rattle.std.specs.Prelude.{◌≡◌, ℕ, false, ◌+◌, ◌*◌, ◌-◌, ◌<◌, ◌↔◌, nat_lt, [], length, take, drop, replicate, slice_get, slice_set, IfOk, IfSome, IsTrue};
+ghost use Rattle.std.specs.Prelude.{◌≡◌, ℕ, false, ◌+◌, ◌*◌, ◌-◌, ◌<◌, ◌≤◌, ◌↔◌, nat_lt, [], length, take, drop, replicate, slice_get, slice_set, IfOk, IfSome, IsTrue, OnOk, ◌++◌};
 ghost use Rattle.sa_links.specs.Lists.{IsApart, IsFree, list_at, with_list};
 ghost use Rattle.sa_lists.specs.ReadyView.{inserted, opening_ranks, rank_of};
-ghost use Rattle.sa_lists.specs.Chains.{Ranked, width_of, words_of, IsNoted};
+ghost use Rattle.sa_lists.specs.Chains.{Ranked, width_of, words_of, joined, chains_of, IsNoted};
 ghost use Rattle.sa_lists.specs.RankSet.{has, IsGreatest, IsLeast};
 
 use crate::rank_set::RankSet;
@@ -144,6 +144,21 @@ impl RankedLists {
         self.chains.front(chain_of(self.kind, list, rank))
     }
 
+    /// Adds the threads of `list`, in order, at the end of `out`. Fails only where memory runs out.
+    pub(crate) fn copy_list(&self, list: u16, out: &mut Vec<u32>) -> Result<(), AllocError>
+        requires { list < length self.now.lists.lists }
+        ensures { OnOk result (out.new.items ≡ out.old.items ++ list_at self.now.lists.lists list) }
+    {
+        copy_chains(&self.chains, self.kind, list, out)
+    }
+
+    /// The rank of a thread.
+    pub(crate) fn rank(&self, t: u16) -> u16
+        ensures { result ≡ rank_of self.now.ranks t }
+    {
+        rank_of(self.ranks.as_slice(), t)
+    }
+
     /// Whether `list` has no thread.
     pub(crate) fn is_empty(&self, list: u16) -> bool
         requires { list < length self.now.lists.lists }
@@ -177,6 +192,35 @@ fn chain_of(kind: Ranks, list: u16, rank: u16) -> u32
         Ranks::Many => u32::from(MAX_RANKS),
     };
     u32::from(list) * width + u32::from(rank)
+}
+
+// Adds the chains of a list, that of the greatest rank first, at the end of `out`. Fails only where memory runs out.
+fn copy_chains(
+    chains: &Links,
+    kind: Ranks,
+    list: u16,
+    out: &mut Vec<u32>,
+) -> Result<(), AllocError>
+    requires { (list + 1) * width_of kind ≤ length chains.now.lists }
+    ensures { OnOk result (out.new.items
+        ≡ out.old.items ++ joined (chains_of chains.now.lists (width_of kind) list)) }
+{
+    let mut rank = width_of(kind);
+    while rank > 0 {
+        rank -= 1;
+        chains.copy_list(chain_of(kind, list, rank), out)?;
+    }
+    Ok(())
+}
+
+// How many ranks there are.
+fn width_of(kind: Ranks) -> u16
+    ensures { result ≡ width_of kind }
+{
+    match kind {
+        Ranks::One => 1,
+        Ranks::Many => MAX_RANKS,
+    }
 }
 
 // The ranks of threads of which none was made. Fails only where memory runs out.

@@ -1,9 +1,9 @@
 // Ready lists under locks, as callers see them.
-ghost use Rattle.std.specs.Prelude.{◌≡◌, ◌<◌, ◌≤◌, ◌-◌, [], ◌↔◌, true, false, not, find, length, IsTrue, IfOk, IfSome};
+ghost use Rattle.std.specs.Prelude.{◌≡◌, ◌<◌, ◌≤◌, ◌-◌, [], ◌↔◌, true, false, not, find, length, IsTrue, IfOk, IfSome, OnOk, ◌++◌};
 ghost use Rattle.std.specs.Bool.{OnFalse};
 ghost use Rattle.std.specs.List.{range_with_len};
 ghost use Rattle.std.specs.Option.{option_map};
-ghost use Rattle.sa_lists.specs.ReadyView.{no_threads, thread, processor, list_of, ready_count, is_locked, IsLocked, IsUnlisted, with_lock, pushed, newest, without_newest, oldest, without_oldest, is_open, sought, next_made, with_made, home, has_ranks, IsReady};
+ghost use Rattle.sa_lists.specs.ReadyView.{no_threads, thread, processor, list_of, ready_count, rank_of, is_locked, IsLocked, IsUnlisted, with_lock, pushed, newest, without_newest, oldest, without_oldest, is_open, sought, next_made, with_made, home, has_ranks, IsReady};
 
 use crate::ranked::RankedLists;
 use crate::ranks::{MAX_RANKS, Ranks};
@@ -243,6 +243,21 @@ impl ReadyLists {
         ensures { result ≡ is_locked self.now l.0 }
     {
         self.locked[usize::from(l.0)]
+    }
+
+    /// Adds the numbers of the threads in list `l`, in order, at the end of `out`. Fails only where memory runs out.
+    pub fn copy_list(&self, l: ProcNo, out: &mut Vec<u32>) -> Result<(), AllocError>
+        requires { l.0 < length self.now.lists }
+        ensures { OnOk result (out.new.items ≡ out.old.items ++ list_of self.now l.0) }
+    {
+        self.lists.copy_list(l.0, out)
+    }
+
+    /// The rank of a thread: 0 where there is one rank.
+    pub fn rank(&self, t: ThreadNo) -> u16
+        ensures { result ≡ rank_of self.now.ranks t.0 }
+    {
+        self.lists.rank(t.0)
     }
 
     /// Whether list `l` has no thread.

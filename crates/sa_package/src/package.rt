@@ -1,4 +1,6 @@
 // The package.
+ghost use Rattle.std.specs.Prelude.{◌≡◌};
+
 use sa_package_model::Package;
 use std::marker::Model;
 
@@ -14,4 +16,13 @@ impl Model for FastThreads {
     ghost Value = { Package };
 
     ghost view = { λ u. u.package };
+}
+
+impl FastThreads {
+    /// What the package keeps.
+    pub fn package(&self) -> &Package
+        ensures { result.now ≡ self.now }
+    {
+        &self.package
+    }
 }

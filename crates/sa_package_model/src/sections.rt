@@ -64,6 +64,13 @@ impl Sections {
         self.frames.first().copied()
     }
 
+    /// All of them, in order.
+    pub fn frames(&self) -> &[Frame]
+        ensures { result.now ≡ self.now }
+    {
+        self.frames.as_slice()
+    }
+
     /// Takes the first out.
     pub fn remove_first(&mut self)
         requires { 0 < length self.old }

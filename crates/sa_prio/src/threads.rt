@@ -53,4 +53,18 @@ impl PrioThreads {
         let on = vec![in alloc; None; usize::from(processors)]?;
         Ok(PrioThreads { base, on })
     }
+
+    /// FastThreads, over which the package is built.
+    pub fn base(&self) -> &FastThreads
+        ensures { result.now ≡ self.now.base }
+    {
+        &self.base
+    }
+
+    /// Of each processor, the thread that the space's context there carries.
+    pub fn on(&self) -> &[Option<ThreadNo>]
+        ensures { result.now ≡ self.now.on }
+    {
+        self.on.as_slice()
+    }
 }

@@ -33,6 +33,17 @@ module _ (s : Inside) (v : Sync) (is : sync_of s ≡ v) (good : IsState s) where
       length_zip2 semaphore_of s.counts.items (drop at s.queues.lists) (omega (arith, good.queues, length-drop at s.queues.lists)) in
       let same = ap (λ (x : Sync). length x.semaphores) is in omega (arith, all, same)
 
+  pub mutexes_are : length v.mutexes ≡ length s.holders.items
+  mutexes_are =
+      sym (ap (λ (x : Sync). length x.mutexes) is)
+      ∙ length_zip2 mutex_of s.holders.items (drop MAX_THREADS s.queues.lists) (omega (arith, good.queues, length-drop MAX_THREADS s.queues.lists))
+
+  pub semaphores_are : length v.semaphores ≡ length s.counts.items
+  semaphores_are =
+      let at = MAX_THREADS + length s.holders.items in
+      sym (ap (λ (x : Sync). length x.semaphores) is)
+      ∙ length_zip2 semaphore_of s.counts.items (drop at s.queues.lists) (omega (arith, good.queues, length-drop at s.queues.lists))
+
   -- a thread waits nowhere where its node is free, and once where the lists are apart
   pub queues_are : (t : ℕ) → count_in_all t s.queues.lists ≡ count_in_all t (queues_of v)
   queues_are t = ap (count_in_all t) (sym (queues-shown s.holders.items s.counts.items s.queues.lists s.done.items s.cells.items good.queues) ∙ ap queues_of is)
@@ -54,6 +65,11 @@ module _ (s : Inside) (v : Sync) (is : sync_of s ≡ v) (good : IsState s) where
       let there = mutex_declared m h in
       ap (λ x. mutex_at x m) (sym is) ∙ mutex-shown s.holders.items s.counts.items s.queues.lists s.done.items s.cells.items m good.queues there
       ∙ ap (λ o. mutex_of o (get_or s.queues.lists (MAX_THREADS + m) [])) (get_or_default s.holders.items m None r there ∙ sym read)
+
+  pub mutex_queue_read : (m : ℕ) → m < length v.mutexes → (mutex_at v m).queue ≡ get_or s.queues.lists (MAX_THREADS + m) []
+  mutex_queue_read m h =
+      ap (λ x. (mutex_at x m).queue) (sym is)
+      ∙ ap (λ x. x.queue) (mutex-shown s.holders.items s.counts.items s.queues.lists s.done.items s.cells.items m good.queues (mutex_declared m h))
 
   pub semaphore_read : (k : ℕ) → k < length v.semaphores
       → semaphore_at v k ≡ semaphore_of (get_or s.counts.items k 0) (get_or s.queues.lists (MAX_THREADS + length s.holders.items + k) [])

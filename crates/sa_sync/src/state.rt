@@ -1,6 +1,6 @@
-ghost use Rattle.std.specs.Prelude.{◌≡◌, ◌-◌, ◌+◌, ◌<◌, ◌≤◌, ◌^◌, ◌↔◌, length, IfOk, IsTrue};
+ghost use Rattle.std.specs.Prelude.{◌≡◌, ◌-◌, ◌+◌, ◌<◌, ◌≤◌, ◌^◌, ◌↔◌, [], ◌++◌, length, IfOk, IsTrue, OnOk};
 ghost use Rattle.std.specs.Option.{option_map};
-ghost use Rattle.sa_sync.specs.Sync.{opening, cell_at, semaphore_at, WaitsNowhere, WaitsOnce};
+ghost use Rattle.sa_sync.specs.Sync.{opening, cell_at, mutex_at, semaphore_at, joiners_at, WaitsNowhere, WaitsOnce};
 ghost use Rattle.sa_sync.specs.Calls.{locked, unlocked, waited, signalled, joined, finished, first_joiner, without_joiner, stored, is_holder};
 
 use crate::answer::SyncAnswer;
@@ -204,6 +204,76 @@ impl SyncState {
         ensures { result ≡ (semaphore_at self.now k).count }
     {
         self.counts[k as usize]
+    }
+
+    /// How many mutexes there are.
+    pub fn mutexes(&self) -> u16
+        ensures { result ≡ length self.now.mutexes }
+    {
+        self.holders.len() as u16
+    }
+
+    /// How many semaphores there are.
+    pub fn semaphores(&self) -> u16
+        ensures { result ≡ length self.now.semaphores }
+    {
+        self.counts.len() as u16
+    }
+
+    /// What each cell holds.
+    pub fn cells(&self) -> &[u64]
+        ensures { result.now ≡ self.now.cells }
+    {
+        self.cells.as_slice()
+    }
+
+    /// The thread that holds a mutex.
+    pub fn holder(&self, m: u16) -> Option<ThreadNo>
+        requires { m < length self.now.mutexes }
+        ensures { option_map (λ t. t.0) result ≡ (mutex_at self.now m).holder }
+    {
+        self.holders[m as usize]
+    }
+
+    /// Of each thread, whether it is done.
+    pub fn done(&self) -> &[bool]
+        ensures { result.now ≡ self.now.done }
+    {
+        self.done.as_slice()
+    }
+
+    /// Whether no thread joins this one.
+    pub fn has_no_joiners(&self, t: ThreadNo) -> bool
+        requires { t.0 < MAX_THREADS }
+        ensures { IsTrue result ↔ (joiners_at self.now t.0 ≡ []) }
+    {
+        self.queues.is_empty(u32::from(t.0))
+    }
+
+    /// Adds the threads that wait for a mutex, in the order in which they came, at the end of `out`. This and the next two
+    /// fail only where memory runs out.
+    pub fn copy_mutex_queue(&self, m: u16, out: &mut Vec<u32>) -> Result<(), AllocError>
+        requires { m < length self.now.mutexes }
+        ensures { OnOk result (out.new.items ≡ out.old.items ++ (mutex_at self.now m).queue) }
+    {
+        self.queues.copy_list(mutex_queue(m), out)
+    }
+
+    /// The same of those that wait for a semaphore.
+    pub fn copy_semaphore_queue(&self, k: u16, out: &mut Vec<u32>) -> Result<(), AllocError>
+        requires { k < length self.now.semaphores }
+        ensures { OnOk result (out.new.items ≡ out.old.items ++ (semaphore_at self.now k).queue) }
+    {
+        let queue = semaphore_queue(self.holders.len(), k);
+        self.queues.copy_list(queue, out)
+    }
+
+    /// The same of those that join a thread.
+    pub fn copy_joiners(&self, t: ThreadNo, out: &mut Vec<u32>) -> Result<(), AllocError>
+        requires { t.0 < MAX_THREADS }
+        ensures { OnOk result (out.new.items ≡ out.old.items ++ joiners_at self.now t.0) }
+    {
+        self.queues.copy_list(u32::from(t.0), out)
     }
 
     /// Says that each thread is in one queue at most. It does nothing.

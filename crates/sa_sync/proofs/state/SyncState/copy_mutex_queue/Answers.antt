@@ -1,0 +1,19 @@
+use Rattle.std.proofs.Common.{◌≡◌, List, ℕ, ◌++◌, ap, sym, subst, arith, ◌∙◌}
+use Rattle.std.specs.Result.{OnOk}
+use Rattle.std.proofs.lemmas.Result.{on_ok_weaker}
+use Rattle.std.proofs.lemmas.List.{get_or_default}
+use Rattle.sa_links.specs.Lists.{list_at}
+use Rattle.sa_sync.proofs.Steps.{mutex_declared, mutex_queue_read}
+use Rattle.sa_sync.proofs.state.SyncState.copy_mutex_queue.Goals as goal
+
+pub copy_list-requires : goal.copy_list-requires
+copy_list-requires c =
+    let h = mutex_declared c.self.inside c.args.self.now c.self.view_is c.self.invariant c.args.m c.requires in
+    let all = c.self.invariant.queues in
+    omega arith
+
+pub returns : goal.returns
+returns c =
+    let queue = mutex_queue_read c.self.inside c.args.self.now c.self.view_is c.self.invariant c.args.m c.requires in
+    let there = ap (list_at c.self.inside.queues.lists) c.mutex_queue.ensures in
+    on_ok_weaker c.copy_list.result (λ e. e ∙ ap (λ z. c.args.out.now.items ++ z) (there ∙ sym queue)) c.copy_list.ensures

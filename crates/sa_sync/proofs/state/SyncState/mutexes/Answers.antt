@@ -1,0 +1,9 @@
+use Rattle.std.proofs.Common.{sym, ◌∙◌, arith}
+use Rattle.sa_sync.proofs.Steps.{mutexes_are}
+use Rattle.sa_sync.proofs.state.SyncState.mutexes.Goals as goal
+
+pub overflow_cast-result : goal.overflow_cast-result
+overflow_cast-result c = let few = c.self.invariant.mutexes in omega arith
+
+pub returns : goal.returns
+returns c = let all = mutexes_are c.self.inside c.args.self.now c.self.view_is c.self.invariant in omega arith
