@@ -81,7 +81,7 @@ breaks-Stepwise = break-behind prio_threads smallest (e0 ∷ e1 ∷ e2 ∷ e3 �
         record { number = refl; proc = omega arith; some = λ no. cc; opening = λ no. absurd (omega arith) },
         tt,
       );
-      broken = λ h. let place = h.steps.0.place in omega (arith, place);
+      broken = λ h. let place = h.steps.0.pc in omega (arith, place);
     })
 
 pub breaks-ToldOnce : FirstBreak prio_threads smallest told_of_nothing (stops_at 1) 1 ToldOnce
@@ -160,7 +160,7 @@ breaks-UpcallGiven =
         (
           record {
             steps = (
-              record { owned = refl; runs = refl; place = refl; within = omega arith; page = tt },
+              record { owned = refl; runs = refl; pc = refl; within = omega arith; page = tt },
               (record { owned = refl; runs = refl; cause = inl refl }, (tt, (tt, tt))),
             );
           },
