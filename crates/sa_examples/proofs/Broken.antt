@@ -59,10 +59,10 @@ abbrev one : List Instr
 one = End ∷ []
 
 -- no line is raised
-abbrev low_lines : List (Option ℕ)
+abbrev pub low_lines : List (Option ℕ)
 low_lines = None ∷ []
 
-low : (k : ℕ) → is_some (slice_index_or low_lines k None) ≡ true → ⊥
+pub low : (k : ℕ) → is_some (slice_index_or low_lines k None) ≡ true → ⊥
 low zero raised = cc
 low (suc k) raised = cc
 

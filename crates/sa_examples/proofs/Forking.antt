@@ -100,7 +100,7 @@ apart21 : Some t2 ≡ Some t1 → ⊥
 apart21 e = let same = ap (λ (t : ThreadNo). t.0) (same_Some t2 t1 e) in omega (arith, same)
 
 -- where one life is in use, and has one lock, another thread than the lock's holds none
-holds-none : (r : Readings) (life : Life) (lock : Lock) (t : ThreadNo) → OnlyZero r.lives → r.lives 0 ≡ Some life → life.locks ≡ lock ∷ []
+pub holds-none : (r : Readings) (life : Life) (lock : Lock) (t : ThreadNo) → OnlyZero r.lives → r.lives 0 ≡ Some life → life.locks ≡ lock ∷ []
     → (lock.thread ≡ Some t → ⊥) → (s : SpaceNo) → HoldsLock r s t → ⊥
 holds-none r life lock t only is locks other s holds =
     let same : life ≡ holds.life = same_Some life holds.life (sym is ∙ the-one r.lives only holds.act.0 holds.life holds.is) in

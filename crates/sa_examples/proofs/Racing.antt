@@ -29,7 +29,7 @@ use Rattle.sa_examples.proofs.Plain.{before-demand, before-order, before-turns, 
 use Rattle.sa_examples.proofs.Calm.{prompt-calm, no-wants, no-shares}
 use Rattle.sa_histories.proofs.Legality.{with-end, break-behind}
 use Rattle.sa_examples.specs.RankedExamples.{racing, p1, at1, line_again, line_unasked, outranked_run, back_alone, pair_unserved}
-use Rattle.sa_examples.proofs.RankedBroken.{goes-on}
+use Rattle.sa_examples.proofs.Broken.{goes-on}
 use Rattle.sa_examples.proofs.RankedForking.{apart01}
 
 apart10 : Some t1 ≡ Some t0 → ⊥

@@ -1,15 +1,12 @@
 -- A run in which two threads of one rank are ready, and the older one is taken.
-use Rattle.std.proofs.Common.{◌≡◌, inl, inr, refl, sym, ◌∙◌, ap, subst, arith, Some, None, List, [], ◌∷◌}
-use Rattle.std.specs.Prelude.{Contains}
+use Rattle.std.proofs.Common.{◌≡◌, inl, inr, refl, ◌∙◌, ap, arith, Some, None, List, [], ◌∷◌}
 use Rattle.std.proofs.lemmas.Option.{same_Some}
-use Rattle.sa_base.specs.declared.number.SpaceNo.{SpaceNo}
 use Rattle.sa_base.specs.declared.number.ThreadNo.{ThreadNo}
 use Rattle.sa_base.specs.declared.record.Record.TheVariants.{Ins, Run, Ready, Take, Free}
 use Rattle.sa_instr.specs.declared.instr.Instr.{Instr}
-use Rattle.sa_lemmas.proofs.Membership.{contains-single}
 use Rattle.sa_laws.specs.declared.rule.Rule.TheVariants.{OrderKept}
 use Rattle.sa_laws.specs.Event.{Event}
-use Rattle.sa_laws.specs.Life.{Life, Lock}
+use Rattle.sa_laws.specs.Life.{Lock}
 use Rattle.sa_laws.specs.Readings.{Readings, IsLocked}
 use Rattle.sa_laws.specs.Locks.{HoldsLock}
 use Rattle.sa_laws.specs.History.{event_begun}
@@ -20,9 +17,11 @@ use Rattle.sa_histories.specs.Lawful.{AreRight}
 use Rattle.sa_examples.specs.Examples.{forking_program, forking, forking_run, older_taken, stops_at, t1, t2}
 use Rattle.sa_histories.specs.Short.{workload_of, at, s0, p0, t0}
 use Rattle.sa_examples.proofs.Plain.{before-order, plain-lawful}
-use Rattle.sa_examples.proofs.Calm.{one-share, OnlyZero, only-none, only-put, the-one, none-locked}
+use Rattle.sa_examples.proofs.Calm.{one-share, only-none, only-put, none-locked}
 use Rattle.sa_examples.proofs.RankedSmallest.{r0, r5, next}
-use Rattle.sa_examples.proofs.RankedBroken.{goes-on, right0, right1, right2, right3, right4}
+use Rattle.sa_examples.proofs.Broken.{goes-on}
+use Rattle.sa_examples.proofs.Forking.{holds-none}
+use Rattle.sa_examples.proofs.RankedBroken.{right0, right1, right2, right3, right4}
 use Rattle.sa_histories.proofs.Legality.{with-end, break-behind}
 
 abbrev g : List (List Instr)
@@ -99,15 +98,6 @@ apart02 e = let same = ap (λ (t : ThreadNo). t.0) (same_Some t0 t2 e) in omega 
 
 apart21 : Some t2 ≡ Some t1 → ⊥
 apart21 e = let same = ap (λ (t : ThreadNo). t.0) (same_Some t2 t1 e) in omega (arith, same)
-
--- where one life is in use, and has one lock, another thread than the lock's holds none
-pub holds-none : (r : Readings) (life : Life) (lock : Lock) (t : ThreadNo) → OnlyZero r.lives → r.lives 0 ≡ Some life → life.locks ≡ lock ∷ []
-    → (lock.thread ≡ Some t → ⊥) → (s : SpaceNo) → HoldsLock r s t → ⊥
-holds-none r life lock t only is locks other s holds =
-    let same : life ≡ holds.life = same_Some life holds.life (sym is ∙ the-one r.lives only holds.act.0 holds.life holds.is) in
-    let all : holds.life.locks ≡ lock ∷ [] = ap (λ (x : Life). x.locks) (sym same) ∙ locks in
-    let one : lock ≡ holds.lock = contains-single lock holds.lock (subst (λ (xs : List Lock). Contains xs holds.lock) all holds.among) in
-    other (ap (λ (x : Lock). x.thread) one ∙ holds.thread)
 
 lawful5 : IsLawful prio_threads forking q5 f5
 lawful5 = plain-lawful prio_threads forking q5 5 p0 (Ins s0 t0 0) refl

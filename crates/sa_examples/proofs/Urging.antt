@@ -20,8 +20,10 @@ use Rattle.sa_examples.proofs.Calm.{prompt-calm, one-share, only-none, only-put,
 use Rattle.sa_histories.proofs.Legality.{with-end, break-behind}
 use Rattle.sa_examples.specs.RankedExamples.{urging_programs, urging, back_for_nothing, own_line, goes_on_outranked, lesser_taken}
 use Rattle.sa_examples.proofs.RankedSmallest.{e0, e1, e2, e3, e4, r0, r5, next}
-use Rattle.sa_examples.proofs.RankedBroken.{one, before5, goes-on, right0, right1, right2, right3, right4}
-use Rattle.sa_examples.proofs.RankedForking.{holds-none, apart01}
+use Rattle.sa_examples.proofs.Broken.{goes-on}
+use Rattle.sa_examples.proofs.Forking.{holds-none}
+use Rattle.sa_examples.proofs.RankedBroken.{one, before5, right0, right1, right2, right3, right4}
+use Rattle.sa_examples.proofs.RankedForking.{apart01}
 
 abbrev g : List (List Instr)
 g = urging_programs

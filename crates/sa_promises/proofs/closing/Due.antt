@@ -378,12 +378,6 @@ no-interrupt : (w : WorkloadView) (m a : Readings) (e : ℕ) (p : ProcNo) (lines
     → must_interrupt w a s ≡ true
     → least_below w.processors (can_be_raised a s) ≡ Some q → ⊥
 no-interrupt w m a e p lines s q raised all after aimed long due among must is = found (least_below w.processors (can_be_raised m s)) refl where
-  owner-back : (k : ℕ) → is_aim s.0 (owner_of m (proc_no k)) ≡ is_aim s.0 (owner_of a (proc_no k))
-  owner-back k = ap (λ os. is_aim s.0 (get_or os k None)) (sym raised.owners)
-
-  aim-on : (k : ℕ) → is_aim s.0 (aim_of a (proc_no k)) ≡ is_aim s.0 (aim_of m (proc_no k))
-  aim-on k = ap (λ os. is_aim s.0 (get_or os k None)) raised.aims
-
   telling : (k : ℕ) → k < w.processors → is_aim s.0 (owner_of a (proc_no k)) ≡ true → is_aim s.0 (aim_of a (proc_no k)) ≡ true
       → (line_of a (proc_no k) ≡ None → ⊥)
       → must_interrupt w a s ≡ true → ⊥
