@@ -6,7 +6,7 @@ use Rattle.sa_base.specs.declared.record.Record.{Record}
 use Rattle.sa_base.specs.declared.record.Record.TheVariants.{Ins}
 use Rattle.sa_instr.specs.declared.instr.Instr.{Instr}
 use Rattle.sa_instr.specs.declared.answer.Local.TheVariants.{Went}
-use Rattle.sa_instr.specs.Local.{instr_at, local_answer, place_after, regs_after}
+use Rattle.sa_instr.specs.Local.{instr_at, local_answer, pc_after, regs_after}
 
 -- where a thread is: its place and its registers
 pub record Spot : Type 0 where
@@ -16,7 +16,7 @@ pub record Spot : Type 0 where
 -- the spot after one instruction
 abbrev pub after_one : List Instr → Spot → Spot
 after_one program spot = record {
-  pc = place_after (instr_at program spot.pc) spot.pc spot.regs;
+  pc = pc_after (instr_at program spot.pc) spot.pc spot.regs;
   regs = regs_after (instr_at program spot.pc) spot.regs;
 }
 

@@ -62,8 +62,8 @@ module _ {C : Type 0} where
   taken_in v s = slice_index_or v.taken s []
 
   -- a number is used for a space
-  abbrev pub begun : ActsView C → SpaceNo → ActNo → ActsView C
-  begun v s a = record v { acts = put v.acts a.0 (Some (runs_in s)); used = v.used + 1; spare = v.spare - 1 }
+  abbrev pub activated : ActsView C → SpaceNo → ActNo → ActsView C
+  activated v s a = record v { acts = put v.acts a.0 (Some (runs_in s)); used = v.used + 1; spare = v.spare - 1 }
 
   -- the context of an activation is held
   abbrev pub saved : ActsView C → ActNo → Stopped C → ActsView C

@@ -1,7 +1,7 @@
 ghost use Rattle.std.specs.Prelude.{◌≡◌, ℕ, ◌+◌, ◌≤◌, ◌<◌, ◌^◌, length, replicate, [], ◌∷◌, ◌++◌, drop, slice_set, Some, None, IsSome, IfSome, slice_get, All, OnOk, OnErr};
 ghost use Rattle.std.specs.Option.{option_copied};
 ghost use Rattle.sa_acts.specs.Queues.{queue_at, queued, all_numbers, HaveRoom, IsGrown};
-ghost use Rattle.sa_acts.specs.Table.{acts_of, IsRunning, held_of, begun, saved, took, gave_back, taken_in};
+ghost use Rattle.sa_acts.specs.Table.{acts_of, IsRunning, held_of, activated, saved, took, gave_back, taken_in};
 
 use crate::queue::Queue;
 use sa_base::{ActNo, MAX_SPACES, SpaceNo, Stopped};
@@ -81,7 +81,7 @@ impl<C: Drop> Acts<C> {
         requires room { 1 ≤ self.old.spare }
         requires few { (acts_of self.old).used + 1 < 2 ^ 32 }
         ensures unused { (acts_of self.old).acts result.0 ≡ None }
-        ensures begun { acts_of self.new ≡ begun (acts_of self.old) s result }
+        ensures activated { acts_of self.new ≡ activated (acts_of self.old) s result }
     {
         let key = self.slots.insert_reserved(Act {
             space: s,

@@ -5,7 +5,7 @@ use Rattle.std.proofs.lemmas.Bool.Decides.{nat_tests}
 use Rattle.sa_laws.specs.declared.rule.Rule.{Rule}
 use Rattle.sa_laws.specs.declared.rule.Rule.TheVariants.{Numbered, Stepwise, ToldOnce, ToldInTime, WhereOwned, AllTold, UpcallGiven, InterruptNext, LineCause, WantCause, SharesCovered, DemandAnnounced, TurnsTaken, LocksKept, OrderKept, EndTold}
 use Rattle.sa_laws.specs.Event.{Event}
-use Rattle.sa_laws.specs.History.{begun}
+use Rattle.sa_laws.specs.History.{event_begun}
 use Rattle.sa_laws.specs.Opening.{IsNumbered}
 use Rattle.sa_laws.specs.Step.{AreSteps}
 use Rattle.sa_laws.specs.Ends.{LastLine}
@@ -46,10 +46,10 @@ or-0 (suc n) false holds = absurd (no (holds (omega arith))) where
 
 -- the moment as an event begins
 abbrev pub beginning_of : Seen → Event → Seen
-beginning_of m e = record m { readings = begun m.workload e m.readings }
+beginning_of m e = record m { readings = event_begun m.workload e m.readings }
 
 module _ (m : Seen) (e : Event) (last : Option LastLine) (b : Beginning) (laws : RecordsFound) (due : DueFound) (ending : Ending)
-    (numbered : IsNumbered m.workload m.readings e) (steps : AreSteps m.workload e.number e.proc (begun m.workload e m.readings) e.records)
+    (numbered : IsNumbered m.workload m.readings e) (steps : AreSteps m.workload e.number e.proc (event_begun m.workload e m.readings) e.records)
     (begins : IsBeginning m e b) (read : IsFoundOf (beginning_of m e) e laws) (places : IsDueFound (beginning_of m e) e due)
     (ends : IsEnding (after m e) e.number last ending) where
   pub each : (rule : Rule) → IsTrue (found_of (findings_of e.number b laws due ending) rule) ↔ Holds fast_threads m.workload rule m.readings e last
@@ -109,7 +109,7 @@ something-found xs false is none = refl
 
 -- what is decided as an event begins, of the moment before it
 pub at-beginning : (L : Law) (m next : Seen) (e : Event) (found : Bool) → next ≡ at_event e.number e.proc m
-    → (next.readings ≡ begun next.workload e m.readings → (IsTrue found ↔ L next.workload m.readings e))
+    → (next.readings ≡ event_begun next.workload e m.readings → (IsTrue found ↔ L next.workload m.readings e))
     → IsTrue found ↔ L m.workload m.readings e
 at-beginning L m next e found begins decided =
-    subst (λ (s : Seen). (s.readings ≡ begun s.workload e m.readings → (IsTrue found ↔ L s.workload m.readings e))) begins decided refl
+    subst (λ (s : Seen). (s.readings ≡ event_begun s.workload e m.readings → (IsTrue found ↔ L s.workload m.readings e))) begins decided refl

@@ -29,7 +29,7 @@ use Rattle.sa_laws.specs.Readings.{Readings, running_of, life_of, line_of, deman
 use Rattle.sa_laws.specs.Ends.{LastLine}
 use Rattle.sa_laws.specs.Rules.{fast_threads, HoldEach, rules}
 use Rattle.sa_laws.specs.Record.{after_record, with_life}
-use Rattle.sa_laws.specs.History.{is_inside, begun, after_records, behind_all, is_step, is_up, with_step, with_up, stepped, arisen, after_event}
+use Rattle.sa_laws.specs.History.{is_inside, event_begun, after_records, behind_all, is_step, is_up, with_step, with_up, stepped, arisen, after_event}
 use Rattle.sa_laws.specs.Shape.{is_no_aim, is_no_want, is_other_line, aims_in, wants_in, others_of, before_aims, before_wants, before_lines, front_part}
 use Rattle.sa_laws.specs.Closing.{claims_of, spaces_of, must_want, want_one, wants_due, first_space, shares_at, aims_due}
 use Rattle.sa_laws.specs.Upcalls.{RecordLaw, EachRecord, TellsOnce, NamesTheLife, TellsAllThen, GivesUpcallThen, RaisesLine, IsPrompt}
@@ -190,7 +190,7 @@ same-records w e p r (x ∷ xs) h =
     (same-records w e p (after_record w e p r x) xs each.1)
 
 -- the beginning of an event on a processor with a low line, and its end
-same-begun : (w : WorkloadView) (e : Event) (r : Readings) → line_of r e.proc ≡ None → IsSame r (begun w e r)
+same-begun : (w : WorkloadView) (e : Event) (r : Readings) → line_of r e.proc ≡ None → IsSame r (event_begun w e r)
 same-begun w e r low = record {
   demands = refl;
   under_way = refl;
@@ -227,7 +227,7 @@ same-event : (w : WorkloadView) (r : Readings) (e : Event) → line_of r e.proc 
     → IsSame r (after_event is_inside w r e)
 same-event w r e low h =
     let q = behind_all w e r in
-    let here = same-both r (begun w e r) q (same-begun w e r low) (same-records w e.number e.proc (begun w e r) e.records h) in
+    let here = same-both r (event_begun w e r) q (same-begun w e r low) (same-records w e.number e.proc (event_begun w e r) e.records h) in
     record {
       demands = here.demands;
       under_way = here.under_way;
@@ -377,23 +377,23 @@ module _ (w : WorkloadView) (r : Readings) (e : Event) (numbered : e.number ≡ 
       settled-same w (e.number - 1) e.number r (after_event is_inside w r e) first.1 (same-event w r e low (quiet-records w r e quiet)) before
 
   -- at each moment of a quiet event all is as it must be
-  during : (xs : List Record) → list_all is_quiet_record xs ≡ true → IsSettled w e.number (after_records w e.number e.proc (begun w e r) xs)
+  during : (xs : List Record) → list_all is_quiet_record xs ≡ true → IsSettled w e.number (after_records w e.number e.proc (event_begun w e r) xs)
   during xs h =
-      let q = after_records w e.number e.proc (begun w e r) xs in
+      let q = after_records w e.number e.proc (event_begun w e r) xs in
       settled-same w (e.number - 1) e.number r q first.1
-      (same-both r (begun w e r) q (same-begun w e r low) (same-records w e.number e.proc (begun w e r) xs h)) before
+      (same-both r (event_begun w e r) q (same-begun w e r low) (same-records w e.number e.proc (event_begun w e r) xs h)) before
 
-  pub quiet-aims-due : aims_in e.records ≡ aims_due w e.number (after_records w e.number e.proc (begun w e r) (before_aims e.records))
+  pub quiet-aims-due : aims_in e.records ≡ aims_due w e.number (after_records w e.number e.proc (event_begun w e r) (before_aims e.records))
   quiet-aims-due =
       let records = quiet-records w r e quiet in
-      let q = after_records w e.number e.proc (begun w e r) (before_aims e.records) in
+      let q = after_records w e.number e.proc (event_begun w e r) (before_aims e.records) in
       let now = during (before_aims e.records) (quiet-front (prefix_len is_no_aim e.records) e.records records) in
       quiet-aims e.records records ∙ sym (none-missing 0 (length w.spaces) (shares_at w e.number q) q.marks q.aims now.covered)
 
-  pub quiet-wants-due : wants_in (others_of e.records) ≡ wants_due w (after_records w e.number e.proc (begun w e r) (before_wants e.records))
+  pub quiet-wants-due : wants_in (others_of e.records) ≡ wants_due w (after_records w e.number e.proc (event_begun w e r) (before_wants e.records))
   quiet-wants-due =
       let records = quiet-records w r e quiet in
-      let q = after_records w e.number e.proc (begun w e r) (before_wants e.records) in
+      let q = after_records w e.number e.proc (event_begun w e r) (before_wants e.records) in
       let now = during (before_wants e.records) (before-wants e.records records) in
       quiet-wants (others_of e.records) (quiet-others e.records records) ∙ sym (ap (map want_one) (none-left (must_want q) (spaces_of w) now.wants))
 
@@ -402,7 +402,7 @@ pub settled-next : (w : WorkloadView) (r : Readings) (e : Event) (last : Option 
     → WasSettled w (after_event is_inside w r e)
 settled-next w r e last held n is =
     let numbered = (holds-each fast_threads w r e last Numbered held).number in
-    let counted = number-kept w e.number e.proc (begun w e r) e.records in
+    let counted = number-kept w e.number e.proc (event_begun w e r) e.records in
     let same : e.number ≡ n = omega (arith, numbered, counted, is) in
     let settled : IsSettled w e.number (after_event is_inside w r e) = record {
       owned = (holds-each fast_threads w r e last WhereOwned held).owned;

@@ -31,7 +31,7 @@ pub(crate) struct Beginning {
 
 /// The event begins.
 pub(crate) fn begin(moment: &mut Moment, event: &TraceEvent) -> Beginning
-    ensures begun { seen moment.new ≡ at_event event.now.number event.now.proc (seen moment.old) }
+    ensures event_begun { seen moment.new ≡ at_event event.now.number event.now.proc (seen moment.old) }
     ensures running { result.start.running ≡ running_of (seen moment.old).readings event.now.proc }
     ensures lowers { result.start.lowers ≡ lowers (seen moment.old).readings event.now.records.now }
     ensures found { IsBeginning (seen moment.old) (told_event event.now) result }

@@ -15,24 +15,24 @@ use Rattle.sa_laws.specs.Record.{after_record, blocking, Blocking, with_page, is
 
 pub record PendingView : Type 0 where
   -- how many I/Os were begun, which is the number of the next; and those under way
-  pub begun : ℕ
+  pub io_count : ℕ
   pub under_way : List Io
   -- of each space: bit k says that page k is resident
   pub pages : List ℕ
 
 -- these are parts of the readings of a history
 abbrev pub pending_of : Readings → PendingView
-pending_of r = record { begun = r.begun; under_way = r.under_way; pages = r.pages }
+pending_of r = record { io_count = r.io_count; under_way = r.under_way; pages = r.pages }
 
 -- before any record
 abbrev pub opened : WorkloadView → PendingView
-opened w = record { begun = 0; under_way = []; pages = map opening_pages w.spaces }
+opened w = record { io_count = 0; under_way = []; pages = map opening_pages w.spaces }
 
 -- an I/O begins, and is due `length` events after this one
 abbrev pub begun_with : IoKind → ℕ → ℕ → PendingView → PendingView
 begun_with kind event length v = record v {
-  begun = v.begun + 1;
-  under_way = v.under_way ++ record { number = v.begun; ends = event + length; kind = kind } ∷ [];
+  io_count = v.io_count + 1;
+  under_way = v.under_way ++ record { number = v.io_count; ends = event + length; kind = kind } ∷ [];
 }
 
 -- that of a life is over; the fetch of a space's upcall page is

@@ -18,7 +18,7 @@ use std::marker::Model;
 /// The I/Os under way and the resident pages of each space, as a history tells them.
 #[derive(Debug, Drop)]
 pub struct Pending {
-    begun: u64,
+    io_count: u64,
     ios: UnderWay,
     // of each space: its upcall page is being fetched
     fetching: Vec<bool>,
@@ -32,7 +32,7 @@ impl Model for Pending {
 
     ghost Value = { PendingView };
 
-    ghost view = { λ x. record { begun = x.begun; under_way = x.ios; pages = x.pages.items } };
+    ghost view = { λ x. record { io_count = x.io_count; under_way = x.ios; pages = x.pages.items } };
 
     ghost invariant = { λ x. AreFetching x.fetching.items x.ios };
 }
@@ -44,7 +44,7 @@ impl Pending {
     {
         let spaces = workload.spaces();
         Ok(Pending {
-            begun: 0,
+            io_count: 0,
             ios: UnderWay::new(alloc),
             fetching: vec![in alloc; false; spaces.len()]?,
             pages: first_pages(alloc, spaces)?,
@@ -58,15 +58,15 @@ impl Pending {
         ensures ok { OnOk result (self.new ≡ begun_with kind event length self.old) }
         ensures err { OnErr result (self.new ≡ self.old) }
     {
-        let Some(begun) = self.begun.checked_add(1) else {
+        let Some(io_count) = self.io_count.checked_add(1) else {
             return Err(AllocError);
         };
         self.ios.begin(BegunIo {
-            number: self.begun,
+            number: self.io_count,
             ends: u128::from(event) + u128::from(length),
             kind,
         })?;
-        self.begun = begun;
+        self.io_count = io_count;
         if let IoKind::Upcall(s) = kind {
             set_at(&mut self.fetching, s, true);
         }
@@ -103,10 +103,10 @@ impl Pending {
     }
 
     /// How many I/Os and fetches were begun.
-    pub fn begun(&self) -> u64
-        ensures { result ≡ self.now.begun }
+    pub fn io_count(&self) -> u64
+        ensures { result ≡ self.now.io_count }
     {
-        self.begun
+        self.io_count
     }
 
     /// What the I/O is for that is due at the event: the one with the least end up to the event, and of these the one

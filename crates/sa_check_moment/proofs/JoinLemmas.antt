@@ -107,18 +107,18 @@ listed-as r p (Spin l) list ready is = refl
 listed-as r p Tick list ready is = refl
 
 -- what a record's parts are read with: for a take, for a block or a fetch, for a ready
-pub record IsReadWith (m : Kept) (p : ProcNo) (x : Record) (for_push : Bool) (begun : Option Blocking) (list : ProcNo) : Type 0 where
+pub record IsReadWith (m : Kept) (p : ProcNo) (x : Record) (for_push : Bool) (new_io : Option Blocking) (list : ProcNo) : Type 0 where
   pub push : ReadsPush (seen m).readings p x for_push
-  pub begins : begun ≡ begun_by (seen m).workload (seen m).readings x
+  pub begins : new_io ≡ begun_by (seen m).workload (seen m).readings x
   pub listed : ReadsList (seen m).readings p x list
 
-pub read-whole : (m n : Kept) (e : ℕ) (p : ProcNo) (x : Record) (for_push : Bool) (begun : Option Blocking) (list : ProcNo) (roused : List ThreadNo)
-    → IsReadWith m p x for_push begun list → n.workload ≡ m.workload → n.number ≡ m.number → n.state ≡ changed m.workload p m.state x
+pub read-whole : (m n : Kept) (e : ℕ) (p : ProcNo) (x : Record) (for_push : Bool) (new_io : Option Blocking) (list : ProcNo) (roused : List ThreadNo)
+    → IsReadWith m p x for_push new_io list → n.workload ≡ m.workload → n.number ≡ m.number → n.state ≡ changed m.workload p m.state x
     → roused ≡ roused_by m.workload m.state x → n.board ≡ noted e p m.last x m.board
-    → lives_of n.lives ≡ recorded roused for_push p x (lives_of m.lives) → n.pending ≡ pending_after begun e x m.pending
+    → lives_of n.lives ≡ recorded roused for_push p x (lives_of m.lives) → n.pending ≡ pending_after new_io e x m.pending
     → n.ready ≡ ready_after list x m.ready → n.last ≡ Some x → n.moved ≡ moved_after m.moved x → seen n ≡ behind_record e p x (seen m)
 unfolding seen
-read-whole m n e p x for_push begun list roused is workload number state woken board lives pending ready last moved =
+read-whole m n e p x for_push new_io list roused is workload number state woken board lives pending ready last moved =
     let r = (seen m).readings in
     seen-as n m.workload r.number (changed m.workload p r.state x) (noted e p r.last x (board_of r))
     (recorded (roused_by m.workload r.state x) for_push p x (read_of r))

@@ -9,7 +9,7 @@ use Rattle.sa_spaces.specs.Workload.{WorkloadView}
 use Rattle.sa_laws.specs.State.{thread_at}
 use Rattle.sa_laws.specs.Life.{Life}
 use Rattle.sa_laws.specs.Readings.{Readings, life_if, life_on}
-use Rattle.sa_laws.specs.History.{is_inside, is_step, is_up, is_free, goes_on}
+use Rattle.sa_laws.specs.History.{is_inside, is_step, is_up, is_free, is_running_or_blocked}
 use Rattle.sa_check_lives.specs.declared.change.Scan.{Scan}
 use Rattle.sa_check_lives.specs.declared.change.Scan.TheVariants.{More, Same, Over}
 use Rattle.sa_check_lives.specs.declared.change.Stepped.{Stepped}
@@ -27,7 +27,7 @@ is_in_if w r settled (Some life) = is_in w r settled life
 
 -- a step settles its life, and what becomes of its scans, where its want lowers the demand or does not
 abbrev pub settles_by : Bool → Readings → Record → Bool
-settles_by low r (Ins s t i) = not (goes_on (thread_at r.state s t).place)
+settles_by low r (Ins s t i) = not (is_running_or_blocked (thread_at r.state s t).place)
 settles_by low r Idle = false
 settles_by low r (Want s n) = not low
 settles_by low r (Block s t a io) = false

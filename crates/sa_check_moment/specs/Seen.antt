@@ -9,7 +9,7 @@ use Rattle.sa_laws.specs.Event.{Event}
 use Rattle.sa_laws.specs.State.{State}
 use Rattle.sa_laws.specs.Readings.{Readings, Listed, opening_readings, demand_of}
 use Rattle.sa_laws.specs.Record.{after_record}
-use Rattle.sa_laws.specs.History.{begun, ended, is_inside}
+use Rattle.sa_laws.specs.History.{event_begun, ended, is_inside}
 use Rattle.sa_check_lives.specs.View.{LivesView, Stored, lives_of}
 use Rattle.sa_check_ios.specs.PendingView.{PendingView}
 use Rattle.sa_check_moment.specs.Board.{BoardView}
@@ -43,7 +43,7 @@ joined number state board lives pending ready last moved = record {
   taken = lives.taken;
   demands = board.demands;
   untold = lives.untold;
-  begun = pending.begun;
+  io_count = pending.io_count;
   under_way = pending.under_way;
   pages = pending.pages;
   ready = ready;
@@ -68,7 +68,7 @@ event number p records = record { number = number; proc = p; records = records }
 
 -- at the beginning of an event, after one record of it, and at its end, where this was read before it
 abbrev pub at_event : ℕ → ProcNo → Seen → Seen
-at_event number p m = record m { readings = begun m.workload (event number p []) m.readings }
+at_event number p m = record m { readings = event_begun m.workload (event number p []) m.readings }
 
 abbrev pub behind_record : ℕ → ProcNo → Record → Seen → Seen
 behind_record number p what m = record m { readings = after_record m.workload number p m.readings what }

@@ -223,10 +223,10 @@ impl Moment {
     }
 
     /// How many I/Os and fetches were begun.
-    pub fn begun(&self) -> u64
-        ensures { result ≡ (seen self.now).readings.begun }
+    pub fn io_count(&self) -> u64
+        ensures { result ≡ (seen self.now).readings.io_count }
     {
-        self.parts.pending.begun()
+        self.parts.pending.io_count()
     }
 
     /// The page of the space is resident.

@@ -22,5 +22,5 @@ pub fn gives_upcall(moment: &Moment, p: ProcNo, what: &Record, rest: &[Record]) 
 fn is_followed(moment: &Moment, p: ProcNo, s: SpaceNo, io: IoNo, rest: &[Record]) -> bool
     ensures { IsTrue result ↔ GivesUpcall p (seen moment.now).readings s io rest.now }
 {
-    u64::from(io.0) == moment.begun() && follows_block(p, s, upcall_page(moment, s), rest)
+    u64::from(io.0) == moment.io_count() && follows_block(p, s, upcall_page(moment, s), rest)
 }

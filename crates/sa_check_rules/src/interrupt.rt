@@ -1,7 +1,7 @@
 // An interrupt is the next event.
 ghost use Rattle.std.specs.Prelude.{◌≡◌, ◌↔◌, IsTrue, is_some};
 ghost use Rattle.sa_laws.specs.Readings.{Readings, owner_of, aim_of, line_of};
-ghost use Rattle.sa_laws.specs.History.{begun};
+ghost use Rattle.sa_laws.specs.History.{event_begun};
 ghost use Rattle.sa_laws.specs.Upcalls.{StopsAndGoes, InterruptIsNext};
 ghost use Rattle.sa_check_moment.specs.Seen.{seen, event};
 
@@ -20,7 +20,7 @@ pub fn interrupt_is_next(
     records: &[Record],
 ) -> bool
     ensures { let m = seen moment.now in let e = event number p records.now in
-        (r : Readings) → m.readings ≡ begun m.workload e r → raised ≡ is_some (line_of r p)
+        (r : Readings) → m.readings ≡ event_begun m.workload e r → raised ≡ is_some (line_of r p)
         → (IsTrue result ↔ InterruptIsNext m.workload r e) }
 {
     if raised {

@@ -2,7 +2,7 @@
 ghost use Rattle.std.specs.Prelude.{◌≡◌, ◌↔◌, IsTrue};
 ghost use Rattle.sa_laws.specs.Life.{first_lock};
 ghost use Rattle.sa_laws.specs.Readings.{Readings, has_hand, life_on};
-ghost use Rattle.sa_laws.specs.History.{begun, is_step};
+ghost use Rattle.sa_laws.specs.History.{event_begun, is_step};
 ghost use Rattle.sa_laws.specs.Locks.{TakesFor, CanTake, CanBeUsed, CanReady, CanRun, CanFree, CanCont, WithFirst, back_is_due, KeepsLocks, KeepsLocksIf, KeepsLocksIn, LocksAreKept};
 ghost use Rattle.sa_check_moment.specs.Seen.{seen, event};
 
@@ -15,7 +15,7 @@ use sa_check_shapes::{is_back, is_step, own_part, parted, stands_alone};
 /// List locks, at an event of this number and processor with these records, on the moment as it begins.
 pub fn locks_are_kept(moment: &Moment, number: u64, p: ProcNo, records: &[Record]) -> bool
     ensures { let m = seen moment.now in let e = event number p records.now in
-        (r : Readings) → m.readings ≡ begun m.workload e r
+        (r : Readings) → m.readings ≡ event_begun m.workload e r
         → (IsTrue result ↔ LocksAreKept m.workload r e) }
 {
     number == 0 || keeps_locks_in(moment, p, own_part(records))

@@ -3,7 +3,7 @@ ghost use Rattle.std.specs.Prelude.{◌≡◌, ◌↔◌, IsTrue, is_some};
 ghost use Rattle.sa_instr.specs.Local.{local_answer};
 ghost use Rattle.sa_instr.specs.declared.answer.Local.TheVariants.{Went};
 ghost use Rattle.sa_laws.specs.Readings.{Readings, line_of, owner_of};
-ghost use Rattle.sa_laws.specs.History.{begun};
+ghost use Rattle.sa_laws.specs.History.{event_begun};
 ghost use Rattle.sa_laws.specs.Turns.{IsStep, IsTickOrStep, IsLocalIns, IsTurn, TurnsAreTaken};
 ghost use Rattle.sa_check_moment.specs.Seen.{seen, event};
 
@@ -23,7 +23,7 @@ pub fn turns_are_taken(
     records: &[Record],
 ) -> bool
     ensures { let m = seen moment.now in let e = event number p records.now in
-        (r : Readings) → m.readings ≡ begun m.workload e r → raised ≡ is_some (line_of r p)
+        (r : Readings) → m.readings ≡ event_begun m.workload e r → raised ≡ is_some (line_of r p)
         → (IsTrue result ↔ TurnsAreTaken IsStep m.workload r e) }
 {
     number == 0

@@ -53,20 +53,20 @@ micro-answer s f pages can = micro_at-answer s f (is_resident pages PACKAGE_PAGE
 
 -- the frame goes on where the operation was done
 taken-goes_on : (s : PackageState) (f : Frame) (l : ProcNo) (held : Bool) → GoesOn f (taken s f l held).frame (is_did (taken s f l held).done)
-taken-goes_on s f l true = record { list = refl; own = refl; place = refl }
-taken-goes_on s f l false = record { list = refl; own = refl; place = refl }
+taken-goes_on s f l true = record { list = refl; own = refl; pc = refl }
+taken-goes_on s f l false = record { list = refl; own = refl; pc = refl }
 
 pushed-goes_on : (s : PackageState) (f : Frame) (resident : Bool) (l : ProcNo) (t : Option ThreadNo)
     → GoesOn f (pushed s f resident l t).frame (is_did (pushed s f resident l t).done)
-pushed-goes_on s f false l t = record { list = refl; own = refl; place = refl }
-pushed-goes_on s f true l None = record { list = refl; own = refl; place = refl }
-pushed-goes_on s f true l (Some t) = record { list = refl; own = refl; place = refl }
+pushed-goes_on s f false l t = record { list = refl; own = refl; pc = refl }
+pushed-goes_on s f true l None = record { list = refl; own = refl; pc = refl }
+pushed-goes_on s f true l (Some t) = record { list = refl; own = refl; pc = refl }
 
 popped-goes_on : (s : PackageState) (f : Frame) (resident : Bool) (l : ProcNo) (t : Option ℕ)
     → GoesOn f (popped s f resident l t).frame (is_did (popped s f resident l t).done)
-popped-goes_on s f false l t = record { list = refl; own = refl; place = refl }
-popped-goes_on s f true l None = record { list = refl; own = refl; place = refl }
-popped-goes_on s f true l (Some t) = record { list = refl; own = refl; place = refl }
+popped-goes_on s f false l t = record { list = refl; own = refl; pc = refl }
+popped-goes_on s f true l None = record { list = refl; own = refl; pc = refl }
+popped-goes_on s f true l (Some t) = record { list = refl; own = refl; pc = refl }
 
 micro_at-goes_on : (s : PackageState) (f : Frame) (resident : Bool) (l : ProcNo) (op : Option Op)
     → GoesOn f (micro_at s f resident l op).frame (is_did (micro_at s f resident l op).done)
@@ -74,10 +74,10 @@ micro_at-goes_on s f resident l (Some TakePush) = taken-goes_on s f l (is_locked
 micro_at-goes_on s f resident l (Some Push) = pushed-goes_on s f resident l f.pushed
 micro_at-goes_on s f resident l (Some TakePop) = taken-goes_on s f l (is_locked s.lists l.0)
 micro_at-goes_on s f resident l (Some Pop) = popped-goes_on s f resident l (chosen s.lists (takes_first s.lists f.own) l.0)
-micro_at-goes_on s f resident l (Some Free) = record { list = refl; own = refl; place = refl }
-micro_at-goes_on s f resident l (Some Leave) = record { list = refl; own = refl; place = refl }
-micro_at-goes_on s f resident l (Some Yield) = record { list = refl; own = refl; place = refl }
-micro_at-goes_on s f resident l None = record { list = refl; own = refl; place = refl }
+micro_at-goes_on s f resident l (Some Free) = record { list = refl; own = refl; pc = refl }
+micro_at-goes_on s f resident l (Some Leave) = record { list = refl; own = refl; pc = refl }
+micro_at-goes_on s f resident l (Some Yield) = record { list = refl; own = refl; pc = refl }
+micro_at-goes_on s f resident l None = record { list = refl; own = refl; pc = refl }
 
 pub micro-goes_on : (s : PackageState) (f : Frame) (pages : ℕ) → GoesOn f (micro s f pages).frame (is_did (micro s f pages).done)
 micro-goes_on s f pages = micro_at-goes_on s f (is_resident pages PACKAGE_PAGE) (list_in f) (slice_get s.code f.pc)

@@ -15,7 +15,7 @@ use Rattle.sa_base.specs.declared.limits.TheConstants.{PACKAGE_PAGE}
 use Rattle.sa_code.specs.declared.state.PackageState.{PackageState}
 use Rattle.sa_code.specs.declared.state.Frame.{Frame}
 use Rattle.sa_code.specs.Micro.{micro, micro_at, taken, pushed, popped, freed, takes_first, chosen, without_chosen, list_in, is_resident, CanDo}
-use Rattle.sa_code.specs.Changes.{holder_of, IsList, ChangesOnly, IsPackage, begun}
+use Rattle.sa_code.specs.Changes.{holder_of, IsList, ChangesOnly, IsPackage, opening_package}
 use Rattle.sa_code.proofs.Steps.{taken-changes_only, pushed-changes_only, popped-changes_only, freed-changes_only, taken-list, pushed-list, popped-list, freed-list}
 
 -- a change of list l alone, which has a holder only where its lock is held
@@ -95,7 +95,7 @@ no_holder (suc n) (suc l) = no_holder n l
 
 -- new package states
 pub begun-package : (space : SpaceNo) (code : List Op) (lists : ℕ) (ranks : Ranks) (threads : ℕ) → lists ≤ MAX_PROCESSORS → threads ≤ MAX_THREADS
-    → IsPackage (begun space code lists ranks threads)
+    → IsPackage (opening_package space code lists ranks threads)
 begun-package space code lists ranks threads few most = record {
   ready = ready-no_threads lists ranks threads few most;
   holders = refl;

@@ -42,8 +42,8 @@ pub record IsPackage (s : PackageState) : Type 0 where
   pub free : (l : ℕ) → is_locked s.lists l ≡ false → holder_of s l ≡ None
 
 -- no thread was made, no list is locked
-abbrev pub begun : SpaceNo → List Op → ℕ → Ranks → ℕ → PackageState
-begun space code lists ranks threads = record {
+abbrev pub opening_package : SpaceNo → List Op → ℕ → Ranks → ℕ → PackageState
+opening_package space code lists ranks threads = record {
   space = space;
   lists = no_threads lists ranks threads;
   holders = replicate MAX_PROCESSORS None;
@@ -54,7 +54,7 @@ begun space code lists ranks threads = record {
 pub record GoesOn (old new : Frame) (on : Bool) : Type 0 where
   pub list : new.list ≡ old.list
   pub own : new.own ≡ old.own
-  pub place : new.pc ≡ (if on then old.pc + 1 else old.pc)
+  pub pc : new.pc ≡ (if on then old.pc + 1 else old.pc)
 
 -- state and frame are as before
 pub record IsStill (s : PackageState) (f : Frame) (m : Micro) : Type 0 where

@@ -76,7 +76,7 @@ impl Code {
     /// The operation at a place: `None` exactly where there is no such place.
     pub fn at(&self, pc: u16) -> Option<Op>
         ensures op { result ≡ slice_get self.now pc }
-        ensures place { OnSome result (pc < CODE_PLACES) }
+        ensures pc { OnSome result (pc < CODE_PLACES) }
     {
         self.ops.get(usize::from(pc)).copied()
     }

@@ -9,7 +9,7 @@ ghost use Rattle.sa_code.specs.declared.code.Op.{Op};
 ghost use Rattle.sa_code.specs.declared.state.PackageState.{PackageState};
 ghost use Rattle.sa_code.specs.declared.state.Frame.{Frame};
 ghost use Rattle.sa_code.specs.Micro.{micro, taken, pushed, popped, freed, takes_first, without_chosen, list_in, is_resident, HasList, CanChange, CanPop, CanDo};
-ghost use Rattle.sa_code.specs.Changes.{holder_of, IsList, ChangesOnly, IsPackage, begun, GoesOn, IsStill, answer_of, is_did};
+ghost use Rattle.sa_code.specs.Changes.{holder_of, IsList, ChangesOnly, IsPackage, opening_package, GoesOn, IsStill, answer_of, is_did};
 
 use sa_base::{MAX_PROCESSORS, MAX_THREADS, PACKAGE_PAGE};
 
@@ -57,7 +57,7 @@ pub fn its_list_changes_as_the_table_says()
 pub fn operations_keep_what_holds()
     ensures begin { (space : SpaceNo) (code : List Op) (lists : ℕ) (ranks : Ranks) (threads : ℕ)
         → lists ≤ MAX_PROCESSORS → threads ≤ MAX_THREADS
-        → IsPackage (begun space code lists ranks threads) }
+        → IsPackage (opening_package space code lists ranks threads) }
     ensures step { (s : PackageState) (f : Frame) (pages : ℕ) → IsPackage s
         → CanDo s f (slice_get s.code f.pc) → IsPackage (micro s f pages).state }
 {}

@@ -46,7 +46,7 @@ fn operate(
     trace: &mut Trace,
 ) -> MicroDone
     requires can { CanDo state.old frame.old (Some op) }
-    requires place { frame.old.pc < CODE_PLACES }
+    requires pc { frame.old.pc < CODE_PLACES }
     requires room { 1 ≤ trace.old.spare }
     ensures { let resident = is_resident seen.now.pages PACKAGE_PAGE in
         Does (micro_at state.old frame.old resident (list_in frame.old) (Some op))
@@ -96,7 +96,7 @@ fn is_code_resident(seen: &Seen) -> bool
 // Takes the lock of the frame's list.
 fn take(state: &mut PackageState, frame: &mut Frame, seen: &Seen, trace: &mut Trace) -> MicroDone
     requires list { HasList state.old frame.old }
-    requires place { frame.old.pc < CODE_PLACES }
+    requires pc { frame.old.pc < CODE_PLACES }
     requires room { 1 ≤ trace.old.spare }
     ensures { let list = list_in frame.old in
         Does (taken state.old frame.old list (is_locked state.old.lists list.0))
@@ -118,7 +118,7 @@ fn take(state: &mut PackageState, frame: &mut Frame, seen: &Seen, trace: &mut Tr
 fn push(state: &mut PackageState, frame: &mut Frame, seen: &Seen, trace: &mut Trace) -> MicroDone
     requires list { CanChange state.old frame.old }
     requires thread { CanPush state.old frame.old }
-    requires place { frame.old.pc < CODE_PLACES }
+    requires pc { frame.old.pc < CODE_PLACES }
     requires room { 1 ≤ trace.old.spare }
     ensures { let resident = is_resident seen.now.pages PACKAGE_PAGE in
         Does (pushed state.old frame.old resident (list_in frame.old) frame.old.pushed)
@@ -141,7 +141,7 @@ fn push(state: &mut PackageState, frame: &mut Frame, seen: &Seen, trace: &mut Tr
 fn pop(state: &mut PackageState, frame: &mut Frame, seen: &Seen, trace: &mut Trace) -> MicroDone
     requires list { CanChange state.old frame.old }
     requires thread { CanPop state.old frame.old }
-    requires place { frame.old.pc < CODE_PLACES }
+    requires pc { frame.old.pc < CODE_PLACES }
     requires room { 1 ≤ trace.old.spare }
     ensures { let resident = is_resident seen.now.pages PACKAGE_PAGE in
         let list = list_in frame.old in
@@ -183,7 +183,7 @@ fn choose(lists: &mut ReadyLists, first: bool, list: ProcNo) -> Option<ThreadNo>
 // Frees the lock of the frame's list.
 fn free(state: &mut PackageState, frame: &mut Frame, seen: &Seen, trace: &mut Trace) -> MicroDone
     requires list { CanChange state.old frame.old }
-    requires place { frame.old.pc < CODE_PLACES }
+    requires pc { frame.old.pc < CODE_PLACES }
     requires room { 1 ≤ trace.old.spare }
     ensures { Does (freed state.old frame.old (list_in frame.old))
         seen.now trace.old state.new frame.new result trace.new }

@@ -26,7 +26,7 @@ freed-pc s f seen more op end =
     let only = micro-changes_only s f seen.pages in
     let done : m.done ≡ Did = ap (λ o. (micro_at s f (is_resident seen.pages PACKAGE_PAGE) (list_in f) o).done) op in
     let on = micro-goes_on s f seen.pages in
-    let place : m.frame.pc ≡ f.pc + 1 = subst (λ b. m.frame.pc ≡ (if b then f.pc + 1 else f.pc)) (ap is_did done) on.place in
+    let place : m.frame.pc ≡ f.pc + 1 = subst (λ b. m.frame.pc ≡ (if b then f.pc + 1 else f.pc)) (ap is_did done) on.pc in
     let over_there : is_over (slice_get m.state.code m.frame.pc) ≡ true =
     ap (λ ops. is_over (slice_get ops m.frame.pc)) only.code ∙ ap (λ k. is_over (slice_get s.code k)) place ∙ end in
     let step = run_of-behind s f seen more (ap is_over op) in
@@ -40,7 +40,7 @@ done-pc : (s : PackageState) (f : Frame) (seen : Seen) (more : List Seen) → is
 done-pc s f seen more goes done =
     let m = micro s f seen.pages in
     let on = micro-goes_on s f seen.pages in
-    (ap (λ (r : Run). r.frame.pc) (run_of-behind s f seen more goes), subst (λ b. m.frame.pc ≡ (if b then f.pc + 1 else f.pc)) (ap is_did done) on.place)
+    (ap (λ (r : Run). r.frame.pc) (run_of-behind s f seen more goes), subst (λ b. m.frame.pc ≡ (if b then f.pc + 1 else f.pc)) (ap is_did done) on.pc)
 
 -- an effect and the free after it lead to the end
 effect-pc : (s : PackageState) (f : Frame) (first second : Seen) (more : List Seen) → is_over (slice_get s.code f.pc) ≡ false

@@ -19,7 +19,7 @@ use Rattle.sa_kernel_model.specs.State.{KernelState, owner_of, line_of}
 use Rattle.sa_kernel_model.specs.Entering.{MayEnter, Asks as KernelAsks, upcalls}
 use Rattle.sa_kernel_model.specs.Sound.{AreClaimed}
 use Rattle.sa_kernel_model.proofs.parts.Seen.{low-bit}
-use Rattle.sa_core_model.specs.Machine.{Machine, seen_on, scene_of, without_context, stopped_in, stepped, step_to, begun}
+use Rattle.sa_core_model.specs.Machine.{Machine, seen_on, scene_of, without_context, stopped_in, stepped, step_to, context_begun}
 use Rattle.sa_core_model.specs.Turn.{kernel_entered, next_event}
 use Rattle.sa_core_model.specs.Run.{CanGo}
 use Rattle.sa_core_model.specs.Standing.{Stands, IsBetween}
@@ -41,7 +41,7 @@ module _ {U C : Type 0} (f : Calls U C) (stands : Standing U C) (keep : Keeps f 
     before = new.before;
     place = new.place;
     lives = new.within;
-    begins = stands-later f stands keep e m.event (begun f p new.space m) later new.begins.standing;
+    begins = stands-later f stands keep e m.event (context_begun f p new.space m) later new.begins.standing;
     claimed =
         subst (λ (k : KernelState C). AreClaimed k new.space.0)
         (ap (λ (z : Machine U C). z.kernel) (begun-is f stands keep p new.space m new.user new.is_user)) new.begins.claimed;

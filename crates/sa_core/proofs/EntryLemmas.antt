@@ -14,7 +14,7 @@ use Rattle.sa_kernel_model.specs.Entries.{entered}
 use Rattle.sa_kernel_model.specs.Entering.{upcalls}
 use Rattle.sa_kernel_model.specs.Enters.{given_by}
 use Rattle.sa_kernel_model.specs.Sound.{AreClaimed}
-use Rattle.sa_core_model.specs.Machine.{Machine, user_of, seen_on, scene_of, with_scene, with_pair, begun, answered}
+use Rattle.sa_core_model.specs.Machine.{Machine, user_of, seen_on, scene_of, with_scene, with_pair, context_begun, answered}
 use Rattle.sa_core_model.specs.Turn.{kernel_entered, told_all, welcomed_in, welcomed_if, entered_on, hinted, answered_in}
 use Rattle.sa_core_model.specs.Standing.{Stands}
 use Rattle.sa_core.specs.Needs.{Welcomes}
@@ -55,10 +55,10 @@ module _ {U C : Type 0} (f : Calls U C) where
       sym (ap (λ o. answered_in f p o k) owner) ∙ ap (λ (z : Machine U C). answered_in f p (owner_of z.kernel p) z) is_k
 
   begun-is : (p : ProcNo) (s : SpaceNo) (m : Machine U C) (u : U) → user_of m s ≡ Some u
-      → begun f p s m ≡ with_pair p s (f.begun u (seen_on m p s)).0 (f.begun u (seen_on m p s)).1 m
+      → context_begun f p s m ≡ with_pair p s (f.begun u (seen_on m p s)).0 (f.begun u (seen_on m p s)).1 m
   begun-is p s m u user = rw user refl
 
-  pub welcomed-as : (p : ProcNo) (s : SpaceNo) (m a b n : Machine U C) (u : U) → owner_of m.kernel p ≡ Some s → user_of m s ≡ Some u → a ≡ begun f p s m
+  pub welcomed-as : (p : ProcNo) (s : SpaceNo) (m a b n : Machine U C) (u : U) → owner_of m.kernel p ≡ Some s → user_of m s ≡ Some u → a ≡ context_begun f p s m
       → b ≡ told_all f p s a.kernel.telling a → n ≡ answered f p s b → n ≡ welcomed_in f p (owner_of m.kernel p) m
   welcomed-as p s m a b n u owner user is_a is_b is_n =
       let kernel : a.kernel ≡ m.kernel = ap (λ (z : Machine U C). z.kernel) (is_a ∙ begun-is p s m u user) in
@@ -74,14 +74,14 @@ module _ {U C : Type 0} (f : Calls U C) where
       pub owner : owner_of a.kernel p ≡ Some s
       pub claimed : AreClaimed a.kernel s.0
 
-    pub begun-so : (p : ProcNo) (s : SpaceNo) (m a : Machine U C) → Welcomes f stands p m → owner_of m.kernel p ≡ Some s → a ≡ begun f p s m → Begun p s a
+    pub begun-so : (p : ProcNo) (s : SpaceNo) (m a : Machine U C) → Welcomes f stands p m → owner_of m.kernel p ≡ Some s → a ≡ context_begun f p s m → Begun p s a
     begun-so p s m a new owner is =
         let t : new.space ≡ s = same_Some new.space s (sym new.owner ∙ owner) in
-        subst (λ z. Begun p s z) (sym (is ∙ ap (λ z. begun f p z m) (sym t)))
-        (subst (λ z. Begun p z (begun f p new.space m)) t
+        subst (λ z. Begun p s z) (sym (is ∙ ap (λ z. context_begun f p z m) (sym t)))
+        (subst (λ z. Begun p z (context_begun f p new.space m)) t
         (let b = begun-is p new.space m new.user new.is_user in
         record {
-          standing = subst (λ i. Stands stands i (begun f p new.space m)) (sym (ap (λ (z : Machine U C). z.event) b)) new.begins;
+          standing = subst (λ i. Stands stands i (context_begun f p new.space m)) (sym (ap (λ (z : Machine U C). z.event) b)) new.begins;
           owner = ap (λ (z : Machine U C). owner_of z.kernel p) b ∙ new.owner;
           claimed = subst (λ (k : KernelState C). AreClaimed k new.space.0) (sym (ap (λ (z : Machine U C). z.kernel) b)) new.claimed;
         }))

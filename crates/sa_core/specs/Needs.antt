@@ -10,7 +10,7 @@ use Rattle.sa_abstract.specs.Keeps.{Standing, IsBefore, IsAsked}
 use Rattle.sa_abstract.specs.declared.answer.Step.{Step}
 use Rattle.sa_kernel_model.specs.State.{owner_of, line_of}
 use Rattle.sa_kernel_model.specs.Sound.{AreClaimed}
-use Rattle.sa_core_model.specs.Machine.{Machine, user_of, seen_on, begun}
+use Rattle.sa_core_model.specs.Machine.{Machine, user_of, seen_on, context_begun}
 use Rattle.sa_core_model.specs.Run.{setting}
 use Rattle.sa_core_model.specs.Standing.{Stands, IsBetween}
 use Rattle.sa_core.specs.declared.machine.CoreParts.{CoreParts}
@@ -34,7 +34,7 @@ module _ {U C : Type 0} (f : Calls U C) (stands : Standing U C) where
     pub before : IsBefore stands user (seen_on m p space)
     pub place : p.0 < length m.contexts
     pub lives : p.0 < length m.kernel.lives
-    pub begins : Stands stands m.event (begun f p space m)
+    pub begins : Stands stands m.event (context_begun f p space m)
     pub claimed : AreClaimed m.kernel space.0
 
 module _ {U C : Type 0} (stands : Standing U C) where

@@ -6,7 +6,7 @@ ghost use Rattle.sa_base.specs.declared.limits.TheConstants.{MAX_EVENTS};
 ghost use Rattle.sa_kernel_model.specs.State.{owner_of, line_of};
 ghost use Rattle.sa_kernel_model.specs.Entering.{MayEnter, upcalls};
 ghost use Rattle.sa_kernel_model.specs.Sound.{AreClaimed};
-ghost use Rattle.sa_core_model.specs.Machine.{begun, answered, stopped_in, stepped, without_context};
+ghost use Rattle.sa_core_model.specs.Machine.{context_begun, answered, stopped_in, stepped, without_context};
 ghost use Rattle.sa_core_model.specs.Turn.{next_event, more_events, ticked, ends_slice, sliced, kernel_entered, told_one, told_all, welcomed_in, entered_on, hinted, blocked, interrupted, asked, turned_owned, turned_now, turned, gone_in, committed};
 ghost use Rattle.sa_core_model.specs.End.{is_inside, is_any_inside, local_on, within_slice};
 ghost use Rattle.sa_core_model.specs.Run.{opening, CanGo};
@@ -101,7 +101,7 @@ impl<U: UserLevel> CoreParts<U> {
     fn begin(&mut self, p: ProcNo, s: SpaceNo)
         requires welcomes { Welcomes U.calls U.stands p (machine_of self.old) }
         requires owner { owner_of (machine_of self.old).kernel p ≡ Some s }
-        ensures machine { machine_of self.new ≡ begun U.calls p s (machine_of self.old) }
+        ensures machine { machine_of self.new ≡ context_begun U.calls p s (machine_of self.old) }
         ensures kernel { self.new.kernel ≡ self.old.kernel }
         ensures trace { self.new.trace ≡ self.old.trace }
     {

@@ -90,7 +90,7 @@ impl<U: UserLevel> Core<U> {
     /// One event of the processor. It takes no memory where there is room; an error changes nothing.
     pub fn turn(&mut self, p: ProcNo) -> Result<(), AllocError>
         requires within { p.0 < (machine self.old).workload.processors }
-        requires goes_on { end_of U.calls self.old.budget (machine self.old) ≡ None }
+        requires not_ended { end_of U.calls self.old.budget (machine self.old) ≡ None }
         ensures ok { OnOk result (IsTurn U.calls (machine self.old) p (machine self.new)) }
         ensures event { OnOk result ((machine self.new).event ≡ (machine self.old).event + 1) }
         ensures workload { (machine self.new).workload ≡ (machine self.old).workload }
@@ -110,7 +110,7 @@ impl<U: UserLevel> Core<U> {
     pub fn commit(&mut self, p: ProcNo, n: u16) -> Result<u16, AllocError>
         requires some { 1 ≤ n }
         requires within { p.0 < (machine self.old).workload.processors }
-        requires goes_on { end_of U.calls self.old.budget (machine self.old) ≡ None }
+        requires not_ended { end_of U.calls self.old.budget (machine self.old) ≡ None }
         requires low { line_of (machine self.old).kernel p ≡ None }
         requires next { AreNextLocal (machine self.old).workload n
             (local_on U.calls (machine self.old) p) }

@@ -36,7 +36,7 @@ use Rattle.sa_kernel_model.specs.Sound.{IsSound, IsUpcalled}
 use Rattle.sa_kernel_model.proofs.sound.Sound.{sound-entered_as, sound-closed, sound-evicted}
 use Rattle.sa_kernel_model.proofs.sound.Held.{upcalled-entered_as, upcalled-closed}
 use Rattle.sa_kernel_model.proofs.parts.Seen.{low-bit}
-use Rattle.sa_core_model.specs.Machine.{Machine, user_of, context_on, seen_on, scene_of, with_pair, without_context, called_by, begun, answered, stopped_by, stopped_in, step_to, stepped}
+use Rattle.sa_core_model.specs.Machine.{Machine, user_of, context_on, seen_on, scene_of, with_pair, without_context, called_by, context_begun, answered, stopped_by, stopped_in, step_to, stepped}
 use Rattle.sa_core_model.specs.Turn.{next_event, ticked, ends_slice, sliced_if, sliced, kernel_entered, told_all, welcomed_in, welcomed_if, entered_on, answered_in, hinted, blocked_by, blocked, interrupted, asked, turned_owned, turned_due, turned_raised, turned}
 use Rattle.sa_core_model.specs.Run.{setting}
 use Rattle.sa_core_model.specs.Standing.{contexts_in, contexts_of, context_in, running, Stands, IsBetween}
@@ -82,7 +82,7 @@ module _ {U C : Type 0} (f : Calls U C) (stands : Standing U C) (keep : Keeps f 
   read-at (x ∷ xs) (suc i) below = read-at xs i (omega (arith, below))
 
   pub begun-is : (p : ProcNo) (s : SpaceNo) (m : Machine U C) (u : U) → user_of m s ≡ Some u
-      → begun f p s m ≡ with_pair p s (f.begun u (seen_on m p s)).0 (f.begun u (seen_on m p s)).1 m
+      → context_begun f p s m ≡ with_pair p s (f.begun u (seen_on m p s)).0 (f.begun u (seen_on m p s)).1 m
   begun-is p s m u user = rw user refl
 
   -- an upcall was made in a fresh activation, whose context can begin
@@ -94,7 +94,7 @@ module _ {U C : Type 0} (f : Calls U C) (stands : Standing U C) (keep : Keeps f 
     pub before : IsBefore stands user (seen_on m p space)
     pub within : p.0 < length m.kernel.lives
     pub place : p.0 < length m.contexts
-    pub begins : Tells f stands keep w e g p space m.kernel.telling (begun f p space m)
+    pub begins : Tells f stands keep w e g p space m.kernel.telling (context_begun f p space m)
 
   welcomed-new : (w : WorkloadView) (e g : ℕ) (m : Machine U C) (p : ProcNo) (s : SpaceNo) (n : ActNo) (lives : List (Option ActNo)) (acts : ℕ
       → Option (Act C)) (k : KernelState C) (items : List Item)
@@ -141,9 +141,9 @@ module _ {U C : Type 0} (f : Calls U C) (stands : Standing U C) (keep : Keeps f 
   rests-welcomed w e g m p new =
       let t = new.space in
       let first = new.begins in
-      let told = tells-all f stands keep w e g p t m.kernel.telling (begun f p t m) first in
+      let told = tells-all f stands keep w e g p t m.kernel.telling (context_begun f p t m) first in
       subst (λ (o : Option SpaceNo). Rests w e g (welcomed_in f p o m)) (sym new.owner)
-      (rests-answered w e g (told_all f p t m.kernel.telling (begun f p t m)) p t told.standing told.owner told.telling told.workload told.event)
+      (rests-answered w e g (told_all f p t m.kernel.telling (context_begun f p t m)) p t told.standing told.owner told.telling told.workload told.event)
 
   -- an entry
 

@@ -62,12 +62,12 @@ module _ {U C : Type 0} where
 
 module _ {U C : Type 0} (f : Calls U C) where
   -- the context of a fresh activation begins
-  abbrev pub begun_by : ProcNo → SpaceNo → Seen → Option U → Machine U C → Machine U C
-  begun_by p s seen None m = m
-  begun_by p s seen (Some u) m = with_pair p s (f.begun u seen).0 (f.begun u seen).1 m
+  abbrev pub context_begun_by : ProcNo → SpaceNo → Seen → Option U → Machine U C → Machine U C
+  context_begun_by p s seen None m = m
+  context_begun_by p s seen (Some u) m = with_pair p s (f.begun u seen).0 (f.begun u seen).1 m
 
-  abbrev pub begun : ProcNo → SpaceNo → Machine U C → Machine U C
-  begun p s m = begun_by p s (seen_on m p s) (user_of m s) m
+  abbrev pub context_begun : ProcNo → SpaceNo → Machine U C → Machine U C
+  context_begun p s m = context_begun_by p s (seen_on m p s) (user_of m s) m
 
   -- the context goes on after its upcall, or after an entry that it asked for
   abbrev pub answered : ProcNo → SpaceNo → Machine U C → Machine U C

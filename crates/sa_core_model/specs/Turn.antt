@@ -18,7 +18,7 @@ use Rattle.sa_kernel_model.specs.State.{owner_of, line_of, says}
 use Rattle.sa_kernel_model.specs.Closing.{closed}
 use Rattle.sa_kernel_model.specs.Entries.{entered, fetched, held_for, evicted_at}
 use Rattle.sa_kernel_model.specs.Entering.{upcalls}
-use Rattle.sa_core_model.specs.Machine.{Machine, scene_of, with_scene, without_context, begun, answered, told, stopped_in, stepped, gone}
+use Rattle.sa_core_model.specs.Machine.{Machine, scene_of, with_scene, without_context, context_begun, answered, told, stopped_in, stepped, gone}
 
 module _ {U C : Type 0} where
   -- an event begins: the pages that the workload evicts at it are absent
@@ -63,7 +63,7 @@ module _ {U C : Type 0} (f : Calls U C) where
   -- after an upcall: its context begins, is told, and goes on
   abbrev pub welcomed_in : ProcNo → Option SpaceNo → Machine U C → Machine U C
   welcomed_in p None m = m
-  welcomed_in p (Some s) m = answered f p s (told_all p s m.kernel.telling (begun f p s m))
+  welcomed_in p (Some s) m = answered f p s (told_all p s m.kernel.telling (context_begun f p s m))
 
   abbrev pub welcomed_if : ProcNo → Bool → Machine U C → Machine U C
   welcomed_if p false m = m

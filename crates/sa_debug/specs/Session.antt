@@ -100,7 +100,7 @@ module _ {M : Type 0} (o : Watched M) where
 
   -- the run goes on, and a processor makes one turn
   pub record Turns (s : Session M) (p : ProcNo) (t : Session M) : Type 0 where
-    pub goes_on : o.HasEnded s.machine None
+    pub not_ended : o.HasEnded s.machine None
     pub machine : M
     pub turn : o.IsTurn s.machine p machine
     pub is : t ≡ with_machine s machine
@@ -117,12 +117,12 @@ module _ {M : Type 0} (o : Watched M) where
   IsHeld s (Some p) t reply = MatchOption (point_at s p) ⊥ (λ point. (reply ≡ AtBreak p point) × (t ≡ with_halt s p true))
 
   pub record Stops (s t : Session M) (reply : Reply) : Type 0 where
-    pub goes_on : o.HasEnded s.machine None
+    pub not_ended : o.HasEnded s.machine None
     pub held : IsHeld s (next s) t reply
 
   -- the run goes on, and this processor has the next turn: it stands at no breakpoint
   pub record IsNext (s : Session M) (p : ProcNo) : Type 0 where
-    pub goes_on : o.HasEnded s.machine None
+    pub not_ended : o.HasEnded s.machine None
     pub is : next s ≡ Some p
     pub free : point_at s p ≡ None
 
@@ -132,7 +132,7 @@ module _ {M : Type 0} (o : Watched M) where
 
   -- all turns were made
   pub record IsOver (s t : Session M) (reply : Reply) : Type 0 where
-    pub goes_on : o.HasEnded s.machine None
+    pub not_ended : o.HasEnded s.machine None
     pub answer : reply ≡ Event (o.event s.machine)
     pub same : t ≡ s
 

@@ -170,7 +170,7 @@ impl<U: UserLevel> Session<U> {
     // One turn of the processor. An error changes nothing.
     fn turn(&mut self, p: ProcNo) -> Result<(), AllocError>
         requires within { p.0 < (machine self.old.core).workload.processors }
-        requires goes_on { end_of U.calls self.old.core.budget (machine self.old.core) ≡ None }
+        requires not_ended { end_of U.calls self.old.core.budget (machine self.old.core) ≡ None }
         ensures ok { OnOk result (Turns (over_machines U.calls self.old.core.budget) (session self.old) p (session self.new)) }
         ensures err { OnErr result (session self.new ≡ session self.old) }
         ensures budget { self.new.core.budget ≡ self.old.core.budget }

@@ -83,10 +83,10 @@ module _ {N : Type 0} (q : Watched N) (Before : N → N → Type 0) (goes : Goes
   both-run zero s t z reply other x one two before after = elim one [
     | inl says ↦ elim two [
       | inl also ↦ both-ended s t z reply other says also
-      | inr over ↦ absurd (not-both s t reply says over.goes_on)
+      | inr over ↦ absurd (not-both s t reply says over.not_ended)
     ]
     | inr over ↦ elim two [
-      | inl says ↦ absurd (not-both s z other says over.goes_on)
+      | inl says ↦ absurd (not-both s z other says over.not_ended)
       | inr also ↦ both-over s t z reply other over also
     ]
   ]
@@ -94,14 +94,14 @@ module _ {N : Type 0} (q : Watched N) (Before : N → N → Type 0) (goes : Goes
     | inl says ↦ elim two [
       | inl also ↦ both-ended s t z reply other says also
       | inr rest ↦ elim rest [
-        | inl stops ↦ absurd (not-both s t reply says stops.goes_on)
-        | inr more ↦ absurd (not-both s t reply says more.2.has.goes_on)
+        | inl stops ↦ absurd (not-both s t reply says stops.not_ended)
+        | inr more ↦ absurd (not-both s t reply says more.2.has.not_ended)
       ]
     ]
     | inr first ↦ elim two [
       | inl says ↦ elim first [
-        | inl stops ↦ absurd (not-both s z other says stops.goes_on)
-        | inr more ↦ absurd (not-both s z other says more.2.has.goes_on)
+        | inl stops ↦ absurd (not-both s z other says stops.not_ended)
+        | inr more ↦ absurd (not-both s z other says more.2.has.not_ended)
       ]
       | inr rest ↦ elim first [
         | inl stops ↦ elim rest [
@@ -134,10 +134,10 @@ module _ {N : Type 0} (q : Watched N) (Before : N → N → Type 0) (goes : Goes
   both-do (Step p) s t z reply other x one two before after = elim one [
     | inl says ↦ elim two [
       | inl also ↦ both-ended s t z reply other says also
-      | inr steps ↦ absurd (not-both s t reply says steps.turns.goes_on)
+      | inr steps ↦ absurd (not-both s t reply says steps.turns.not_ended)
     ]
     | inr steps ↦ elim two [
-      | inl says ↦ absurd (not-both s z other says steps.turns.goes_on)
+      | inl says ↦ absurd (not-both s z other says steps.turns.not_ended)
       | inr also ↦ both-step s t z p reply other x steps also before after
     ]
   ]

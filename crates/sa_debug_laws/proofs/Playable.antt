@@ -11,7 +11,7 @@ use Rattle.sa_laws.specs.Machine.{changed}
 use Rattle.sa_laws.specs.Step.{AreSteps}
 use Rattle.sa_laws.specs.Readings.{Readings}
 use Rattle.sa_laws.specs.Record.{after_record}
-use Rattle.sa_laws.specs.History.{Test, begun, after_records, after_event, after_events}
+use Rattle.sa_laws.specs.History.{Test, event_begun, after_records, after_event, after_events}
 use Rattle.sa_laws.specs.Rules.{UserRules}
 use Rattle.sa_histories.specs.Lawful.{AreLawful}
 use Rattle.sa_replay.proofs.NeedLemmas.{can-change}
@@ -32,7 +32,7 @@ pub events-state : (test : Test) (w : WorkloadView) (r : Readings) (es : List Ev
 events-state test w r [] = refl
 events-state test w r (e ∷ es) =
     events-state test w (after_event test w r e) es
-    ∙ ap (λ a. state_behind w a (items_of es)) (records-state w e.number e.proc (begun w e r) e.records)
+    ∙ ap (λ a. state_behind w a (items_of es)) (records-state w e.number e.proc (event_begun w e r) e.records)
     ∙ sym (state-append w r.state (items_at e.number e.proc e.records) (items_of es))
 
 -- the records of an event can be played, and so can those of lawful events
@@ -48,6 +48,6 @@ pub events-play : (u : UserRules) (w : WorkloadView) (r : Readings) (es : List E
 events-play u w r [] law = tt
 events-play u w r (e ∷ es) law =
     play-append w r.state (items_at e.number e.proc e.records) (items_of es)
-    (records-play w e.number e.proc (begun w e r) e.records law.0.stepwise.steps)
-    (subst (λ a. CanPlay w a (items_of es)) (records-state w e.number e.proc (begun w e r) e.records)
+    (records-play w e.number e.proc (event_begun w e r) e.records law.0.stepwise.steps)
+    (subst (λ a. CanPlay w a (items_of es)) (records-state w e.number e.proc (event_begun w e r) e.records)
     (events-play u w (after_event u.inside w r e) es law.1))

@@ -74,7 +74,7 @@ module _ {M N : Type 0} (o : Watched M) (q : Watched N) (f : M → N) (P : M →
 
   turns-seen : (s t : Session M) (p : ProcNo) → Turns o s p t → P s.machine → Turns q (seen s) p (seen t)
   turns-seen s t p turns held = record {
-    goes_on = shows.ends s.machine None held turns.goes_on;
+    not_ended = shows.ends s.machine None held turns.not_ended;
     machine = f turns.machine;
     turn = shows.turns s.machine p turns.machine held turns.turn;
     is = ap seen turns.is;
@@ -104,7 +104,7 @@ module _ {M N : Type 0} (o : Watched M) (q : Watched N) (f : M → N) (P : M →
 
   stops-seen : (s t : Session M) (reply : Reply) → Stops o s t reply → P s.machine → Stops q (seen s) (seen t) reply
   stops-seen s t reply stops held = record {
-    goes_on = shows.ends s.machine None held stops.goes_on;
+    not_ended = shows.ends s.machine None held stops.not_ended;
     held = subst (λ (who : Option ProcNo). IsHeld q (seen s) who (seen t) reply) (sym (next-seen s held))
         (held-seen s t reply (next o s) held stops.held);
   }
@@ -112,7 +112,7 @@ module _ {M N : Type 0} (o : Watched M) (q : Watched N) (f : M → N) (P : M →
   passes-seen : (s t : Session M) (p : ProcNo) → Passes o s p t → P s.machine → Passes q (seen s) p (seen t)
   passes-seen s t p passes held = record {
     has = record {
-      goes_on = shows.ends s.machine None held passes.has.goes_on;
+      not_ended = shows.ends s.machine None held passes.has.not_ended;
       is = next-seen s held ∙ passes.has.is;
       free = at-seen s p held ∙ passes.has.free;
     };
@@ -121,7 +121,7 @@ module _ {M N : Type 0} (o : Watched M) (q : Watched N) (f : M → N) (P : M →
 
   over-seen : (s t : Session M) (reply : Reply) → IsOver o s t reply → P s.machine → IsOver q (seen s) (seen t) reply
   over-seen s t reply over held = record {
-    goes_on = shows.ends s.machine None held over.goes_on;
+    not_ended = shows.ends s.machine None held over.not_ended;
     answer = over.answer ∙ ap Event (sym (shows.event s.machine held));
     same = ap seen over.same;
   }

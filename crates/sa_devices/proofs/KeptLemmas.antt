@@ -208,7 +208,7 @@ stands places n ios is under = go (entry_at places n) refl (subst IsSome (ap (io
 -- ---- what contracts see
 
 abbrev pub ios_view : List (Option Entry) → ℕ → IosView
-ios_view places spare = record { begun = length places; under_way = listed 0 places; spare = spare }
+ios_view places spare = record { io_count = length places; under_way = listed 0 places; spare = spare }
 
 pub ended-view : (places : List (Option Entry)) (n spare : ℕ) → ios_view (set places n None) spare ≡ ended_with (ios_view places spare) n
 ended-view places n spare =
@@ -216,7 +216,7 @@ ended-view places n spare =
     let zero_less : 0 + n ≡ n = omega arith in
     let ios : listed 0 (set places n None) ≡ without n (listed 0 places) =
     sym (without-listed 0 n places) ∙ ap (λ (k : ℕ). without k (listed 0 places)) zero_less in
-    λ i. record { begun = size i; under_way = ios i; spare = spare }
+    λ i. record { io_count = size i; under_way = ios i; spare = spare }
 
 pub begun-view : (places : List (Option Entry)) (e : Entry) (spare : ℕ)
     → ios_view (places ++ Some e ∷ []) (spare - 1) ≡ begun_with (ios_view places spare) e.kind e.ends
@@ -225,7 +225,7 @@ begun-view places e spare =
     let zero_less : 0 + length places ≡ length places = omega arith in
     let ios : listed 0 (places ++ Some e ∷ []) ≡ listed 0 places ++ io_of (length places) e ∷ [] =
     listed-append 0 places e ∙ ap (λ (n : ℕ). listed 0 places ++ io_of n e ∷ []) zero_less in
-    λ i. record { begun = size i; under_way = ios i; spare = spare - 1 }
+    λ i. record { io_count = size i; under_way = ios i; spare = spare - 1 }
 
 -- what a pop of a heap with keys did
 pub record Popped (old new : List Key) : Type 0 where

@@ -70,7 +70,7 @@ pub IsKind-found : (n spaces : ℕ) (ios : List Io) (kind : IoKind) → All (λ 
 IsKind-found n spaces ios kind all at = subst (IsKind spaces) at.is (All-io_at (λ (io : Io). IsKind spaces io.kind) n ios at.io all at.at)
 
 -- the count of fetches is small, and counts an I/O under way
-pub few-fetches : (ios : IosView) (fetching pages : List ℕ) (evictions : List Evict) → IsSound ios fetching pages evictions → ios.begun < 2 ^ 32 → (s : ℕ)
+pub few-fetches : (ios : IosView) (fetching pages : List ℕ) (evictions : List Evict) → IsSound ios fetching pages evictions → ios.io_count < 2 ^ 32 → (s : ℕ)
     → slice_index fetching s < 2 ^ 32
 few-fetches ios fetching pages evictions sound few s = elim (cases_lt s (length pages)) [
   | inl below ↦
@@ -101,7 +101,7 @@ pub IsSound-begin : (ios : IosView) (fetching after pages : List ℕ) (evictions
     → IsKind (length pages) kind → length after ≡ length fetching → ((s : ℕ) → slice_index after s ≡ slice_index fetching s + one_fetch s kind)
     → IsSound (begun_with ios kind ends) after pages evictions
 IsSound-begin ios fetching after pages evictions kind ends sound is_kind size counts =
-    let io : Io = record { number = ios.begun; ends = ends; kind = kind } in
+    let io : Io = record { number = ios.io_count; ends = ends; kind = kind } in
     record {
       spaces = size ∙ sound.spaces;
       kinds = All-push (λ (x : Io). IsKind (length pages) x.kind) ios.under_way io sound.kinds is_kind;
@@ -210,7 +210,7 @@ events-in_order es rise i j d le below = elim (cases_eq i j) [
 
 pub IsSound-opening : (spare spaces : ℕ) (pages : List ℕ) (evictions : List Evict) → length pages ≡ spaces → All (IsEviction spaces) evictions
     → AllAdjacentBelow IsBefore evictions (length evictions)
-    → IsSound (record { begun = 0; under_way = []; spare = spare }) (replicate spaces 0) pages evictions
+    → IsSound (record { io_count = 0; under_way = []; spare = spare }) (replicate spaces 0) pages evictions
 IsSound-opening spare spaces pages evictions size in_range rise = record {
   spaces = length-replicate spaces 0 ∙ sym size;
   kinds = All-nil (λ (io : Io). IsKind (length pages) io.kind);
@@ -220,12 +220,12 @@ IsSound-opening spare spaces pages evictions size in_range rise = record {
   in_order = events-in_order evictions rise;
 }
 
-pub IsSound-new : (ios : IosView) (fetching pages : List ℕ) (evictions : List Evict) (spaces : ℕ) → ios ≡ record { begun = 0; under_way = []; spare = 0 }
+pub IsSound-new : (ios : IosView) (fetching pages : List ℕ) (evictions : List Evict) (spaces : ℕ) → ios ≡ record { io_count = 0; under_way = []; spare = 0 }
     → fetching ≡ replicate spaces 0 → length pages ≡ spaces → All (IsEviction spaces) evictions → AllAdjacentBelow IsBefore evictions (length evictions)
     → IsSound ios fetching pages evictions
 IsSound-new ios fetching pages evictions spaces none counted size in_range rise =
     subst (λ (v : IosView). IsSound v fetching pages evictions) (sym none)
-    (subst (λ (xs : List ℕ). IsSound (record { begun = 0; under_way = []; spare = 0 }) xs pages evictions) (sym counted)
+    (subst (λ (xs : List ℕ). IsSound (record { io_count = 0; under_way = []; spare = 0 }) xs pages evictions) (sym counted)
     (IsSound-opening 0 spaces pages evictions size in_range rise))
 
 -- the page of an I/O is one of a space's

@@ -9,7 +9,7 @@ use Rattle.sa_devices.specs.Pages.{opening_pages}
 -- the I/Os that were begun, of which some are under way
 pub record IosView : Type 0 where
   -- how many were begun, which is the number of the next
-  pub begun : ℕ
+  pub io_count : ℕ
   -- those under way, in the order of their numbers
   pub under_way : List Io
   -- how many more can begin with no memory taken
@@ -25,8 +25,8 @@ pub record DevicesView : Type 0 where
 -- an I/O has begun
 abbrev pub begun_with : IosView → IoKind → ℕ → IosView
 begun_with v kind ends =
-    let io : Io = record { number = v.begun; ends = ends; kind = kind } in
-    record { begun = v.begun + 1; under_way = v.under_way ++ io ∷ []; spare = v.spare - 1 }
+    let io : Io = record { number = v.io_count; ends = ends; kind = kind } in
+    record { io_count = v.io_count + 1; under_way = v.under_way ++ io ∷ []; spare = v.spare - 1 }
 
 -- an I/O is over
 abbrev pub ended_with : IosView → ℕ → IosView
@@ -35,7 +35,7 @@ ended_with v n = record v { under_way = without n v.under_way }
 -- the opening of a workload: no I/O was begun, and the pages that are absent are those that it names
 abbrev pub opening : WorkloadView → DevicesView
 opening w = record {
-  ios = record { begun = 0; under_way = []; spare = 0 };
+  ios = record { io_count = 0; under_way = []; spare = 0 };
   pages = map opening_pages w.spaces;
   evictions = w.evictions;
 }

@@ -12,6 +12,6 @@ pub record IsSound (ios : IosView) (fetching pages : List ℕ) (evictions : List
   pub spaces : length fetching ≡ length pages
   pub kinds : All (λ (io : Io). IsKind (length pages) io.kind) ios.under_way
   pub counts : (s : ℕ) → s < length pages → slice_index fetching s ≡ count_by (fetches s) ios.under_way
-  pub few : length ios.under_way ≤ ios.begun
+  pub few : length ios.under_way ≤ ios.io_count
   pub in_range : All (IsEviction (length pages)) evictions
   pub in_order : IsNonDecreasingBy (λ (e : Evict). e.event) evictions

@@ -80,9 +80,9 @@ impl Devices {
     pub fn begin(&mut self, kind: IoKind, event: u64, len: u32) -> IoNo
         requires room { 1 ≤ self.old.ios.spare }
         requires event { event ≤ MAX_EVENTS }
-        requires few { self.old.ios.begun < 2 ^ 32 }
+        requires few { self.old.ios.io_count < 2 ^ 32 }
         requires kind { IsKind (length self.old.pages) kind }
-        ensures number { result.0 ≡ self.old.ios.begun }
+        ensures number { result.0 ≡ self.old.ios.io_count }
         ensures exact { self.new ≡ record self.old {
           ios = begun_with self.old.ios kind (event + len);
         } }

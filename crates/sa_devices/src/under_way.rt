@@ -39,7 +39,7 @@ impl Model for UnderWay {
     ghost Value = { IosView };
 
     ghost view = { λ u. record {
-      begun = length u.places.items;
+      io_count = length u.places.items;
       under_way = listed 0 u.places.items;
       spare = u.spare;
     } };
@@ -56,7 +56,7 @@ impl UnderWay {
 
     /// No I/O was begun. It cannot fail for want of memory.
     pub fn new(alloc: Global) -> Self
-        ensures { let none : IosView = record { begun = 0; under_way = []; spare = 0 } in
+        ensures { let none : IosView = record { io_count = 0; under_way = []; spare = 0 } in
             result ≡ none }
     {
         UnderWay {
@@ -84,8 +84,8 @@ impl UnderWay {
     /// Begins an I/O that is due from the event `ends` on, and answers its number. It cannot fail for want of memory.
     pub fn begin(&mut self, kind: IoKind, ends: u64) -> IoNo
         requires room { 1 ≤ self.old.spare }
-        requires few { self.old.begun < 2 ^ 32 }
-        ensures number { result.0 ≡ self.old.begun }
+        requires few { self.old.io_count < 2 ^ 32 }
+        ensures number { result.0 ≡ self.old.io_count }
         ensures exact { self.new ≡ begun_with self.old kind ends }
     {
         let number = self.places.len() as u32;

@@ -59,10 +59,10 @@ abbrev one : List Instr
 one = End ∷ []
 
 -- no line is raised
-abbrev low_lines : List (Option ℕ)
+abbrev pub low_lines : List (Option ℕ)
 low_lines = None ∷ []
 
-low : (k : ℕ) → is_some (slice_index_or low_lines k None) ≡ true → ⊥
+pub low : (k : ℕ) → is_some (slice_index_or low_lines k None) ≡ true → ⊥
 low zero raised = cc
 low (suc k) raised = cc
 
@@ -80,7 +80,7 @@ breaks-Stepwise = break-behind fast_threads smallest (e0 ∷ e1 ∷ e2 ∷ e3 �
         record { number = refl; proc = omega arith; some = λ no. cc; opening = λ no. absurd (omega arith) },
         tt,
       );
-      broken = λ h. let place = h.steps.0.place in omega (arith, place);
+      broken = λ h. let place = h.steps.0.pc in omega (arith, place);
     })
 
 pub breaks-ToldOnce : FirstBreak fast_threads smallest told_of_nothing (stops_at 1) 1 ToldOnce
@@ -159,7 +159,7 @@ breaks-UpcallGiven =
         (
           record {
             steps = (
-              record { owned = refl; runs = refl; place = refl; within = omega arith; page = tt },
+              record { owned = refl; runs = refl; pc = refl; within = omega arith; page = tt },
               (record { owned = refl; runs = refl; cause = inl refl }, (tt, (tt, tt))),
             );
           },

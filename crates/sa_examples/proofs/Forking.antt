@@ -12,7 +12,7 @@ use Rattle.sa_laws.specs.Event.{Event}
 use Rattle.sa_laws.specs.Life.{Life, Lock}
 use Rattle.sa_laws.specs.Readings.{Readings, IsLocked}
 use Rattle.sa_laws.specs.Locks.{HoldsLock}
-use Rattle.sa_laws.specs.History.{begun}
+use Rattle.sa_laws.specs.History.{event_begun}
 use Rattle.sa_laws.specs.Rules.{fast_threads, HoldEach, IsLawful, rules}
 use Rattle.sa_laws.specs.Legal.{FirstBreak}
 use Rattle.sa_histories.specs.Lawful.{AreRight}
@@ -100,7 +100,7 @@ apart21 : Some t2 ≡ Some t1 → ⊥
 apart21 e = let same = ap (λ (t : ThreadNo). t.0) (same_Some t2 t1 e) in omega (arith, same)
 
 -- where one life is in use, and has one lock, another thread than the lock's holds none
-holds-none : (r : Readings) (life : Life) (lock : Lock) (t : ThreadNo) → OnlyZero r.lives → r.lives 0 ≡ Some life → life.locks ≡ lock ∷ []
+pub holds-none : (r : Readings) (life : Life) (lock : Lock) (t : ThreadNo) → OnlyZero r.lives → r.lives 0 ≡ Some life → life.locks ≡ lock ∷ []
     → (lock.thread ≡ Some t → ⊥) → (s : SpaceNo) → HoldsLock r s t → ⊥
 holds-none r life lock t only is locks other s holds =
     let same : life ≡ holds.life = same_Some life holds.life (sym is ∙ the-one r.lives only holds.act.0 holds.life holds.is) in
@@ -113,7 +113,7 @@ lawful5 = plain-lawful fast_threads forking q5 5 p0 (Ins s0 t0 0) refl
     (record {
       later = omega arith;
       proc = omega arith;
-      steps = (record { owned = refl; runs = refl; place = refl; within = omega arith; page = tt }, tt);
+      steps = (record { owned = refl; runs = refl; pc = refl; within = omega arith; page = tt }, tt);
       reads = (refl, refl, refl, refl, refl, refl, refl);
       covered = one-share;
     })
@@ -125,9 +125,9 @@ lawful5 = plain-lawful fast_threads forking q5 5 p0 (Ins s0 t0 0) refl
 right5 : HoldEach fast_threads forking rules q5 f5 None
 right5 = with-end fast_threads forking q5 f5 None lawful5 (goes-on q6 refl refl)
 
-unlocked6 : IsLocked (begun (workload_with g) f6 q6) s0 p0 → ⊥
+unlocked6 : IsLocked (event_begun (workload_with g) f6 q6) s0 p0 → ⊥
 unlocked6 locked =
-    none-locked (begun (workload_with g) f6 q6) _
+    none-locked (event_begun (workload_with g) f6 q6) _
     (only-put _ _ (only-put _ _ (only-put _ _
     (only-put _ _ (only-put _ _ (only-put _ _ (only-put _ _ (only-put _ _ (only-put _ _ (only-put _ _ only-none)))))))))) refl refl s0 p0 locked
 
@@ -147,9 +147,9 @@ lawful6 = plain-lawful fast_threads forking q6 6 p0 (Take s0 p0 (Some t0)) refl
 right6 : HoldEach fast_threads forking rules q6 f6 None
 right6 = with-end fast_threads forking q6 f6 None lawful6 (goes-on q7 refl refl)
 
-holds7 : HoldsLock (begun (workload_with g) f7 q7) s0 t1 → ⊥
+holds7 : HoldsLock (event_begun (workload_with g) f7 q7) s0 t1 → ⊥
 holds7 holds =
-    holds-none (begun (workload_with g) f7 q7) _ _ t1
+    holds-none (event_begun (workload_with g) f7 q7) _ _ t1
     (only-put _ _ (only-put _ _ (only-put _ _
     (only-put _ _ (only-put _ _ (only-put _ _ (only-put _ _ (only-put _ _ (only-put _ _ (only-put _ _ (only-put _ _ (only-put _ _ only-none)))))))))))) refl
     refl apart01 s0 holds
@@ -204,7 +204,7 @@ lawful9 = plain-lawful fast_threads forking q9 9 p0 (Ins s0 t0 1) refl
     (record {
       later = omega arith;
       proc = omega arith;
-      steps = (record { owned = refl; runs = refl; place = refl; within = omega arith; page = tt }, tt);
+      steps = (record { owned = refl; runs = refl; pc = refl; within = omega arith; page = tt }, tt);
       reads = (refl, refl, refl, refl, refl, refl, refl);
       covered = one-share;
     })
@@ -216,9 +216,9 @@ lawful9 = plain-lawful fast_threads forking q9 9 p0 (Ins s0 t0 1) refl
 right9 : HoldEach fast_threads forking rules q9 f9 None
 right9 = with-end fast_threads forking q9 f9 None lawful9 (goes-on q10 refl refl)
 
-unlocked10 : IsLocked (begun (workload_with g) f10 q10) s0 p0 → ⊥
+unlocked10 : IsLocked (event_begun (workload_with g) f10 q10) s0 p0 → ⊥
 unlocked10 locked =
-    none-locked (begun (workload_with g) f10 q10) _
+    none-locked (event_begun (workload_with g) f10 q10) _
     (only-put _ _ (only-put _ _ (only-put _ _
     (only-put _ _ (only-put _ _ (only-put _ _
     (only-put _ _ (only-put _ _ (only-put _ _
@@ -241,9 +241,9 @@ lawful10 = plain-lawful fast_threads forking q10 10 p0 (Take s0 p0 (Some t0)) re
 right10 : HoldEach fast_threads forking rules q10 f10 None
 right10 = with-end fast_threads forking q10 f10 None lawful10 (goes-on q11 refl refl)
 
-holds11 : HoldsLock (begun (workload_with g) f11 q11) s0 t2 → ⊥
+holds11 : HoldsLock (event_begun (workload_with g) f11 q11) s0 t2 → ⊥
 holds11 holds =
-    holds-none (begun (workload_with g) f11 q11) _ _ t2
+    holds-none (event_begun (workload_with g) f11 q11) _ _ t2
     (only-put _ _ (only-put _ _ (only-put _ _
     (only-put _ _ (only-put _ _ (only-put _ _
     (only-put _ _ (only-put _ _ (only-put _ _
@@ -301,7 +301,7 @@ lawful13 = plain-lawful fast_threads forking q13 13 p0 (Ins s0 t0 2) refl
     (record {
       later = omega arith;
       proc = omega arith;
-      steps = (record { owned = refl; runs = refl; place = refl; within = omega arith; page = tt }, tt);
+      steps = (record { owned = refl; runs = refl; pc = refl; within = omega arith; page = tt }, tt);
       reads = (refl, refl, refl, refl, refl, refl, refl);
       covered = one-share;
     })
@@ -313,9 +313,9 @@ lawful13 = plain-lawful fast_threads forking q13 13 p0 (Ins s0 t0 2) refl
 right13 : HoldEach fast_threads forking rules q13 f13 None
 right13 = with-end fast_threads forking q13 f13 None lawful13 (goes-on q14 refl refl)
 
-unlocked14 : IsLocked (begun (workload_with g) f14 q14) s0 p0 → ⊥
+unlocked14 : IsLocked (event_begun (workload_with g) f14 q14) s0 p0 → ⊥
 unlocked14 locked =
-    none-locked (begun (workload_with g) f14 q14) _
+    none-locked (event_begun (workload_with g) f14 q14) _
     (only-put _ _ (only-put _ _ (only-put _ _
     (only-put _ _ (only-put _ _ (only-put _ _
     (only-put _ _ (only-put _ _ (only-put _ _

@@ -10,7 +10,7 @@ use Rattle.sa_assign.specs.Aims.{aimed}
 use Rattle.sa_laws.specs.declared.rule.Rule.TheVariants.{ToldInTime, WhereOwned, AllTold, UpcallGiven, InterruptNext, LineCause, WantCause, SharesCovered, DemandAnnounced, TurnsTaken, LocksKept, OrderKept}
 use Rattle.sa_laws.specs.Event.{Event}
 use Rattle.sa_laws.specs.Readings.{Readings, line_of, space_of_life}
-use Rattle.sa_laws.specs.History.{after_event, begun, behind}
+use Rattle.sa_laws.specs.History.{after_event, event_begun, behind}
 use Rattle.sa_laws.specs.Step.{AreSteps}
 use Rattle.sa_laws.specs.Shape.{before_aims, before_wants, aims_in}
 use Rattle.sa_laws.specs.Closing.{shares_at, aims_due, lines_due, wants_due}
@@ -51,7 +51,7 @@ ReadsCalm u w r e after =
 pub record IsCalm (u : UserRules) (w : WorkloadView) (r : Readings) (e : Event) : Type 0 where
   pub later : 1 ≤ e.number
   pub proc : e.proc.0 < w.processors
-  pub steps : AreSteps w e.number e.proc (begun w e r) e.records
+  pub steps : AreSteps w e.number e.proc (event_begun w e r) e.records
   pub reads : ReadsCalm u w r e (after_event u.inside w r e)
   pub covered : (s : ℕ) → share_at (shares_at w e.number (after_event u.inside w r e)) s ≤ aimed s (after_event u.inside w r e).aims
 
@@ -81,7 +81,7 @@ pub before-demand : (u : UserRules) (w : WorkloadView) (r : Readings) (n : ℕ) 
 before-demand u w r n p x last plain calm =
     let e = alone n p x in
     let after = after_event u.inside w r e in
-    let says = says-nothing u w (begun w e r) p x plain in
+    let says = says-nothing u w (event_begun w e r) p x plain in
     let first = says-nothing u w r p x plain in
     let numbered : IsNumbered w r e =
     record { number = calm.reads.0; proc = calm.proc; some = λ no. cc; opening = λ no. absurd (let later = calm.later in omega arith) } in

@@ -17,7 +17,7 @@ use Rattle.sa_laws.specs.Event.{Event}
 use Rattle.sa_laws.specs.Life.{Life, Lock}
 use Rattle.sa_laws.specs.Readings.{Readings, opening_readings, IsLocked}
 use Rattle.sa_laws.specs.Locks.{HoldsLock}
-use Rattle.sa_laws.specs.History.{after_event, begun}
+use Rattle.sa_laws.specs.History.{after_event, event_begun}
 use Rattle.sa_laws.specs.Rules.{HoldEach, IsLawful, rules}
 use Rattle.sa_laws.specs.Legal.{FirstBreak}
 use Rattle.sa_ranks.specs.Rules.{prio_threads}
@@ -29,7 +29,7 @@ use Rattle.sa_examples.proofs.Plain.{before-demand, before-order, before-turns, 
 use Rattle.sa_examples.proofs.Calm.{prompt-calm, no-wants, no-shares}
 use Rattle.sa_histories.proofs.Legality.{with-end, break-behind}
 use Rattle.sa_examples.specs.RankedExamples.{racing, p1, at1, line_again, line_unasked, outranked_run, back_alone, pair_unserved}
-use Rattle.sa_examples.proofs.RankedBroken.{goes-on}
+use Rattle.sa_examples.proofs.Broken.{goes-on}
 use Rattle.sa_examples.proofs.RankedForking.{apart01}
 
 apart10 : Some t1 ≡ Some t0 → ⊥
@@ -307,8 +307,8 @@ lawful1 = record {
 right1 : HoldEach prio_threads racing rules v1 d1 None
 right1 = with-end prio_threads racing v1 d1 None lawful1 (goes-on v2 refl refl)
 
-free2 : IsLocked (begun racing d2 v2) s0 p0 → ⊥
-free2 locked = none-of-one (begun racing d2 v2) _ (two-put0 _ _ (two-put0 _ _ two-none)) refl refl refl s0 p0 locked
+free2 : IsLocked (event_begun racing d2 v2) s0 p0 → ⊥
+free2 locked = none-of-one (event_begun racing d2 v2) _ (two-put0 _ _ (two-put0 _ _ two-none)) refl refl refl s0 p0 locked
 
 lawful2 : IsLawful prio_threads racing v2 d2
 lawful2 = plain-lawful prio_threads racing v2 2 p0 (Take s0 p0 None) refl
@@ -381,7 +381,7 @@ lawful5 = plain-lawful prio_threads racing v5 5 p0 (Ins s0 t0 0) refl
     (record {
       later = omega arith;
       proc = omega arith;
-      steps = (record { owned = refl; runs = refl; place = refl; within = omega arith; page = tt }, tt);
+      steps = (record { owned = refl; runs = refl; pc = refl; within = omega arith; page = tt }, tt);
       reads = (refl, refl, refl, refl, refl, refl, refl);
       covered = share1;
     })
@@ -393,8 +393,8 @@ lawful5 = plain-lawful prio_threads racing v5 5 p0 (Ins s0 t0 0) refl
 right5 : HoldEach prio_threads racing rules v5 d5 None
 right5 = with-end prio_threads racing v5 d5 None lawful5 (goes-on v6 refl refl)
 
-free6 : IsLocked (begun racing d6 v6) s0 p0 → ⊥
-free6 locked = none-of-one (begun racing d6 v6) _ (two-put0 _ _ (two-put0 _ _ (two-put0 _ _ (two-put0 _ _ (two-put0 _ _ (two-put0 _ _ (two-put0 _ _
+free6 : IsLocked (event_begun racing d6 v6) s0 p0 → ⊥
+free6 locked = none-of-one (event_begun racing d6 v6) _ (two-put0 _ _ (two-put0 _ _ (two-put0 _ _ (two-put0 _ _ (two-put0 _ _ (two-put0 _ _ (two-put0 _ _
     (two-put0 _ _ (two-put0 _ _ (two-put0 _ _ two-none)))))))))) refl refl refl s0 p0 locked
 
 lawful6 : IsLawful prio_threads racing v6 d6
@@ -417,8 +417,8 @@ lawful6 = plain-lawful prio_threads racing v6 6 p0 (Take s0 p0 (Some t0)) refl
 right6 : HoldEach prio_threads racing rules v6 d6 None
 right6 = with-end prio_threads racing v6 d6 None lawful6 (goes-on v7 refl refl)
 
-holds7 : HoldsLock (begun racing d7 v7) s0 t1 → ⊥
-holds7 holds = holds-of-one (begun racing d7 v7) _ _ t1 (two-put0 _ _ (two-put0 _ _ (two-put0 _ _ (two-put0 _ _ (two-put0 _ _ (two-put0 _ _ (two-put0 _ _
+holds7 : HoldsLock (event_begun racing d7 v7) s0 t1 → ⊥
+holds7 holds = holds-of-one (event_begun racing d7 v7) _ _ t1 (two-put0 _ _ (two-put0 _ _ (two-put0 _ _ (two-put0 _ _ (two-put0 _ _ (two-put0 _ _ (two-put0 _ _
     (two-put0 _ _ (two-put0 _ _ (two-put0 _ _ (two-put0 _ _ (two-put0 _ _ two-none)))))))))))) refl refl refl apart01 s0 holds
 
 lawful7 : IsLawful prio_threads racing v7 d7
@@ -519,8 +519,8 @@ lawful10 = plain-lawful prio_threads racing v10 10 p0 (Back s0 (Some t0)) refl
 right10 : HoldEach prio_threads racing rules v10 d10 None
 right10 = with-end prio_threads racing v10 d10 None lawful10 (goes-on v11 refl refl)
 
-free11 : IsLocked (begun racing d11 v11) s0 p0 → ⊥
-free11 locked = none-of-one (begun racing d11 v11) _ (two-put0 _ _ (two-put0 _ _ (two-put0 _ _ (two-put0 _ _ (two-put0 _ _ (two-put0 _ _ (two-put0 _ _
+free11 : IsLocked (event_begun racing d11 v11) s0 p0 → ⊥
+free11 locked = none-of-one (event_begun racing d11 v11) _ (two-put0 _ _ (two-put0 _ _ (two-put0 _ _ (two-put0 _ _ (two-put0 _ _ (two-put0 _ _ (two-put0 _ _
     (two-put0 _ _ (two-put0 _ _ (two-put0 _ _ (two-put0 _ _ (two-put0 _ _ (two-put0 _ _ (two-put0 _ _ (two-put0 _ _ (two-put0 _ _ (two-put0 _ _
     (two-put0 _ _ (two-put0 _ _ two-none))))))))))))))))))) refl refl refl s0 p0 locked
 
@@ -544,8 +544,8 @@ lawful11 = plain-lawful prio_threads racing v11 11 p0 (Take s0 p0 None) refl
 right11 : HoldEach prio_threads racing rules v11 d11 None
 right11 = with-end prio_threads racing v11 d11 None lawful11 (goes-on v12 refl refl)
 
-holds12 : HoldsLock (begun racing d12 v12) s0 t0 → ⊥
-holds12 holds = holds-of-one (begun racing d12 v12) _ _ t0 (two-put0 _ _ (two-put0 _ _ (two-put0 _ _ (two-put0 _ _ (two-put0 _ _ (two-put0 _ _
+holds12 : HoldsLock (event_begun racing d12 v12) s0 t0 → ⊥
+holds12 holds = holds-of-one (event_begun racing d12 v12) _ _ t0 (two-put0 _ _ (two-put0 _ _ (two-put0 _ _ (two-put0 _ _ (two-put0 _ _ (two-put0 _ _
     (two-put0 _ _ (two-put0 _ _ (two-put0 _ _ (two-put0 _ _ (two-put0 _ _ (two-put0 _ _ (two-put0 _ _ (two-put0 _ _ (two-put0 _ _ (two-put0 _ _
     (two-put0 _ _ (two-put0 _ _ (two-put0 _ _ (two-put0 _ _ (two-put0 _ _ two-none))))))))))))))))))))) refl refl refl (λ e. cc) s0 holds
 
@@ -602,8 +602,8 @@ lawful13 = plain-lawful prio_threads racing v13 13 p0 (Free s0 p0 None) refl
 right13 : HoldEach prio_threads racing rules v13 d13 None
 right13 = with-end prio_threads racing v13 d13 None lawful13 (goes-on v14 refl refl)
 
-free14 : IsLocked (begun racing d14 v14) s0 p0 → ⊥
-free14 locked = none-of-one (begun racing d14 v14) _ (two-put0 _ _ (two-put0 _ _ (two-put0 _ _ (two-put0 _ _ (two-put0 _ _ (two-put0 _ _ (two-put0 _ _
+free14 : IsLocked (event_begun racing d14 v14) s0 p0 → ⊥
+free14 locked = none-of-one (event_begun racing d14 v14) _ (two-put0 _ _ (two-put0 _ _ (two-put0 _ _ (two-put0 _ _ (two-put0 _ _ (two-put0 _ _ (two-put0 _ _
     (two-put0 _ _ (two-put0 _ _ (two-put0 _ _ (two-put0 _ _ (two-put0 _ _ (two-put0 _ _ (two-put0 _ _ (two-put0 _ _ (two-put0 _ _ (two-put0 _ _
     (two-put0 _ _ (two-put0 _ _ (two-put0 _ _ (two-put0 _ _ (two-put0 _ _ (two-put0 _ _ (two-put0 _ _
     (two-put0 _ _ two-none))))))))))))))))))))))))) refl refl refl s0 p0 locked
@@ -696,8 +696,8 @@ lawful17 = record {
 right17 : HoldEach prio_threads racing rules v17 d17 None
 right17 = with-end prio_threads racing v17 d17 None lawful17 (goes-on v18 refl refl)
 
-free18 : IsLocked (begun racing d18 v18) s0 p0 → ⊥
-free18 locked = none-of-two (begun racing d18 v18) _ _ (two-put1 _ _ (two-put1 _ _ (two-put0 _ _ (two-put0 _ _ (two-put0 _ _ (two-put0 _ _ (two-put0 _ _
+free18 : IsLocked (event_begun racing d18 v18) s0 p0 → ⊥
+free18 locked = none-of-two (event_begun racing d18 v18) _ _ (two-put1 _ _ (two-put1 _ _ (two-put0 _ _ (two-put0 _ _ (two-put0 _ _ (two-put0 _ _ (two-put0 _ _
     (two-put0 _ _ (two-put0 _ _ (two-put0 _ _ (two-put0 _ _ (two-put0 _ _ (two-put0 _ _ (two-put0 _ _ (two-put0 _ _ (two-put0 _ _ (two-put0 _ _
     (two-put0 _ _ (two-put0 _ _ (two-put0 _ _ (two-put0 _ _ (two-put0 _ _ (two-put0 _ _ (two-put0 _ _ (two-put0 _ _ (two-put0 _ _ (two-put0 _ _
     (two-put0 _ _ (two-put0 _ _ (two-put0 _ _ (two-put0 _ _ (two-put0 _ _
@@ -774,7 +774,7 @@ lawful21 = plain-lawful prio_threads racing v21 21 p0 (Ins s0 t1 0) refl
     (record {
       later = omega arith;
       proc = omega arith;
-      steps = (record { owned = refl; runs = refl; place = refl; within = omega arith; page = tt }, tt);
+      steps = (record { owned = refl; runs = refl; pc = refl; within = omega arith; page = tt }, tt);
       reads = (refl, refl, refl, refl, refl, refl, refl);
       covered = share2;
     })
@@ -786,8 +786,8 @@ lawful21 = plain-lawful prio_threads racing v21 21 p0 (Ins s0 t1 0) refl
 right21 : HoldEach prio_threads racing rules v21 d21 None
 right21 = with-end prio_threads racing v21 d21 None lawful21 (goes-on v22 refl refl)
 
-free22 : IsLocked (begun racing d22 v22) s0 p0 → ⊥
-free22 locked = none-of-two (begun racing d22 v22) _ _ (two-put0 _ _ (two-put0 _ _ (two-put1 _ _ (two-put1 _ _ (two-put1 _ _ (two-put1 _ _ (two-put1 _ _
+free22 : IsLocked (event_begun racing d22 v22) s0 p0 → ⊥
+free22 locked = none-of-two (event_begun racing d22 v22) _ _ (two-put0 _ _ (two-put0 _ _ (two-put1 _ _ (two-put1 _ _ (two-put1 _ _ (two-put1 _ _ (two-put1 _ _
     (two-put1 _ _ (two-put1 _ _ (two-put1 _ _ (two-put0 _ _ (two-put0 _ _ (two-put0 _ _ (two-put0 _ _ (two-put0 _ _ (two-put0 _ _ (two-put0 _ _
     (two-put0 _ _ (two-put0 _ _ (two-put0 _ _ (two-put0 _ _ (two-put0 _ _ (two-put0 _ _ (two-put0 _ _ (two-put0 _ _ (two-put0 _ _ (two-put0 _ _
     (two-put0 _ _ (two-put0 _ _ (two-put0 _ _ (two-put0 _ _ (two-put0 _ _ (two-put0 _ _ (two-put0 _ _ (two-put0 _ _ (two-put0 _ _ (two-put0 _ _
@@ -813,8 +813,8 @@ lawful22 = plain-lawful prio_threads racing v22 22 p0 (Take s0 p0 (Some t1)) ref
 right22 : HoldEach prio_threads racing rules v22 d22 None
 right22 = with-end prio_threads racing v22 d22 None lawful22 (goes-on v23 refl refl)
 
-holds23 : HoldsLock (begun racing d23 v23) s0 t2 → ⊥
-holds23 holds = holds-of-two (begun racing d23 v23) _ _ _ t2 (two-put0 _ _ (two-put0 _ _ (two-put0 _ _ (two-put0 _ _ (two-put1 _ _ (two-put1 _ _
+holds23 : HoldsLock (event_begun racing d23 v23) s0 t2 → ⊥
+holds23 holds = holds-of-two (event_begun racing d23 v23) _ _ _ t2 (two-put0 _ _ (two-put0 _ _ (two-put0 _ _ (two-put0 _ _ (two-put1 _ _ (two-put1 _ _
     (two-put1 _ _ (two-put1 _ _ (two-put1 _ _ (two-put1 _ _ (two-put1 _ _ (two-put1 _ _ (two-put0 _ _ (two-put0 _ _ (two-put0 _ _ (two-put0 _ _
     (two-put0 _ _ (two-put0 _ _ (two-put0 _ _ (two-put0 _ _ (two-put0 _ _ (two-put0 _ _ (two-put0 _ _ (two-put0 _ _ (two-put0 _ _ (two-put0 _ _
     (two-put0 _ _ (two-put0 _ _ (two-put0 _ _ (two-put0 _ _ (two-put0 _ _ (two-put0 _ _ (two-put0 _ _ (two-put0 _ _ (two-put0 _ _ (two-put0 _ _
@@ -1060,7 +1060,7 @@ breaks-pair_unserved = break-behind prio_threads racing
           (record {
             later = omega arith;
             proc = omega arith;
-            steps = (record { owned = refl; runs = refl; place = refl; within = omega arith; page = tt }, tt);
+            steps = (record { owned = refl; runs = refl; pc = refl; within = omega arith; page = tt }, tt);
             reads = (refl, refl, refl, refl, refl, refl, refl);
             covered = share2;
           });

@@ -1,15 +1,12 @@
 -- For each rule of the package with thread priorities a history that breaks it first.
-use Rattle.std.proofs.Common.{◌≡◌, ℕ, zero, suc, inl, inr, refl, ap, arith, Some, None, List, [], ◌∷◌, length, true, false}
-use Rattle.std.specs.Prelude.{slice_get, slice_index_or, is_some, Option}
-use Rattle.std.specs.List.{list_all}
+use Rattle.std.proofs.Common.{◌≡◌, inl, inr, refl, ap, arith, Some, None, List, [], ◌∷◌, length}
+use Rattle.std.specs.Prelude.{slice_get}
 use Rattle.sa_base.specs.declared.record.Note.TheVariants.{Add, Preempted, Blocked}
 use Rattle.sa_base.specs.declared.record.Record.TheVariants.{Ins, Stop, Block, Take, Free, Up, Told, Move, Want, Aim, Line, Idle, Tick}
 use Rattle.sa_instr.specs.declared.instr.Instr.{Instr}
 use Rattle.sa_instr.specs.declared.instr.Instr.TheVariants.{Io as IoOf, End}
 use Rattle.sa_laws.specs.declared.rule.Rule.TheVariants.{Numbered, Stepwise, ToldOnce, ToldInTime, WhereOwned, AllTold, UpcallGiven, InterruptNext, LineCause, WantCause, SharesCovered, DemandAnnounced, TurnsTaken, LocksKept, EndTold}
 use Rattle.sa_laws.specs.Event.{Event}
-use Rattle.sa_laws.specs.Readings.{Readings}
-use Rattle.sa_laws.specs.Ends.{GoesOn, are_done, are_at_rest}
 use Rattle.sa_ranks.specs.Rules.{prio_threads}
 use Rattle.sa_laws.specs.Rules.{HoldEach, rules}
 use Rattle.sa_laws.specs.Legal.{FirstBreak}
@@ -18,12 +15,9 @@ use Rattle.sa_histories.specs.Short.{workload_of, smallest, at, s0, p0, t0, act}
 use Rattle.sa_examples.specs.Examples.{blocking, stops_at, told_done, other_opening, other_place, told_of_nothing, stopped_untold, two_lives, not_told_added, other_io, interrupt_put_off, raised_for_nothing, wanted_for_nothing, aimed_for_nothing, idle_with_lock, idle_beside_thread, freed_unused, not_done}
 use Rattle.sa_examples.proofs.Plain.{before-demand, before-locks, before-turns}
 use Rattle.sa_examples.proofs.Calm.{prompt-calm, no-wants, one-share}
+use Rattle.sa_examples.proofs.Broken.{goes-on, low}
 use Rattle.sa_examples.proofs.RankedSmallest.{e0, e1, e2, e3, e4, r0, r1, r2, r3, r4, r5, next, lawful0, lawful1, lawful2, lawful3, lawful4, unlocked2}
 use Rattle.sa_histories.proofs.Legality.{laws-hold, with-end, break-behind}
-
--- while thread 0 is ready or runs, the run goes on
-pub goes-on : (r : Readings) → list_all are_done r.state.spaces ≡ false → list_all are_at_rest r.state.spaces ≡ false → GoesOn r
-goes-on r done rest = record { done = λ no. cc; stuck = λ no. let h = no.rest in cc }
 
 pub right0 : (g : List (List Instr)) → HoldEach prio_threads (workload_of g) rules (r0 g) e0 None
 right0 g = with-end prio_threads (workload_of g) (r0 g) e0 None (lawful0 g) (goes-on (r1 g) refl refl)
@@ -59,14 +53,6 @@ before5 g = (right0 g, (right1 g, (right2 g, (right3 g, (right4 g, tt)))))
 abbrev pub one : List (List Instr)
 one = (End ∷ []) ∷ []
 
--- no line is raised
-abbrev low_lines : List (Option ℕ)
-low_lines = None ∷ []
-
-low : (k : ℕ) → is_some (slice_index_or low_lines k None) ≡ true → ⊥
-low zero raised = cc
-low (suc k) raised = cc
-
 pub breaks-Numbered : FirstBreak prio_threads smallest other_opening (stops_at 0) 0 Numbered
 breaks-Numbered = break-behind prio_threads smallest [] _ (stops_at 0) Numbered tt
     (record { earlier = tt; broken = λ h. let e = ap (λ (x : Event). slice_get x.records 0) (h.opening refl) in differs e })
@@ -81,7 +67,7 @@ breaks-Stepwise = break-behind prio_threads smallest (e0 ∷ e1 ∷ e2 ∷ e3 �
         record { number = refl; proc = omega arith; some = λ no. cc; opening = λ no. absurd (omega arith) },
         tt,
       );
-      broken = λ h. let place = h.steps.0.place in omega (arith, place);
+      broken = λ h. let place = h.steps.0.pc in omega (arith, place);
     })
 
 pub breaks-ToldOnce : FirstBreak prio_threads smallest told_of_nothing (stops_at 1) 1 ToldOnce
@@ -160,7 +146,7 @@ breaks-UpcallGiven =
         (
           record {
             steps = (
-              record { owned = refl; runs = refl; place = refl; within = omega arith; page = tt },
+              record { owned = refl; runs = refl; pc = refl; within = omega arith; page = tt },
               (record { owned = refl; runs = refl; cause = inl refl }, (tt, (tt, tt))),
             );
           },

@@ -1,18 +1,15 @@
 -- A run in which two threads of one rank are ready, and the older one is taken.
-use Rattle.std.proofs.Common.{◌≡◌, inl, inr, refl, sym, ◌∙◌, ap, subst, arith, Some, None, List, [], ◌∷◌}
-use Rattle.std.specs.Prelude.{Contains}
+use Rattle.std.proofs.Common.{◌≡◌, inl, inr, refl, ◌∙◌, ap, arith, Some, None, List, [], ◌∷◌}
 use Rattle.std.proofs.lemmas.Option.{same_Some}
-use Rattle.sa_base.specs.declared.number.SpaceNo.{SpaceNo}
 use Rattle.sa_base.specs.declared.number.ThreadNo.{ThreadNo}
 use Rattle.sa_base.specs.declared.record.Record.TheVariants.{Ins, Run, Ready, Take, Free}
 use Rattle.sa_instr.specs.declared.instr.Instr.{Instr}
-use Rattle.sa_lemmas.proofs.Membership.{contains-single}
 use Rattle.sa_laws.specs.declared.rule.Rule.TheVariants.{OrderKept}
 use Rattle.sa_laws.specs.Event.{Event}
-use Rattle.sa_laws.specs.Life.{Life, Lock}
+use Rattle.sa_laws.specs.Life.{Lock}
 use Rattle.sa_laws.specs.Readings.{Readings, IsLocked}
 use Rattle.sa_laws.specs.Locks.{HoldsLock}
-use Rattle.sa_laws.specs.History.{begun}
+use Rattle.sa_laws.specs.History.{event_begun}
 use Rattle.sa_ranks.specs.Rules.{prio_threads}
 use Rattle.sa_laws.specs.Rules.{HoldEach, IsLawful, rules}
 use Rattle.sa_laws.specs.Legal.{FirstBreak}
@@ -20,9 +17,11 @@ use Rattle.sa_histories.specs.Lawful.{AreRight}
 use Rattle.sa_examples.specs.Examples.{forking_program, forking, forking_run, older_taken, stops_at, t1, t2}
 use Rattle.sa_histories.specs.Short.{workload_of, at, s0, p0, t0}
 use Rattle.sa_examples.proofs.Plain.{before-order, plain-lawful}
-use Rattle.sa_examples.proofs.Calm.{one-share, OnlyZero, only-none, only-put, the-one, none-locked}
+use Rattle.sa_examples.proofs.Calm.{one-share, only-none, only-put, none-locked}
 use Rattle.sa_examples.proofs.RankedSmallest.{r0, r5, next}
-use Rattle.sa_examples.proofs.RankedBroken.{goes-on, right0, right1, right2, right3, right4}
+use Rattle.sa_examples.proofs.Broken.{goes-on}
+use Rattle.sa_examples.proofs.Forking.{holds-none}
+use Rattle.sa_examples.proofs.RankedBroken.{right0, right1, right2, right3, right4}
 use Rattle.sa_histories.proofs.Legality.{with-end, break-behind}
 
 abbrev g : List (List Instr)
@@ -100,21 +99,12 @@ apart02 e = let same = ap (λ (t : ThreadNo). t.0) (same_Some t0 t2 e) in omega 
 apart21 : Some t2 ≡ Some t1 → ⊥
 apart21 e = let same = ap (λ (t : ThreadNo). t.0) (same_Some t2 t1 e) in omega (arith, same)
 
--- where one life is in use, and has one lock, another thread than the lock's holds none
-pub holds-none : (r : Readings) (life : Life) (lock : Lock) (t : ThreadNo) → OnlyZero r.lives → r.lives 0 ≡ Some life → life.locks ≡ lock ∷ []
-    → (lock.thread ≡ Some t → ⊥) → (s : SpaceNo) → HoldsLock r s t → ⊥
-holds-none r life lock t only is locks other s holds =
-    let same : life ≡ holds.life = same_Some life holds.life (sym is ∙ the-one r.lives only holds.act.0 holds.life holds.is) in
-    let all : holds.life.locks ≡ lock ∷ [] = ap (λ (x : Life). x.locks) (sym same) ∙ locks in
-    let one : lock ≡ holds.lock = contains-single lock holds.lock (subst (λ (xs : List Lock). Contains xs holds.lock) all holds.among) in
-    other (ap (λ (x : Lock). x.thread) one ∙ holds.thread)
-
 lawful5 : IsLawful prio_threads forking q5 f5
 lawful5 = plain-lawful prio_threads forking q5 5 p0 (Ins s0 t0 0) refl
     (record {
       later = omega arith;
       proc = omega arith;
-      steps = (record { owned = refl; runs = refl; place = refl; within = omega arith; page = tt }, tt);
+      steps = (record { owned = refl; runs = refl; pc = refl; within = omega arith; page = tt }, tt);
       reads = (refl, refl, refl, refl, refl, refl, refl);
       covered = one-share;
     })
@@ -126,9 +116,9 @@ lawful5 = plain-lawful prio_threads forking q5 5 p0 (Ins s0 t0 0) refl
 right5 : HoldEach prio_threads forking rules q5 f5 None
 right5 = with-end prio_threads forking q5 f5 None lawful5 (goes-on q6 refl refl)
 
-unlocked6 : IsLocked (begun (workload_of g) f6 q6) s0 p0 → ⊥
+unlocked6 : IsLocked (event_begun (workload_of g) f6 q6) s0 p0 → ⊥
 unlocked6 locked =
-    none-locked (begun (workload_of g) f6 q6) _
+    none-locked (event_begun (workload_of g) f6 q6) _
     (only-put _ _ (only-put _ _ (only-put _ _
     (only-put _ _ (only-put _ _ (only-put _ _ (only-put _ _ (only-put _ _ (only-put _ _ (only-put _ _ only-none)))))))))) refl refl s0 p0 locked
 
@@ -152,9 +142,9 @@ lawful6 = plain-lawful prio_threads forking q6 6 p0 (Take s0 p0 (Some t0)) refl
 right6 : HoldEach prio_threads forking rules q6 f6 None
 right6 = with-end prio_threads forking q6 f6 None lawful6 (goes-on q7 refl refl)
 
-holds7 : HoldsLock (begun (workload_of g) f7 q7) s0 t1 → ⊥
+holds7 : HoldsLock (event_begun (workload_of g) f7 q7) s0 t1 → ⊥
 holds7 holds =
-    holds-none (begun (workload_of g) f7 q7) _ _ t1
+    holds-none (event_begun (workload_of g) f7 q7) _ _ t1
     (only-put _ _ (only-put _ _ (only-put _ _
     (only-put _ _ (only-put _ _ (only-put _ _ (only-put _ _ (only-put _ _ (only-put _ _ (only-put _ _ (only-put _ _ (only-put _ _ only-none)))))))))))) refl
     refl apart01 s0 holds
@@ -217,7 +207,7 @@ lawful9 = plain-lawful prio_threads forking q9 9 p0 (Ins s0 t0 1) refl
     (record {
       later = omega arith;
       proc = omega arith;
-      steps = (record { owned = refl; runs = refl; place = refl; within = omega arith; page = tt }, tt);
+      steps = (record { owned = refl; runs = refl; pc = refl; within = omega arith; page = tt }, tt);
       reads = (refl, refl, refl, refl, refl, refl, refl);
       covered = one-share;
     })
@@ -229,9 +219,9 @@ lawful9 = plain-lawful prio_threads forking q9 9 p0 (Ins s0 t0 1) refl
 right9 : HoldEach prio_threads forking rules q9 f9 None
 right9 = with-end prio_threads forking q9 f9 None lawful9 (goes-on q10 refl refl)
 
-unlocked10 : IsLocked (begun (workload_of g) f10 q10) s0 p0 → ⊥
+unlocked10 : IsLocked (event_begun (workload_of g) f10 q10) s0 p0 → ⊥
 unlocked10 locked =
-    none-locked (begun (workload_of g) f10 q10) _
+    none-locked (event_begun (workload_of g) f10 q10) _
     (only-put _ _ (only-put _ _ (only-put _ _
     (only-put _ _ (only-put _ _ (only-put _ _
     (only-put _ _ (only-put _ _ (only-put _ _
@@ -258,9 +248,9 @@ lawful10 = plain-lawful prio_threads forking q10 10 p0 (Take s0 p0 (Some t0)) re
 right10 : HoldEach prio_threads forking rules q10 f10 None
 right10 = with-end prio_threads forking q10 f10 None lawful10 (goes-on q11 refl refl)
 
-holds11 : HoldsLock (begun (workload_of g) f11 q11) s0 t2 → ⊥
+holds11 : HoldsLock (event_begun (workload_of g) f11 q11) s0 t2 → ⊥
 holds11 holds =
-    holds-none (begun (workload_of g) f11 q11) _ _ t2
+    holds-none (event_begun (workload_of g) f11 q11) _ _ t2
     (only-put _ _ (only-put _ _ (only-put _ _
     (only-put _ _ (only-put _ _ (only-put _ _
     (only-put _ _ (only-put _ _ (only-put _ _
@@ -326,7 +316,7 @@ lawful13 = plain-lawful prio_threads forking q13 13 p0 (Ins s0 t0 2) refl
     (record {
       later = omega arith;
       proc = omega arith;
-      steps = (record { owned = refl; runs = refl; place = refl; within = omega arith; page = tt }, tt);
+      steps = (record { owned = refl; runs = refl; pc = refl; within = omega arith; page = tt }, tt);
       reads = (refl, refl, refl, refl, refl, refl, refl);
       covered = one-share;
     })
@@ -338,9 +328,9 @@ lawful13 = plain-lawful prio_threads forking q13 13 p0 (Ins s0 t0 2) refl
 right13 : HoldEach prio_threads forking rules q13 f13 None
 right13 = with-end prio_threads forking q13 f13 None lawful13 (goes-on q14 refl refl)
 
-unlocked14 : IsLocked (begun (workload_of g) f14 q14) s0 p0 → ⊥
+unlocked14 : IsLocked (event_begun (workload_of g) f14 q14) s0 p0 → ⊥
 unlocked14 locked =
-    none-locked (begun (workload_of g) f14 q14) _
+    none-locked (event_begun (workload_of g) f14 q14) _
     (only-put _ _ (only-put _ _ (only-put _ _
     (only-put _ _ (only-put _ _ (only-put _ _
     (only-put _ _ (only-put _ _ (only-put _ _

@@ -6,7 +6,7 @@ use Rattle.sa_instr.specs.declared.instr.Instr.{Instr}
 use Rattle.sa_instr.specs.declared.instr.Instr.TheVariants.{End}
 use Rattle.sa_laws.specs.Event.{Event}
 use Rattle.sa_laws.specs.Readings.{Readings, opening_readings, IsLocked}
-use Rattle.sa_laws.specs.History.{after_event, begun}
+use Rattle.sa_laws.specs.History.{after_event, event_begun}
 use Rattle.sa_ranks.specs.Inside.{is_inside_or_urged}
 use Rattle.sa_ranks.specs.Rules.{prio_threads}
 use Rattle.sa_laws.specs.Rules.{IsLawful}
@@ -92,8 +92,8 @@ lawful1 g = record {
   order_kept = record { run = tt };
 }
 
-pub unlocked2 : (g : List (List Instr)) (e : Event) → IsLocked (begun (workload_of g) e (r2 g)) s0 p0 → ⊥
-unlocked2 g e locked = none-locked (begun (workload_of g) e (r2 g)) _ (only-put _ _ (only-put _ _ only-none)) refl refl s0 p0 locked
+pub unlocked2 : (g : List (List Instr)) (e : Event) → IsLocked (event_begun (workload_of g) e (r2 g)) s0 p0 → ⊥
+unlocked2 g e locked = none-locked (event_begun (workload_of g) e (r2 g)) _ (only-put _ _ (only-put _ _ only-none)) refl refl s0 p0 locked
 
 pub lawful2 : (g : List (List Instr)) → IsLawful prio_threads (workload_of g) (r2 g) e2
 lawful2 g = plain-lawful prio_threads (workload_of g) (r2 g) 2 p0 (Take s0 p0 None) refl
@@ -155,7 +155,7 @@ lawful4 g = plain-lawful prio_threads (workload_of g) (r4 g) 4 p0 (Free s0 p0 (S
 pub lawful5 : IsLawful prio_threads smallest (r5 ((End ∷ []) ∷ [])) e5
 lawful5 = record {
   numbered = record { number = refl; proc = omega arith; some = λ no. cc; opening = λ no. absurd (omega arith) };
-  stepwise = record { steps = (record { owned = refl; runs = refl; place = refl; within = omega arith; page = tt }, tt) };
+  stepwise = record { steps = (record { owned = refl; runs = refl; pc = refl; within = omega arith; page = tt }, tt) };
   told_once = record { told = (tt, tt) };
   told_in_time = record { prompt = prompt-calm (next ((End ∷ []) ∷ []) (r5 ((End ∷ []) ∷ [])) e5) refl };
   where_owned = record { named = (tt, tt); owned = refl };

@@ -6,7 +6,7 @@ use Rattle.sa_instr.specs.declared.instr.Instr.{Instr}
 use Rattle.sa_instr.specs.declared.instr.Instr.TheVariants.{End}
 use Rattle.sa_laws.specs.Event.{Event}
 use Rattle.sa_laws.specs.Readings.{Readings, opening_readings, IsLocked}
-use Rattle.sa_laws.specs.History.{is_inside, after_event, begun}
+use Rattle.sa_laws.specs.History.{is_inside, after_event, event_begun}
 use Rattle.sa_laws.specs.Rules.{fast_threads, IsLawful}
 use Rattle.sa_histories.specs.Short.{smallest, workload_with, at, s0, p0, t0, act}
 use Rattle.sa_examples.proofs.Plain.{plain-lawful}
@@ -90,8 +90,8 @@ lawful1 g = record {
   order_kept = record { run = tt };
 }
 
-pub unlocked2 : (g : List Instr) (e : Event) → IsLocked (begun (workload_with g) e (r2 g)) s0 p0 → ⊥
-unlocked2 g e locked = none-locked (begun (workload_with g) e (r2 g)) _ (only-put _ _ (only-put _ _ only-none)) refl refl s0 p0 locked
+pub unlocked2 : (g : List Instr) (e : Event) → IsLocked (event_begun (workload_with g) e (r2 g)) s0 p0 → ⊥
+unlocked2 g e locked = none-locked (event_begun (workload_with g) e (r2 g)) _ (only-put _ _ (only-put _ _ only-none)) refl refl s0 p0 locked
 
 pub lawful2 : (g : List Instr) → IsLawful fast_threads (workload_with g) (r2 g) e2
 lawful2 g = plain-lawful fast_threads (workload_with g) (r2 g) 2 p0 (Take s0 p0 None) refl
@@ -159,7 +159,7 @@ lawful5 = plain-lawful fast_threads smallest (r5 (End ∷ [])) 5 p0 (Ins s0 t0 0
     (record {
       later = omega arith;
       proc = omega arith;
-      steps = (record { owned = refl; runs = refl; place = refl; within = omega arith; page = tt }, tt);
+      steps = (record { owned = refl; runs = refl; pc = refl; within = omega arith; page = tt }, tt);
       reads = (refl, refl, refl, refl, refl, refl, refl);
       covered = one-share;
     })

@@ -8,7 +8,7 @@ use Rattle.sa_laws.specs.declared.rule.Rule.TheVariants.{LineCause, DemandAnnoun
 use Rattle.sa_laws.specs.Event.{Event}
 use Rattle.sa_laws.specs.Readings.{Readings, IsLocked}
 use Rattle.sa_laws.specs.Locks.{HoldsLock}
-use Rattle.sa_laws.specs.History.{begun}
+use Rattle.sa_laws.specs.History.{event_begun}
 use Rattle.sa_laws.specs.Rules.{HoldEach, IsLawful, rules}
 use Rattle.sa_laws.specs.Legal.{FirstBreak}
 use Rattle.sa_ranks.specs.Rules.{prio_threads}
@@ -20,8 +20,10 @@ use Rattle.sa_examples.proofs.Calm.{prompt-calm, one-share, only-none, only-put,
 use Rattle.sa_histories.proofs.Legality.{with-end, break-behind}
 use Rattle.sa_examples.specs.RankedExamples.{urging_programs, urging, back_for_nothing, own_line, goes_on_outranked, lesser_taken}
 use Rattle.sa_examples.proofs.RankedSmallest.{e0, e1, e2, e3, e4, r0, r5, next}
-use Rattle.sa_examples.proofs.RankedBroken.{one, before5, goes-on, right0, right1, right2, right3, right4}
-use Rattle.sa_examples.proofs.RankedForking.{holds-none, apart01}
+use Rattle.sa_examples.proofs.Broken.{goes-on}
+use Rattle.sa_examples.proofs.Forking.{holds-none}
+use Rattle.sa_examples.proofs.RankedBroken.{one, before5, right0, right1, right2, right3, right4}
+use Rattle.sa_examples.proofs.RankedForking.{apart01}
 
 abbrev g : List (List Instr)
 g = urging_programs
@@ -91,7 +93,7 @@ lawful5 = plain-lawful prio_threads urging q5 5 p0 (Ins s0 t0 0) refl
     (record {
       later = omega arith;
       proc = omega arith;
-      steps = (record { owned = refl; runs = refl; place = refl; within = omega arith; page = tt }, tt);
+      steps = (record { owned = refl; runs = refl; pc = refl; within = omega arith; page = tt }, tt);
       reads = (refl, refl, refl, refl, refl, refl, refl);
       covered = one-share;
     })
@@ -103,8 +105,8 @@ lawful5 = plain-lawful prio_threads urging q5 5 p0 (Ins s0 t0 0) refl
 right5 : HoldEach prio_threads urging rules q5 f5 None
 right5 = with-end prio_threads urging q5 f5 None lawful5 (goes-on q6 refl refl)
 
-unlocked6 : IsLocked (begun (workload_of g) f6 q6) s0 p0 → ⊥
-unlocked6 locked = none-locked (begun (workload_of g) f6 q6) _ (only-put _ _ (only-put _ _ (only-put _ _ (only-put _ _ (only-put _ _ (only-put _ _
+unlocked6 : IsLocked (event_begun (workload_of g) f6 q6) s0 p0 → ⊥
+unlocked6 locked = none-locked (event_begun (workload_of g) f6 q6) _ (only-put _ _ (only-put _ _ (only-put _ _ (only-put _ _ (only-put _ _ (only-put _ _
     (only-put _ _ (only-put _ _ (only-put _ _ (only-put _ _ only-none)))))))))) refl refl s0 p0 locked
 
 lawful6 : IsLawful prio_threads urging q6 f6
@@ -127,8 +129,8 @@ lawful6 = plain-lawful prio_threads urging q6 6 p0 (Take s0 p0 (Some t0)) refl
 right6 : HoldEach prio_threads urging rules q6 f6 None
 right6 = with-end prio_threads urging q6 f6 None lawful6 (goes-on q7 refl refl)
 
-holds7 : HoldsLock (begun (workload_of g) f7 q7) s0 t1 → ⊥
-holds7 holds = holds-none (begun (workload_of g) f7 q7) _ _ t1 (only-put _ _ (only-put _ _ (only-put _ _ (only-put _ _ (only-put _ _ (only-put _ _
+holds7 : HoldsLock (event_begun (workload_of g) f7 q7) s0 t1 → ⊥
+holds7 holds = holds-none (event_begun (workload_of g) f7 q7) _ _ t1 (only-put _ _ (only-put _ _ (only-put _ _ (only-put _ _ (only-put _ _ (only-put _ _
     (only-put _ _ (only-put _ _ (only-put _ _ (only-put _ _ (only-put _ _ (only-put _ _ only-none)))))))))))) refl refl apart01 s0 holds
 
 lawful7 : IsLawful prio_threads urging q7 f7
@@ -201,8 +203,8 @@ lawful9 = plain-lawful prio_threads urging q9 9 p0 (Back s0 (Some t0)) refl
 right9 : HoldEach prio_threads urging rules q9 f9 None
 right9 = with-end prio_threads urging q9 f9 None lawful9 (goes-on q10 refl refl)
 
-unlocked10 : IsLocked (begun (workload_of g) f10 q10) s0 p0 → ⊥
-unlocked10 locked = none-locked (begun (workload_of g) f10 q10) _ (only-put _ _ (only-put _ _ (only-put _ _ (only-put _ _ (only-put _ _ (only-put _ _
+unlocked10 : IsLocked (event_begun (workload_of g) f10 q10) s0 p0 → ⊥
+unlocked10 locked = none-locked (event_begun (workload_of g) f10 q10) _ (only-put _ _ (only-put _ _ (only-put _ _ (only-put _ _ (only-put _ _ (only-put _ _
     (only-put _ _ (only-put _ _ (only-put _ _ (only-put _ _ (only-put _ _ (only-put _ _ (only-put _ _ (only-put _ _ (only-put _ _ (only-put _ _
     (only-put _ _ (only-put _ _ only-none)))))))))))))))))) refl refl s0 p0 locked
 
@@ -226,8 +228,8 @@ lawful10 = plain-lawful prio_threads urging q10 10 p0 (Take s0 p0 None) refl
 right10 : HoldEach prio_threads urging rules q10 f10 None
 right10 = with-end prio_threads urging q10 f10 None lawful10 (goes-on q11 refl refl)
 
-holds11 : HoldsLock (begun (workload_of g) f11 q11) s0 t0 → ⊥
-holds11 holds = holds-none (begun (workload_of g) f11 q11) _ _ t0 (only-put _ _ (only-put _ _ (only-put _ _ (only-put _ _ (only-put _ _ (only-put _ _
+holds11 : HoldsLock (event_begun (workload_of g) f11 q11) s0 t0 → ⊥
+holds11 holds = holds-none (event_begun (workload_of g) f11 q11) _ _ t0 (only-put _ _ (only-put _ _ (only-put _ _ (only-put _ _ (only-put _ _ (only-put _ _
     (only-put _ _ (only-put _ _ (only-put _ _ (only-put _ _ (only-put _ _ (only-put _ _ (only-put _ _ (only-put _ _ (only-put _ _ (only-put _ _
     (only-put _ _ (only-put _ _ (only-put _ _ (only-put _ _ only-none)))))))))))))))))))) refl refl (λ e. cc) s0 holds
 
@@ -284,8 +286,8 @@ lawful12 = plain-lawful prio_threads urging q12 12 p0 (Free s0 p0 None) refl
 right12 : HoldEach prio_threads urging rules q12 f12 None
 right12 = with-end prio_threads urging q12 f12 None lawful12 (goes-on q13 refl refl)
 
-unlocked13 : IsLocked (begun (workload_of g) f13 q13) s0 p0 → ⊥
-unlocked13 locked = none-locked (begun (workload_of g) f13 q13) _ (only-put _ _ (only-put _ _ (only-put _ _ (only-put _ _ (only-put _ _ (only-put _ _
+unlocked13 : IsLocked (event_begun (workload_of g) f13 q13) s0 p0 → ⊥
+unlocked13 locked = none-locked (event_begun (workload_of g) f13 q13) _ (only-put _ _ (only-put _ _ (only-put _ _ (only-put _ _ (only-put _ _ (only-put _ _
     (only-put _ _ (only-put _ _ (only-put _ _ (only-put _ _ (only-put _ _ (only-put _ _ (only-put _ _ (only-put _ _ (only-put _ _ (only-put _ _
     (only-put _ _ (only-put _ _ (only-put _ _ (only-put _ _ (only-put _ _ (only-put _ _ (only-put _ _
     (only-put _ _ only-none)))))))))))))))))))))))) refl refl s0 p0 locked
@@ -364,7 +366,7 @@ breaks-urge = break-behind prio_threads urging (e0 ∷ e1 ∷ e2 ∷ e3 ∷ e4 �
           (record {
             later = omega arith;
             proc = omega arith;
-            steps = (record { owned = refl; runs = refl; place = refl; within = omega arith; page = tt }, tt);
+            steps = (record { owned = refl; runs = refl; pc = refl; within = omega arith; page = tt }, tt);
             reads = (refl, refl, refl, refl, refl, refl, refl);
             covered = one-share;
           });

@@ -13,7 +13,7 @@ use Rattle.sa_instr.specs.declared.instr.Instr.{Instr}
 use Rattle.sa_instr.specs.declared.instr.Instr.TheVariants.{Compute, Set, Add, Sub, Jnz, Load, Store, Out, Fork, Join, Lock, Unlock, Wait, Signal, Io, Touch, End}
 use Rattle.sa_instr.specs.declared.instr.Reg.{Reg}
 use Rattle.sa_instr.specs.Instr.{NamesDeclared}
-use Rattle.sa_instr.specs.Local.{place_after, regs_after}
+use Rattle.sa_instr.specs.Local.{pc_after, regs_after}
 use Rattle.sa_instr.specs.Program.{IsProgram}
 use Rattle.sa_instr.specs.Regs.{reg_value}
 use Rattle.sa_instr.proofs.PlaceLemmas.{next_inside, place_inside}
@@ -133,7 +133,7 @@ module _ (def : SpaceView) (processors event : ℕ) (x : Shared) (w : Option Thr
 
   blocks-step : (b : Block) (length : ℕ) (page : Option ℕ) → IsAt def b → RunStep def processors event x w t (blocks x w t b length page)
   blocks-step b length page at =
-      kept-step x.sync (moved_to b Blocked) (Blocks length page) parts.sync few (record { program = at.program; place = at.place }) (λ u. refl)
+      kept-step x.sync (moved_to b Blocked) (Blocks length page) parts.sync few (record { program = at.program; pc = at.pc }) (λ u. refl)
 
   stored-step : (b : Block) (cell value : ℕ) → IsAt def b
       → RunStep def processors event x w t (outcome (with_sync (with_thread x t b) (stored x.sync cell value)) w Goes)
@@ -147,7 +147,7 @@ module _ (def : SpaceView) (processors event : ℕ) (x : Shared) (w : Option Thr
       → RunStep def processors event x w t (told_by (with_sync x s) w t b a)
   answered s answer.Goes b fits counts ends tells at = kept-step s b Goes fits counts at (λ u. omega (arith, tells u, ends u))
   answered s answer.Waits b fits counts ends tells at =
-      kept-step s (moved_to b Waiting) Leaves fits counts (record { program = at.program; place = at.place }) (λ u. omega (arith, tells u, ends u))
+      kept-step s (moved_to b Waiting) Leaves fits counts (record { program = at.program; pc = at.pc }) (λ u. omega (arith, tells u, ends u))
   answered s (answer.Wakes v) b fits counts ends tells at =
       let waits : 1 ≤ waits_of x.sync v.0 = omega (arith, tells v.0, one_same v.0 v.0 refl) in
       moves-step s b (added (with_name x.works w) v) Goes (one_of (Some v)) fits counts at
@@ -164,14 +164,14 @@ module _ (def : SpaceView) (processors event : ℕ) (x : Shared) (w : Option Thr
   -- a fork
   forked-step : (b : Block) (reg : Reg) (program : ℕ) (made : Option ℕ) → made ≡ next_made x.state.lists → IsAt def (next_of b) → program < length def.programs
       → RunStep def processors event x w t (forked x w t b reg program made)
-  forked-step b reg program None e next named = goes-step (value_in b reg NOT_MADE) (record { program = next.program; place = next.place })
+  forked-step b reg program None e next named = goes-step (value_in b reg NOT_MADE) (record { program = next.program; pc = next.pc })
   forked-step b reg program (Some n) e next named =
       let is = next_is x.state.lists n e in
       let parent : Block = value_in b reg n in
-      let parent_at : IsAt def parent = record { program = next.program; place = next.place } in
+      let parent_at : IsAt def parent = record { program = next.program; pc = next.pc } in
       let child : Block = at_start program Waiting in
       let some : IsProgram (program_at def.programs program) = All-get_or IsProgram def.programs program [] named space.programs in
-      let child_at : IsAt def child = record { program = named; place = omega (arith, some.not_empty) } in
+      let child_at : IsAt def child = record { program = named; pc = omega (arith, some.not_empty) } in
       let ready = parts.state.ready in
       let above : unmade_at x.state.lists n ≡ 1 = unmade_above x.state.lists n (omega (arith, is.1)) in
       let step = added-step x.works w (thread n) parts.works work (omega (arith, is.0, is.1, parts.threads)) (rest n (omega (arith, above))) in
@@ -216,7 +216,7 @@ module _ (def : SpaceView) (processors event : ℕ) (x : Shared) (w : Option Thr
       let other : ℕ = reg_value b.regs reg in
       synced-step (joined x.sync t.0 other x.state.lists.made) (value_in b reg (cond (nat_lt other x.state.lists.made) 1 0))
       (joined-step x.sync t.0 other x.state.lists.made (omega (arith, parts.sync.joiners, parts.state.ready.made, parts.threads)))
-      (record { program = next.program; place = next.place })
+      (record { program = next.program; pc = next.pc })
 
   touched-step : (b : Block) (fetch page : ℕ) (resident : Bool) → IsAt def b → IsAt def (next_of b)
       → RunStep def processors event x w t (touched x w t b fetch page resident)
@@ -236,7 +236,7 @@ module _ (def : SpaceView) (processors event : ℕ) (x : Shared) (w : Option Thr
         | inr none ↦ omega (arith, none, parts.works.once u)
       ] in
       moves-step s (moved_to b Done) (added_all (with_name x.works w) ts) Leaves (λ u. count_in u ts)
-      (fits_on def x.sync s parts.sync (ended-numbers x.sync t.0)) few (record { program = at.program; place = at.place })
+      (fits_on def x.sync s parts.sync (ended-numbers x.sync t.0)) few (record { program = at.program; pc = at.pc })
       (added_all-step x.works w ts parts.works work (λ u some. waits_below u (omega (arith, waits u, some))) apart)
       (λ u. omega (arith, waits u, ends u))
 
@@ -247,18 +247,18 @@ module _ (def : SpaceView) (processors event : ℕ) (x : Shared) (w : Option Thr
   next : (b : Block) (i : Instr) → IsAt def b → i ≡ instr_of def b → i ≢ End → IsAt def (next_of b)
   next b i at is more = record {
     program = at.program;
-    place = next_inside (program_at def.programs b.program) b.pc (program_is b at) at.place (λ ends. more (is ∙ ends));
+    pc = next_inside (program_at def.programs b.program) b.pc (program_is b at) at.pc (λ ends. more (is ∙ ends));
   }
 
   went-step : (b : Block) (i : Instr) → IsAt def b → i ≡ instr_of def b → RunStep def processors event x w t (went x w t b i)
   went-step b i at is =
-      goes-step (gone_to b (place_after i b.pc b.regs) (regs_after i b.regs))
-      (record { program = at.program; place = place_inside (program_at def.programs b.program) b.pc b.regs i (program_is b at) at.place is })
+      goes-step (gone_to b (pc_after i b.pc b.regs) (regs_after i b.regs))
+      (record { program = at.program; pc = place_inside (program_at def.programs b.program) b.pc b.regs i (program_is b at) at.pc is })
 
   named : (b : Block) (i : Instr) → IsAt def b → i ≡ instr_of def b → NamesDeclared def.mutexes (length def.sems) def.cells (length def.programs) i
   named b i at is =
       subst (NamesDeclared def.mutexes (length def.sems) def.cells (length def.programs)) (sym is)
-      (All-get_or (NamesDeclared def.mutexes (length def.sems) def.cells (length def.programs)) (program_at def.programs b.program) b.pc End at.place
+      (All-get_or (NamesDeclared def.mutexes (length def.sems) def.cells (length def.programs)) (program_at def.programs b.program) b.pc End at.pc
       (All-get_or (All (NamesDeclared def.mutexes (length def.sems) def.cells (length def.programs))) def.programs b.program [] at.program space.names))
 
   instr-step : (fetch pages : ℕ) (b : Block) (i : Instr) → IsAt def b → i ≡ instr_of def b
@@ -269,7 +269,7 @@ module _ (def : SpaceView) (processors event : ℕ) (x : Shared) (w : Option Thr
   instr-step fetch pages b (Sub reg other) at is = went-step b (Sub reg other) at is
   instr-step fetch pages b (Jnz reg place) at is = went-step b (Jnz reg place) at is
   instr-step fetch pages b (Load reg cell) at is = let n = next b (Load reg cell) at is (λ e. cc) in
-      goes-step (value_in b reg (cell_at x.sync cell)) (record { program = n.program; place = n.place })
+      goes-step (value_in b reg (cell_at x.sync cell)) (record { program = n.program; pc = n.pc })
   instr-step fetch pages b (Store reg cell) at is = stored-step (next_of b) cell (reg_value b.regs reg) (next b (Store reg cell) at is (λ e. cc))
   instr-step fetch pages b (Out reg) at is = goes-step (next_of b) (next b (Out reg) at is (λ e. cc))
   instr-step fetch pages b (Fork reg program) at is =

@@ -8,7 +8,7 @@ use Rattle.sa_base.specs.declared.record.Record.TheVariants.{Ins, Out as OutOf}
 use Rattle.sa_instr.specs.declared.instr.Instr.{Instr}
 use Rattle.sa_instr.specs.declared.instr.Instr.TheVariants.{Load, Store, Out, Fork, Join, Lock, Unlock, Wait, Signal, Io, Touch, End}
 use Rattle.sa_instr.specs.declared.instr.Reg.{Reg}
-use Rattle.sa_instr.specs.Local.{instr_at, place_after, regs_after}
+use Rattle.sa_instr.specs.Local.{instr_at, pc_after, regs_after}
 use Rattle.sa_instr.specs.Regs.{reg_value, with_reg}
 use Rattle.sa_spaces.specs.Space.{SpaceView}
 use Rattle.sa_abstract.specs.Walk.{program_at}
@@ -55,7 +55,7 @@ value_in b reg value = gone_to b (b.pc + 1) (with_reg b.regs reg value)
 
 -- the instructions that stay within their thread
 abbrev pub went : Shared → Option ThreadNo → ThreadNo → Block → Instr → Outcome
-went x w t b i = outcome (with_thread x t (gone_to b (place_after i b.pc b.regs) (regs_after i b.regs))) w Goes
+went x w t b i = outcome (with_thread x t (gone_to b (pc_after i b.pc b.regs) (regs_after i b.regs))) w Goes
 
 -- a call that may let the thread wait, or wake one, which is put into the work list; b is the block after the instruction
 abbrev pub told_by : Shared → Option ThreadNo → ThreadNo → Block → SyncAnswer → Outcome
@@ -135,7 +135,7 @@ run_says def pages x t = let b = block_at x.threads t.0 in says_of x.state.space
 -- a thread stands within its program
 pub record IsAt (def : SpaceView) (b : Block) : Type 0 where
   pub program : b.program < length def.programs
-  pub place : b.pc < length (program_at def.programs b.program)
+  pub pc : b.pc < length (program_at def.programs b.program)
 
 -- the thread of a context can run its next instruction
 pub record CanRun (def : SpaceView) (x : Shared) (w : Option ThreadNo) (t : ThreadNo) : Type 0 where

@@ -10,7 +10,7 @@ use Rattle.sa_base.specs.declared.record.Record.{Record}
 use Rattle.sa_base.specs.declared.record.Record.TheVariants as records
 use Rattle.sa_lemmas.proofs.FunctionUpdates.{put-self}
 use Rattle.sa_lemmas.specs.Function.{put}
-use Rattle.sa_instr.specs.Local.{place_after, regs_after, local_answer}
+use Rattle.sa_instr.specs.Local.{pc_after, regs_after, local_answer}
 use Rattle.sa_instr.specs.declared.answer.Local.TheVariants.{Went}
 use Rattle.sa_spaces.specs.Workload.{WorkloadView}
 use Rattle.sa_code.specs.declared.state.Frame.{Frame}
@@ -33,7 +33,7 @@ use Rattle.sa_laws.specs.Life.{Life}
 use Rattle.sa_laws.specs.Readings.{Readings, line_of}
 use Rattle.sa_laws.specs.Rules.{fast_threads}
 use Rattle.sa_user_laws.specs.Moments.{Sees}
-use Rattle.sa_user_laws.specs.Scene.{IsActing, begun_at}
+use Rattle.sa_user_laws.specs.Scene.{IsActing, event_begun_at}
 use Rattle.sa_user_laws.specs.Steps.{IsLegalIns, AreLegalIns, event_with}
 use Rattle.sa_fast_laws.specs.FastFits.{FastFits, fast_fits}
 use Rattle.sa_fast_laws.proofs.steps.Events.{IsLegal}
@@ -122,7 +122,7 @@ module _ (set : Setting) (cs : Contexts Context) (w : WorkloadView) (p : ProcNo)
       let b = block_at u.shared.threads t.0 in
       let program = program_at u.def.programs b.program in
       let v = behind u seen t (instr_of u.def b) in
-      let b1 = gone_to b (place_after (instr_of u.def b) b.pc b.regs) (regs_after (instr_of u.def b) b.regs) in
+      let b1 = gone_to b (pc_after (instr_of u.def b) b.pc b.regs) (regs_after (instr_of u.def b) b.regs) in
       let r1 = after_event is_inside w r (event_with seen.event p (records.Ins set.space t b.pc ∷ []) []) in
       let there : block_at v.shared.threads t.0 ≡ b1 = get_or-set_same u.shared.threads t.0 b1 unmade (t_below set e u cs w r p a life seen t i.scene) in
       let rest = runs m seen.event v r1 (its1 set e u cs w r p a life seen t i.scene local.0 is_inside)
@@ -139,7 +139,7 @@ module _ (set : Setting) (cs : Contexts Context) (w : WorkloadView) (p : ProcNo)
 pub fast-goes : (w : WorkloadView) (s : Setting) (e : ℕ) (r : Readings) (u : Package) (cs : Contexts Context) (p : ProcNo) (a : ActNo) (life : Life)
     (c : Context) (seen : Seen) (n : ℕ)
     → IsActing fast_calls fast_stands fast_fits w s e r u cs p a life c
-    → Sees s.space (begun_at w seen.event p r) p seen.event seen → line_of r p ≡ None → 1 ≤ n → e < seen.event → seen.event + n ≤ MAX_EVENTS + 1
+    → Sees s.space (event_begun_at w seen.event p r) p seen.event seen → line_of r p ≡ None → 1 ≤ n → e < seen.event → seen.event + n ≤ MAX_EVENTS + 1
     → GoesOn s n (fast_calls.local u c)
     → AreLegalIns fast_threads w seen.event p r (fast_calls.went u seen c n).says
     (λ last. fast_fits w s last (fast_calls.went u seen c n).user (put cs a.0 (Some (fast_calls.went u seen c n).ctx)))

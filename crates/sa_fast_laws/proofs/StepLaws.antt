@@ -22,7 +22,7 @@ use Rattle.sa_package_model.specs.declared.context.ContextState.TheVariants.{Cod
 use Rattle.sa_package_model.specs.declared.package.Package.{Package}
 use Rattle.sa_laws.specs.Closing.{want_one}
 use Rattle.sa_laws.specs.Demand.{BeginsFreely, StepIsFreeIf}
-use Rattle.sa_laws.specs.History.{begun, is_step}
+use Rattle.sa_laws.specs.History.{event_begun, is_step}
 use Rattle.sa_laws.specs.Life.{Life}
 use Rattle.sa_laws.specs.Locks.{KeepsLocksIf, KeepsLocksIn, RunsNext}
 use Rattle.sa_laws.specs.Opening.{opening_event}
@@ -31,7 +31,7 @@ use Rattle.sa_laws.specs.Rules.{fast_threads}
 use Rattle.sa_laws.specs.Turns.{is_of_locks}
 use Rattle.sa_laws.proofs.Records.{alone-plain}
 use Rattle.sa_user_laws.specs.Moments.{IsMoment, Sees}
-use Rattle.sa_user_laws.specs.Scene.{IsActing, begun_at}
+use Rattle.sa_user_laws.specs.Scene.{IsActing, event_begun_at}
 use Rattle.sa_user_laws.specs.Steps.{event_with, IsClosed, RulesPass, AreKernels}
 use Rattle.sa_fast_laws.specs.FastFits.{fast_fits}
 use Rattle.sa_fast_laws.proofs.lives.KernelEvents.{kernels-are}
@@ -77,9 +77,9 @@ fast-kernels w r e p own closing ok moment are closed =
           };
       locks = record {
         step =
-            λ later. subst (KeepsLocksIn w (begun w (event_with e p own closing) r) p) (sym closed.is_own)
-            (subst (KeepsLocksIn w (begun w (event_with e p own closing) r) p) (sym k.is) (
-              subst (λ b. KeepsLocksIf b w (begun w (event_with e p own closing) r) p (life_on r p) k.first) (sym k.step) tt,
+            λ later. subst (KeepsLocksIn w (event_begun w (event_with e p own closing) r) p) (sym closed.is_own)
+            (subst (KeepsLocksIn w (event_begun w (event_with e p own closing) r) p) (sym k.is) (
+              subst (λ b. KeepsLocksIf b w (event_begun w (event_with e p own closing) r) p (life_on r p) k.first) (sym k.step) tt,
               alone-plain (list_any is_of_locks (k.first ∷ k.rest)) k.rest k.locks,
             ));
       };
@@ -100,7 +100,7 @@ fast-opening w ok = record {
 pub the-scene : (w : WorkloadView) (s : Setting) (e : ℕ) (r : Readings) (u : Package) (cs : Contexts Context) (p : ProcNo) (a : ActNo) (life : Life)
     (c : Context) (seen : Seen)
     → IsActing fast_calls fast_stands fast_fits w s e r u cs p a life c
-    → Sees s.space (begun_at w seen.event p r) p seen.event seen → e < seen.event → seen.event ≤ MAX_EVENTS
+    → Sees s.space (event_begun_at w seen.event p r) p seen.event seen → e < seen.event → seen.event ≤ MAX_EVENTS
     → IsFastScene s e u cs w r p a life c seen
 the-scene w s e r u cs p a life c seen i sees later within =
     let mark = (i.fit.rest a c life i.on.mine i.on.is).marks in
@@ -127,7 +127,7 @@ the-scene w s e r u cs p a life c seen i sees later within =
 pub fast-steps : (w : WorkloadView) (s : Setting) (e : ℕ) (r : Readings) (u : Package) (cs : Contexts Context) (p : ProcNo) (a : ActNo) (life : Life)
     (c : Context) (seen : Seen)
     → IsActing fast_calls fast_stands fast_fits w s e r u cs p a life c
-    → Sees s.space (begun_at w seen.event p r) p seen.event seen → line_of r p ≡ None → 1 ≤ seen.event → e < seen.event → seen.event ≤ MAX_EVENTS
+    → Sees s.space (event_begun_at w seen.event p r) p seen.event seen → line_of r p ≡ None → 1 ≤ seen.event → e < seen.event → seen.event ≤ MAX_EVENTS
     → IsLegal w s r p seen.event a cs (fast_calls.stepped u seen c)
 fast-steps w s e r u cs p a life c seen i sees low some later within =
     step-legal s e u w r p a life seen cs c.state c.sections c.work (the-scene w s e r u cs p a life c seen i sees later within)

@@ -19,7 +19,7 @@ use Rattle.sa_laws.specs.Readings.{Readings, running_of, life_of, untold_of, own
 use Rattle.sa_laws.specs.Record.{after_record}
 use Rattle.sa_laws.specs.Step.{StandsIn}
 use Rattle.sa_laws.specs.declared.place.Place.TheVariants as place
-use Rattle.sa_user_laws.specs.Scene.{begun_at, IsActing, Holds as HoldsNow, HoldsIn, IsOn}
+use Rattle.sa_user_laws.specs.Scene.{event_begun_at, IsActing, Holds as HoldsNow, HoldsIn, IsOn}
 use Rattle.sa_fast_laws.specs.FastFits.{fast_fits, fast_hears}
 use Rattle.sa_fast_laws.specs.View.{view}
 use Rattle.sa_fast_laws.proofs.lives.Ceases.{stop-fits, return-fits, return-stands}
@@ -31,7 +31,7 @@ pub fast-stops : (w : WorkloadView) (s : Setting) (e : ℕ) (r : Readings) (u : 
     (c : Context) (number : ℕ)
     → IsActing fast_calls fast_stands fast_fits w s e r u cs p a life c
     → (stands_idle c.state ≡ (not life.inside && is_none (carried_by c.state)))
-    × fast_fits w s (after_record w number p (begun_at w number p r) (records.Stop s.space (carried_by c.state) a)) u cs
+    × fast_fits w s (after_record w number p (event_begun_at w number p r) (records.Stop s.space (carried_by c.state) a)) u cs
 fast-stops w s e r u cs p a life c number i = (
   idle_is c.state ∙ ap (λ b. not b && is_none (carried_by c.state)) (sym (i.fit.rest a c life i.on.mine i.on.is).marks.inside),
   fits-of s.space _ u cs (record { many = i.fit.lists.many; ranks = i.fit.lists.ranks; numbers = i.fit.lists.numbers })

@@ -9,10 +9,8 @@ use Rattle.sa_base.specs.declared.record.Note.TheVariants as note
 use Rattle.sa_base.specs.declared.record.Record.{Record}
 use Rattle.sa_base.specs.declared.record.Record.TheVariants.{Ins, Run, Stop, Block, Unblock, Cont, Back, Ready, Up, Told, Move, Want, GiveBack}
 use Rattle.sa_spaces.specs.Workload.{WorkloadView}
-use Rattle.sa_devices.specs.declared.kind.IoKind.{IoKind}
-use Rattle.sa_devices.specs.declared.kind.IoKind.TheVariants.{Plain, Page, Upcall}
 use Rattle.sa_devices.specs.Ios.{Io}
-use Rattle.sa_devices.specs.Pages.{completed}
+use Rattle.sa_devices.proofs.SoundLemmas.{length-completed}
 use Rattle.sa_laws.specs.declared.place.Place.{Place}
 use Rattle.sa_laws.specs.State.{State, placed_if}
 use Rattle.sa_laws.specs.Machine.{changed}
@@ -78,14 +76,9 @@ taken-length r (GiveBack a) = without-length r.taken (space_of_life r (Some a)) 
 taken-length r x = refl
 
 -- the resident pages
-kind-length : (kind : IoKind) (pages : List ℕ) → length (completed kind pages) ≡ length pages
-kind-length (Plain s a) pages = refl
-kind-length (Page s a k) pages = length-set pages s.0 _
-kind-length (Upcall s) pages = length-set pages s.0 _
-
 over-length : (pages : List ℕ) (o : Option Io) → length (with_page pages o) ≡ length pages
 over-length pages None = refl
-over-length pages (Some io) = kind-length io.kind pages
+over-length pages (Some io) = length-completed io.kind pages
 
 pub pages-length : (r : Readings) (x : Record) → length (pages_after r x) ≡ length r.pages
 pages-length r x = over-length r.pages (io_over r x)

@@ -8,7 +8,7 @@ use Rattle.sa_spaces.specs.Workload.{WorkloadView}
 use Rattle.sa_laws.specs.Event.{Event, items_of, events_of, event_of, before_events, is_of_event}
 use Rattle.sa_laws.specs.Readings.{Readings, opening_readings}
 use Rattle.sa_laws.specs.Upcalls.{RecordLaw, EachRecord}
-use Rattle.sa_laws.specs.History.{after_event, begun}
+use Rattle.sa_laws.specs.History.{after_event, event_begun}
 use Rattle.sa_laws.specs.Rules.{UserRules, IsLawful}
 use Rattle.sa_laws.specs.Legal.{IsLegal}
 use Rattle.sa_histories.specs.Lawful.{AreLawful}
@@ -38,7 +38,7 @@ items-events (x ∷ xs) = items-before x (events_of xs) ∙ ap (λ ys. x ∷ ys)
 
 -- a law of records that follows from the laws of events holds along a legal history
 pub along : (u : UserRules) (w : WorkloadView) (L : ProcNo → RecordLaw)
-    → ((r : Readings) (e : Event) → IsLawful u w r e → EachRecord (L e.proc) w e.number e.proc (begun w e r) e.records)
+    → ((r : Readings) (e : Event) → IsLawful u w r e → EachRecord (L e.proc) w e.number e.proc (event_begun w e r) e.records)
     → (r : Readings) (events : List Event) → AreLawful u w r events → Along u.inside w L r events
 along u w L gives r [] all = tt
 along u w L gives r (e ∷ es) all = (gives r e all.0, along u w L gives (after_event u.inside w r e) es all.1)
@@ -50,7 +50,7 @@ legal-lawful u w items legal = lawful-along u w (opening_readings w) (events_of 
 pub good-at : (u : UserRules) (w : WorkloadView) (items : List Item) (L : ProcNo → RecordLaw) (Inv : List Item → Readings → Type 0)
     (Mid : ℕ → ProcNo → List Item → Readings → Type 0) (Good : List Item → Item → Type 0)
     → IsLegal u w items → IsKept u.inside w L Inv Mid Good
-    → ((r : Readings) (e : Event) → IsLawful u w r e → EachRecord (L e.proc) w e.number e.proc (begun w e r) e.records)
+    → ((r : Readings) (e : Event) → IsLawful u w r e → EachRecord (L e.proc) w e.number e.proc (event_begun w e r) e.records)
     → Inv [] (opening_readings w) → (j : ℕ) (x : Item) → slice_get items j ≡ Some x → Good (take j items) x
 good-at u w items L Inv Mid Good legal kept gives start j x at =
     let law = along u w L gives (opening_readings w) (events_of items) (legal-lawful u w items legal) in

@@ -10,7 +10,7 @@ use Rattle.sa_spaces.specs.Workload.{WorkloadView}
 use Rattle.sa_laws.specs.Event.{Event, items_of}
 use Rattle.sa_laws.specs.Readings.{Readings}
 use Rattle.sa_laws.specs.Record.{after_record}
-use Rattle.sa_laws.specs.History.{Test, begun, ended, after_records, after_event, after_events, behind_all}
+use Rattle.sa_laws.specs.History.{Test, event_begun, ended, after_records, after_event, after_events, behind_all}
 use Rattle.sa_laws.specs.Upcalls.{RecordLaw, EachRecord}
 use Rattle.sa_laws.specs.Rules.{UserRules, IsLawful}
 use Rattle.sa_histories.specs.Lawful.{AreLawful}
@@ -22,7 +22,7 @@ item e p x = record { event = e; proc = p; what = x }
 -- and moreover something good is so at it
 pub record IsKept (test : Test) (w : WorkloadView) (L : ProcNo → RecordLaw) (Inv : List Item → Readings → Type 0)
     (Mid : ℕ → ProcNo → List Item → Readings → Type 0) (Good : List Item → Item → Type 0) : Type 0 where
-  pub begins : (past : List Item) (r : Readings) (e : Event) → Inv past r → Mid e.number e.proc past (begun w e r)
+  pub begins : (past : List Item) (r : Readings) (e : Event) → Inv past r → Mid e.number e.proc past (event_begun w e r)
   pub step : (e : ℕ) (p : ProcNo) (past : List Item) (r : Readings) (x : Record) (rest : List Record) → Mid e p past r → L p r x rest
       → Mid e p (past ++ item e p x ∷ []) (after_record w e p r x) × Good past (item e p x)
   pub ends : (past : List Item) (before : Readings) (e : Event) (r : Readings) → Mid e.number e.proc past r → Inv past (ended test w before e r)
@@ -65,7 +65,7 @@ walk-records test w L Inv Mid Good kept e p past r (x ∷ xs) inv law =
 -- the law holds of each record of these events
 abbrev pub Along : Test → WorkloadView → (ProcNo → RecordLaw) → Readings → List Event → Type 0
 Along test w L r [] = Unit {0}
-Along test w L r (e ∷ es) = EachRecord (L e.proc) w e.number e.proc (begun w e r) e.records × Along test w L (after_event test w r e) es
+Along test w L r (e ∷ es) = EachRecord (L e.proc) w e.number e.proc (event_begun w e r) e.records × Along test w L (after_event test w r e) es
 
 pub walk : (test : Test) (w : WorkloadView) (L : ProcNo → RecordLaw) (Inv : List Item → Readings → Type 0)
     (Mid : ℕ → ProcNo → List Item → Readings → Type 0) (Good : List Item → Item → Type 0)
@@ -73,7 +73,7 @@ pub walk : (test : Test) (w : WorkloadView) (L : ProcNo → RecordLaw) (Inv : Li
     → Inv (past ++ items_of events) (after_events test w r events) × AllGood Good past (items_of events)
 walk test w L Inv Mid Good kept past r [] inv law = (subst (λ past'. Inv past' r) (sym (append-nil past)) inv, good-nil Good past)
 walk test w L Inv Mid Good kept past r (e ∷ es) inv law =
-    let one = walk-records test w L Inv Mid Good kept e.number e.proc past (begun w e r) e.records (kept.begins past r e inv) law.0 in
+    let one = walk-records test w L Inv Mid Good kept e.number e.proc past (event_begun w e r) e.records (kept.begins past r e inv) law.0 in
     let first = items_at e.number e.proc e.records in
     let more = walk test w L Inv Mid Good kept (past ++ first) (after_event test w r e) es (kept.ends (past ++ first) r e (behind_all w e r) one.0) law.1 in (
       subst (λ past'. Inv past' (after_events test w (after_event test w r e) es)) (append_assoc past first (items_of es)) more.0,
@@ -94,12 +94,12 @@ AtEnds E past (e ∷ es) = E (past ++ items_at e.number e.proc e.records) e.numb
 pub walk-ends : (u : UserRules) (w : WorkloadView) (L : ProcNo → RecordLaw) (Inv : List Item → Readings → Type 0)
     (Mid : ℕ → ProcNo → List Item → Readings → Type 0) (Good : List Item → Item → Type 0) (E : List Item → ℕ → Type 0)
     → IsKept u.inside w L Inv Mid Good
-    → ((r : Readings) (e : Event) → IsLawful u w r e → EachRecord (L e.proc) w e.number e.proc (begun w e r) e.records)
+    → ((r : Readings) (e : Event) → IsLawful u w r e → EachRecord (L e.proc) w e.number e.proc (event_begun w e r) e.records)
     → ((past : List Item) (r : Readings) (e : Event) → IsLawful u w r e → Inv past (after_event u.inside w r e) → E past e.number)
     → (past : List Item) (r : Readings) (events : List Event) → Inv past r → AreLawful u w r events → AtEnds E past events
 walk-ends u w L Inv Mid Good E kept gives close past r [] inv law = tt
 walk-ends u w L Inv Mid Good E kept gives close past r (e ∷ es) inv law =
     let first = items_at e.number e.proc e.records in
-    let one = walk-records u.inside w L Inv Mid Good kept e.number e.proc past (begun w e r) e.records (kept.begins past r e inv) (gives r e law.0) in
+    let one = walk-records u.inside w L Inv Mid Good kept e.number e.proc past (event_begun w e r) e.records (kept.begins past r e inv) (gives r e law.0) in
     let after = kept.ends (past ++ first) r e (behind_all w e r) one.0 in
     (close (past ++ first) r e law.0 after, walk-ends u w L Inv Mid Good E kept gives close (past ++ first) (after_event u.inside w r e) es after law.1)

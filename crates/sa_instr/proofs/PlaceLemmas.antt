@@ -6,7 +6,7 @@ use Rattle.std.proofs.lemmas.List.Elements.{All-get_or}
 use Rattle.sa_instr.specs.declared.instr.Instr.{Instr}
 use Rattle.sa_instr.specs.declared.instr.Instr.TheVariants.{Compute, Set, Add, Sub, Jnz, End}
 use Rattle.sa_instr.specs.Instr.{JumpsBelow}
-use Rattle.sa_instr.specs.Local.{instr_at, place_after}
+use Rattle.sa_instr.specs.Local.{instr_at, pc_after}
 use Rattle.sa_instr.specs.Program.{IsProgram}
 use Rattle.sa_instr.specs.Regs.{reg_value}
 
@@ -26,7 +26,7 @@ test_below false m k n left right = right
 
 -- an instruction that stays within its thread leads to a place of the program, and others stay at theirs
 pub place_inside : (p : List Instr) (pc : ℕ) (regs : List ℕ) (i : Instr)
-    → IsProgram p → pc < length p → i ≡ instr_at p pc → place_after i pc regs < length p
+    → IsProgram p → pc < length p → i ≡ instr_at p pc → pc_after i pc regs < length p
 place_inside p pc regs Compute is inside at = next_inside p pc is inside (λ e. let no = at ∙ e in cc)
 place_inside p pc regs (Set reg n) is inside at = next_inside p pc is inside (λ e. let no = at ∙ e in cc)
 place_inside p pc regs (Add reg other) is inside at = next_inside p pc is inside (λ e. let no = at ∙ e in cc)

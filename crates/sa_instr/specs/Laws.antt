@@ -10,13 +10,13 @@ use Rattle.sa_instr.specs.Parts.{FitTheOperation, parts, parts_of, instr_of}
 use Rattle.sa_instr.specs.Instr.{reg_number, IsInRange}
 use Rattle.sa_instr.specs.Regs.{AreRegisters}
 use Rattle.sa_instr.specs.Program.{IsProgram}
-use Rattle.sa_instr.specs.Local.{instr_at, place_after, regs_after}
+use Rattle.sa_instr.specs.Local.{instr_at, pc_after, regs_after}
 
 -- a thread stays within its program
 abbrev pub PlacesStayInPrograms : Type 0
 PlacesStayInPrograms =
     (program : List Instr) (pc : ℕ) (regs : List ℕ) → IsProgram program → pc < length program
-    → place_after (instr_at program pc) pc regs < length program
+    → pc_after (instr_at program pc) pc regs < length program
 
 -- eight registers of 64 bits stay that
 abbrev pub RegistersStayWords : Type 0

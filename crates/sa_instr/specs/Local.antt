@@ -11,13 +11,13 @@ abbrev pub instr_at : List Instr → ℕ → Instr
 instr_at program pc = slice_index_or program pc End
 
 -- the place after an instruction: the next one, but for a jump whose register is not 0; what is not local leaves it
-abbrev pub place_after : Instr → (pc : ℕ) → (regs : List ℕ) → ℕ
-place_after Compute pc regs = pc + 1
-place_after (Set reg n) pc regs = pc + 1
-place_after (Add reg other) pc regs = pc + 1
-place_after (Sub reg other) pc regs = pc + 1
-place_after (Jnz reg place) pc regs = if reg_value regs reg == 0 then pc + 1 else place
-place_after _ pc regs = pc
+abbrev pub pc_after : Instr → (pc : ℕ) → (regs : List ℕ) → ℕ
+pc_after Compute pc regs = pc + 1
+pc_after (Set reg n) pc regs = pc + 1
+pc_after (Add reg other) pc regs = pc + 1
+pc_after (Sub reg other) pc regs = pc + 1
+pc_after (Jnz reg place) pc regs = if reg_value regs reg == 0 then pc + 1 else place
+pc_after _ pc regs = pc
 
 -- the registers after an instruction, sums modulo 2 ^ 64; what is not local leaves them
 abbrev pub regs_after : Instr → List ℕ → List ℕ

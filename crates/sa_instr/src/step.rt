@@ -1,6 +1,6 @@
 // The instructions that stay within their thread.
 ghost use Rattle.std.specs.Prelude.{◌≡◌, ◌≢◌, ◌<◌, length};
-ghost use Rattle.sa_instr.specs.Local.{instr_at, local_answer, place_after, regs_after};
+ghost use Rattle.sa_instr.specs.Local.{instr_at, local_answer, pc_after, regs_after};
 
 use crate::answer::Local;
 use crate::instr::Instr;
@@ -12,7 +12,7 @@ use crate::regs::Regs;
 pub fn local(program: &Program, regs: &mut Regs, pc: &mut u16) -> Local
     requires { pc.old < length program.now }
     ensures answer { result ≡ local_answer (instr_at program.now pc.old) }
-    ensures place { pc.new ≡ place_after (instr_at program.now pc.old) pc.old regs.old }
+    ensures pc { pc.new ≡ pc_after (instr_at program.now pc.old) pc.old regs.old }
     ensures regs { regs.new ≡ regs_after (instr_at program.now pc.old) regs.old }
     ensures within { pc.new < length program.now }
     ensures unchanged { result ≢ Local.Went → (pc.new ≡ pc.old) × (regs.new ≡ regs.old) }

@@ -137,7 +137,7 @@ module _ {C : Type 0} where
       → Enters mid new result (can_upcall mid.state s) (λ b. told_or_left e p s b (can_upcall mid.state s))
       → Enters old new result (upcalls_in old.state (owner_of old.state p) (life_of old.state p)) (λ b. blocked e p b held len page)
   enters-block e p s a held len page old mid new result owner life begins enters =
-      let begun = block_begun e p s a held len page old in
+      let after_begin = block_begun e p s a held len page old in
       let b = enters.fresh in
       let same : can_upcall mid.state s ≡ can_upcall old.state s = ap (λ (x : Scene C). can_upcall x.state s) begins in
       record {

@@ -50,7 +50,7 @@ module _ {C : Type 0} where
         acts = kept.acts;
         ios = kept.ios;
         used = kept.used;
-        begun = kept.begun;
+        io_count = kept.io_count;
         pending = kept.pending;
         prompt = prompt-evicted event (state_of m) kept.prompt;
         last = kept.last;
@@ -70,7 +70,7 @@ module _ {C : Type 0} where
     acts = omega (arith, spends.acts, kept.acts);
     ios = omega (arith, spends.ios, kept.ios);
     used = omega (arith, spends.used, kept.used);
-    begun = omega (arith, spends.count, kept.begun);
+    io_count = omega (arith, spends.count, kept.io_count);
     pending =
         (let h = kept.pending in let same = (owed-closed event p (scene_of m t)).1 in let now = ap (λ (x : Scene C). pending_count x.state) is in omega arith);
     prompt = prompt-at (scene_of new tn) (closed event p (scene_of m t)) is (prompt-closed event p (scene_of m t) kept.sound.formed.sizes);
@@ -80,14 +80,14 @@ module _ {C : Type 0} where
   pub kept-fetch : (m new : Parts C) (room last : ℕ) → state_of new ≡ after_fetch (state_of m).telling (state_of m) → Spends m new 0 0 0
       → IsKept m room last → IsKept new room last
   kept-fetch m new room last is spends kept =
-      let begun : new.devices.ios.begun ≤ m.devices.ios.begun = omega (arith, spends.count) in
+      let io_count : new.devices.ios.io_count ≤ m.devices.ios.io_count = omega (arith, spends.count) in
       record {
         sound = subst (λ (k : KernelState C). IsSound k) (sym is) (sound-after_fetch (state_of m).telling (state_of m) refl kept.sound);
         notices = omega (arith, spends.notices, kept.notices);
         acts = omega (arith, spends.acts, kept.acts);
         ios = omega (arith, spends.ios, kept.ios);
         used = omega (arith, spends.used, kept.used);
-        begun = omega (arith, kept.begun);
+        io_count = omega (arith, kept.io_count);
         pending =
             (let h = kept.pending in let less = (owed-after_fetch (state_of m).telling (state_of m) refl).1 in let now = ap pending_count is in omega arith);
         prompt = subst (λ (k : KernelState C). IsPrompt k) (sym is) (prompt-after_fetch (state_of m).telling (state_of m) kept.prompt);
@@ -139,7 +139,7 @@ module _ {C : Type 0} where
     acts = omega (arith, spends.acts, spent.acts, kept.acts);
     ios = omega (arith, spends.ios, spent.ios, kept.ios);
     used = omega (arith, spends.used, spent.used, kept.used);
-    begun = omega (arith, spends.count, spent.count, kept.begun);
+    io_count = omega (arith, spends.count, spent.count, kept.io_count);
     pending =
         (let h = kept.pending in let more = entered.pending in let same = (owed-closed event p (scene_of mid tm)).1 in
         let now = ap (λ (x : Scene C). pending_count x.state) is in omega arith);
@@ -189,7 +189,7 @@ module _ {C : Type 0} where
       → scene_of new tn ≡ closed 0 (proc_no 0) (record { state = state_of m; items = items }) → Spends m new 0 0 0 → IsKept new 0 0
   kept-start m new tn w items ok opens none is spends =
       let sound : IsSound (state_of m) = subst (λ (k : KernelState C). IsSound k) (sym opens) (sound-opening w ok) in
-      let begun : m.devices.ios.begun ≡ 0 = ap (λ (k : KernelState C). k.begun) opens in
+      let io_count : m.devices.ios.io_count ≡ 0 = ap (λ (k : KernelState C). k.io_count) opens in
       record {
         sound = sound-at (scene_of new tn) (closed 0 (proc_no 0) (record { state = state_of m; items = items })) is
             (sound-closed 0 (proc_no 0) (record { state = state_of m; items = items }) sound);
@@ -197,7 +197,7 @@ module _ {C : Type 0} where
         acts = omega arith;
         ios = omega arith;
         used = omega (arith, spends.used);
-        begun = omega (arith, spends.count);
+        io_count = omega (arith, spends.count);
         pending = (let h = owed-new m new tn w items opens is in omega arith);
         prompt = prompt-at (scene_of new tn) (closed 0 (proc_no 0) (record { state = state_of m; items = items })) is
             (prompt-closed 0 (proc_no 0) (record { state = state_of m; items = items }) sound.formed.sizes);

@@ -25,7 +25,7 @@ pub record IsKept {C : Type 0} (m : Parts C) (room event : ℕ) : Type 0 where
   pub acts : room ≤ m.acts.spare
   pub ios : 2 * room ≤ m.devices.ios.spare
   pub used : used m ≤ event
-  pub begun : m.devices.ios.begun ≤ 2 * event
+  pub io_count : m.devices.ios.io_count ≤ 2 * event
   pub pending : pending_count (state_of m) ≤ event
   pub prompt : IsPrompt (state_of m)
   pub last : event ≤ MAX_EVENTS

@@ -29,4 +29,4 @@ module _ {C : Type 0} where
   pub record MayBegin (m : Parts C) (event n : ℕ) : Type 0 where
     pub room : n ≤ m.devices.ios.spare
     pub last : event ≤ MAX_EVENTS
-    pub few : m.devices.ios.begun + n ≤ 2 ^ 32
+    pub few : m.devices.ios.io_count + n ≤ 2 ^ 32

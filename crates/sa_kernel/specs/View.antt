@@ -16,7 +16,7 @@ module _ {C : Type 0} where
     demands = m.demands.items;
     untold = m.notices.untold;
     telling = m.notices.telling;
-    begun = m.devices.ios.begun;
+    io_count = m.devices.ios.io_count;
     under_way = m.devices.ios.under_way;
     pages = m.devices.pages;
   }
@@ -29,9 +29,9 @@ module _ {C : Type 0} where
   used m = (acts_of m.acts).used
 
   -- no more room was spent than this: for notices, for activations, for I/Os; and no more I/Os were begun, nor numbers used
-  pub record Spends (old new : Parts C) (notes fresh begun : ℕ) : Type 0 where
+  pub record Spends (old new : Parts C) (notes fresh io_count : ℕ) : Type 0 where
     pub notices : old.notices.spare ≤ new.notices.spare + notes
     pub acts : old.acts.spare ≤ new.acts.spare + fresh
-    pub ios : old.devices.ios.spare ≤ new.devices.ios.spare + begun
-    pub count : new.devices.ios.begun ≤ old.devices.ios.begun + begun
+    pub ios : old.devices.ios.spare ≤ new.devices.ios.spare + io_count
+    pub count : new.devices.ios.io_count ≤ old.devices.ios.io_count + io_count
     pub used : used new ≤ used old + fresh

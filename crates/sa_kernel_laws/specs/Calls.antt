@@ -14,7 +14,7 @@ use Rattle.sa_kernel_model.specs.Entries.{entered, evicted_at}
 use Rattle.sa_kernel_model.specs.Enters.{Enters}
 use Rattle.sa_laws.specs.Event.{Event}
 use Rattle.sa_laws.specs.Readings.{Readings}
-use Rattle.sa_laws.specs.History.{Test, begun, after_records, after_event}
+use Rattle.sa_laws.specs.History.{Test, event_begun, after_records, after_event}
 use Rattle.sa_kernel_laws.specs.Turn.{MayTurn, SaysRightly}
 use Rattle.sa_kernel_laws.specs.Kept.{IsKept}
 use Rattle.sa_kernel_laws.specs.Laws.{AllHold}
@@ -32,7 +32,7 @@ module _ {C : Type 0} where
     pub later : 1 ≤ e
     pub fetched : k.telling ≡ []
     pub fits : MayTurn (evicted_at e k) p e en
-    pub right : SaysRightly w (evicted_at e k) p r (after_records w e p (begun w (event_at e p) r) says) says en
+    pub right : SaysRightly w (evicted_at e k) p r (after_records w e p (event_begun w (event_at e p) r) says) says en
 
   -- the scene before the call, after a past
   abbrev pub scene_before : KernelState C → ℕ → ProcNo → List Record → List Item → Scene C

@@ -11,7 +11,7 @@ use Rattle.sa_kernel_model.specs.Closing.{NoLineIsDue}
 use Rattle.sa_kernel_model.specs.Entries.{evicted_at}
 use Rattle.sa_laws.specs.Event.{Event, items_of}
 use Rattle.sa_laws.specs.Readings.{Readings, opening_readings}
-use Rattle.sa_laws.specs.History.{Test, begun, after_records, readings}
+use Rattle.sa_laws.specs.History.{Test, event_begun, after_records, readings}
 use Rattle.sa_laws.specs.Opening.{opening_event}
 use Rattle.sa_laws.specs.Closing.{first_space}
 use Rattle.sa_kernel_laws.specs.Turn.{MayTurn, SaysRightly}
@@ -32,7 +32,7 @@ abbrev pub read_from : Test → WorkloadView → List Event → Readings
 read_from test w events = readings test w (opening_event w ∷ events)
 
 abbrev pub read_within : WorkloadView → ℕ → ProcNo → Readings → List Record → Readings
-read_within w e p r says = after_records w e p (begun w (event_at e p) r) says
+read_within w e p r says = after_records w e p (event_begun w (event_at e p) r) says
 
 module _ {C : Type 0} where
   -- The trace is that of the opening and these events, at each of which the kernel's laws hold; and the kernel is what it

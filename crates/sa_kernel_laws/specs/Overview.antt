@@ -26,7 +26,7 @@ pub record Overview : Type 0 where
   pub demands : List ℕ
   pub untold : List (List Note)
   -- how many I/Os were begun, and those under way
-  pub begun : ℕ
+  pub io_count : ℕ
   pub under_way : List Io
   -- of each space: its resident pages
   pub pages : List ℕ
@@ -43,7 +43,7 @@ overview r = record {
   taken = r.taken;
   demands = r.demands;
   untold = r.untold;
-  begun = r.begun;
+  io_count = r.io_count;
   under_way = r.under_way;
   pages = r.pages;
 }
@@ -74,7 +74,7 @@ module _ {C : Type 0} where
     taken = taken_behind (spaces_in k) k.telling (take (length k.fixed.priorities) k.taken);
     demands = k.demands;
     untold = k.untold;
-    begun = k.begun;
+    io_count = k.io_count;
     under_way = k.under_way;
     pages = k.pages;
   }

@@ -23,7 +23,7 @@ use Rattle.sa_laws.specs.Turns.{IsInterrupt, IsBlock, IsOver}
 use Rattle.sa_laws.specs.Life.{Life}
 use Rattle.sa_laws.specs.Readings.{Readings, running_of, life_of as life_at}
 use Rattle.sa_laws.specs.Record.{blocking}
-use Rattle.sa_laws.specs.History.{begun, after_records}
+use Rattle.sa_laws.specs.History.{event_begun, after_records}
 
 pub record Turn (C : Type 0) : Type 0 where
   pub number : ℕ
@@ -124,7 +124,7 @@ module _ {C : Type 0} where
 
   -- what is read before the entry
   abbrev pub read_before_entry : WorkloadView → Turn C → KernelState C → Readings → Readings
-  read_before_entry w t k r = after_records w t.number t.proc (begun w (event_of t k) r) t.says
+  read_before_entry w t k r = after_records w t.number t.proc (event_begun w (event_of t k) r) t.says
 
   -- the turn can be taken: its entry meets its conditions, all notices of the last upcall were fetched, and what is read
   -- from the entry is so

@@ -60,7 +60,7 @@ module _ {C : Type 0} where
 
   abbrev pub block_begun : ℕ → ProcNo → SpaceNo → ActNo → Stopped C → ℕ → Option ℕ → Scene C → Scene C
   block_begun e p s a held length page x =
-      let io : IoNo = record { 0 = x.state.begun } in
+      let io : IoNo = record { 0 = x.state.io_count } in
       says e p (BlockRecord s held.thread a io)
       (record x { state = put_aside p s a (Blocked a) held (with_io (io_for s a page) (e + length) x.state) })
 

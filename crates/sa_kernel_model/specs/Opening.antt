@@ -33,7 +33,7 @@ opening_state w = record {
   demands = replicate (length w.spaces) 1;
   untold = replicate (length w.spaces) [];
   telling = [];
-  begun = 0;
+  io_count = 0;
   under_way = [];
   pages = map opening_pages w.spaces;
 }

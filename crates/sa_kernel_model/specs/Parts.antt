@@ -45,8 +45,8 @@ module _ {C : Type 0} where
   -- an I/O has begun, which ends at this event
   abbrev pub with_io : IoKind → ℕ → KernelState C → KernelState C
   with_io kind ends k = record k {
-    begun = k.begun + 1;
-    under_way = k.under_way ++ record { number = k.begun; ends = ends; kind = kind } ∷ [];
+    io_count = k.io_count + 1;
+    under_way = k.under_way ++ record { number = k.io_count; ends = ends; kind = kind } ∷ [];
   }
 
   -- the context that runs on a processor is no longer there: it is held, and its space is to be told

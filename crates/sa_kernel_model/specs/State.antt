@@ -40,7 +40,7 @@ pub record KernelState (C : Type 0) : Type 0 where
   -- what the last upcall told and its context has not fetched yet, in order
   pub telling : List Note
   -- how many I/Os were begun, and those under way in the order of their numbers
-  pub begun : ℕ
+  pub io_count : ℕ
   pub under_way : List Io
   -- of each space: bit k says that page k is resident
   pub pages : List ℕ

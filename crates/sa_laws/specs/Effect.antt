@@ -5,7 +5,7 @@ use Rattle.sa_base.specs.declared.limits.TheConstants.{MAX_THREADS}
 use Rattle.sa_instr.specs.declared.instr.Reg.{Reg}
 use Rattle.sa_instr.specs.declared.instr.Instr.{Instr}
 use Rattle.sa_instr.specs.declared.instr.Instr.TheVariants.{Load, Store, Out, Fork, Join, Lock, Unlock, Wait, Signal, Io, Touch, End}
-use Rattle.sa_instr.specs.Local.{place_after, regs_after}
+use Rattle.sa_instr.specs.Local.{pc_after, regs_after}
 use Rattle.sa_instr.specs.Regs.{reg_value, with_reg}
 use Rattle.sa_sync.specs.declared.answer.SyncAnswer.{SyncAnswer}
 use Rattle.sa_sync.specs.declared.answer.SyncAnswer.TheVariants as answer
@@ -35,7 +35,7 @@ with_sync x sync = record x { sync = sync }
 -- the local instructions
 abbrev pub local_effect : SpaceState → ThreadNo → Thread → Instr → Effect
 local_effect x t thread instr = effect (with_thread x t (record thread {
-  pc = place_after instr thread.pc thread.regs;
+  pc = pc_after instr thread.pc thread.regs;
   regs = regs_after instr thread.regs;
 })) []
 

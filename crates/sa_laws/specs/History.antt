@@ -15,8 +15,8 @@ use Rattle.sa_laws.specs.Readings.{Readings, opening_readings, demand_of, usable
 use Rattle.sa_laws.specs.Record.{after_record, with_life}
 
 -- at the beginning of an event its evictions are done and its processor's line is low
-abbrev pub begun : WorkloadView → Event → Readings → Readings
-begun w e r = record r {
+abbrev pub event_begun : WorkloadView → Event → Readings → Readings
+event_begun w e r = record r {
   lines = slice_set r.lines e.proc.0 None;
   pages = evicted e.number w.evictions r.pages;
   last = None;
@@ -29,7 +29,7 @@ after_records w e p r (x ∷ xs) = after_records w e p (after_record w e p r x) 
 
 -- the moment before a record of an event, which comes after these
 abbrev pub behind : WorkloadView → Event → Readings → List Record → Readings
-behind w e r records = after_records w e.number e.proc (begun w e r) records
+behind w e r records = after_records w e.number e.proc (event_begun w e r) records
 
 -- the moment after all records of an event
 abbrev pub behind_all : WorkloadView → Event → Readings → Readings
@@ -63,13 +63,13 @@ is_free _ = false
 
 -- a step settles its life, but for these four: an instruction after which the life's thread runs or is blocked, an idle
 -- record, a lowering hint, and the life's block
-abbrev pub goes_on : Place → Bool
-goes_on (Running p) = true
-goes_on Blocked = true
-goes_on _ = false
+abbrev pub is_running_or_blocked : Place → Bool
+is_running_or_blocked (Running p) = true
+is_running_or_blocked Blocked = true
+is_running_or_blocked _ = false
 
 abbrev pub settles : Readings → Readings → Record → Bool
-settles before after (Ins s t i) = not (goes_on (thread_at after.state s t).place)
+settles before after (Ins s t i) = not (is_running_or_blocked (thread_at after.state s t).place)
 settles before after Idle = false
 settles before after (Want s n) = not (nat_lt n (demand_of before s))
 settles before after (Block s t a io) = false

@@ -14,7 +14,7 @@ use Rattle.sa_laws.specs.Event.{Event}
 use Rattle.sa_laws.specs.State.{space_at}
 use Rattle.sa_laws.specs.Life.{Life, Lock, first_lock}
 use Rattle.sa_laws.specs.Readings.{Readings, Listed, IsLocked, IsOpen, life_of, life_on, is_resident, carried_by, counts, has_hand, ready_of, is_in}
-use Rattle.sa_laws.specs.History.{begun, is_step}
+use Rattle.sa_laws.specs.History.{event_begun, is_step}
 use Rattle.sa_laws.specs.Shape.{own_part}
 use Rattle.sa_laws.specs.Turns.{is_of_locks}
 
@@ -135,7 +135,7 @@ KeepsLocksIn w r p (first ∷ others) =
     KeepsLocksIf (is_step first) w r p (life_on r p) first × StandsAlone (list_any is_of_locks (first ∷ others)) others
 
 pub record LocksAreKept (w : WorkloadView) (r : Readings) (e : Event) : Type 0 where
-  pub step : 1 ≤ e.number → KeepsLocksIn w (begun w e r) e.proc (own_part e.records)
+  pub step : 1 ≤ e.number → KeepsLocksIn w (event_begun w e r) e.proc (own_part e.records)
 
 -- List order: a run takes a ready thread of the list that its life locks first: the newest where the list was taken on
 -- its own processor, else the oldest.

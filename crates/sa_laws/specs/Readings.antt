@@ -42,7 +42,7 @@ pub record Readings : Type 0 where
   -- of each space: what it was not told yet, in order
   pub untold : List (List Note)
   -- how many I/Os and fetches were begun, and those under way in the order of their numbers
-  pub begun : ℕ
+  pub io_count : ℕ
   pub under_way : List Io
   -- of each space: bit k says that page k is resident
   pub pages : List ℕ
@@ -70,7 +70,7 @@ opening_readings w = record {
   taken = replicate (length w.spaces) [];
   demands = replicate (length w.spaces) 0;
   untold = replicate (length w.spaces) [];
-  begun = 0;
+  io_count = 0;
   under_way = [];
   pages = map opening_pages w.spaces;
   ready = replicate (length w.spaces) (first_listed ∷ []);

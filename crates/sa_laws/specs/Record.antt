@@ -152,13 +152,13 @@ blocking w r s t a = blocking_for w r s t a (length_behind w r s t r.last)
 
 -- An I/O is numbered from 0 in the order of the block and fetch records, and is under way until the unblock of its
 -- life, or until the next `fetched` of its space. Its end is its event plus its length.
-abbrev pub begun_after : ℕ → Record → ℕ
-begun_after begun (Block s t a io) = begun + 1
-begun_after begun (Fetch s) = begun + 1
-begun_after begun _ = begun
+abbrev pub io_count_after : ℕ → Record → ℕ
+io_count_after io_count (Block s t a io) = io_count + 1
+io_count_after io_count (Fetch s) = io_count + 1
+io_count_after io_count _ = io_count
 
 abbrev pub with_io : ℕ → Blocking → Readings → List Io
-with_io e b r = r.under_way ++ record { number = r.begun; ends = e + b.length; kind = b.kind } ∷ []
+with_io e b r = r.under_way ++ record { number = r.io_count; ends = e + b.length; kind = b.kind } ∷ []
 
 abbrev pub is_kind_of : ActNo → IoKind → Bool
 is_kind_of a (Plain s b) = b.0 == a.0
@@ -284,7 +284,7 @@ after_record w e p r x = record {
   taken = taken_after r x;
   demands = demands_after r.demands x;
   untold = untold_after r x;
-  begun = begun_after r.begun x;
+  io_count = io_count_after r.io_count x;
   under_way = under_way_after w e r x;
   pages = pages_after r x;
   ready = ready_after p r x;

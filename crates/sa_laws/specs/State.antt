@@ -84,7 +84,7 @@ placed_if a s (Some t) place = placed a s t place
 
 -- the instruction at a place of a thread's program, and the one at which it stands
 abbrev pub instr_of : WorkloadView → State → SpaceNo → ThreadNo → ℕ → Instr
-instr_of w a s t place = instr_at (slice_index_or (space_def w s).programs (thread_at a s t).program []) place
+instr_of w a s t pc = instr_at (slice_index_or (space_def w s).programs (thread_at a s t).program []) pc
 
 abbrev pub next_instr : WorkloadView → State → SpaceNo → ThreadNo → Instr
 next_instr w a s t = instr_of w a s t (thread_at a s t).pc

@@ -20,7 +20,7 @@ use Rattle.sa_laws.specs.Machine.{changed}
 use Rattle.sa_laws.specs.Life.{Life}
 use Rattle.sa_laws.specs.Readings.{Readings, is_resident, life_of}
 use Rattle.sa_laws.specs.Record.{after_record, length_behind, locks_one, is_io_of}
-use Rattle.sa_laws.specs.History.{begun}
+use Rattle.sa_laws.specs.History.{event_begun}
 
 -- the thread t? is the one that runs on p, or none is named and none runs there
 abbrev pub IsRunner : State → ProcNo → SpaceNo → Option ThreadNo → Type 0
@@ -59,7 +59,7 @@ IsBehindOut w a s t value _ = ⊥
 pub record CanIns (w : WorkloadView) (p : ProcNo) (r : Readings) (s : SpaceNo) (t : ThreadNo) (i : ℕ) : Type 0 where
   pub owned : owner_at r.state p ≡ Some s
   pub runs : (thread_at r.state s t).place ≡ place.Running p
-  pub place : (thread_at r.state s t).pc ≡ i
+  pub pc : (thread_at r.state s t).pc ≡ i
   pub within : i < program_len w r.state s t
   pub page : IsTouched r s (instr_of w r.state s t i)
 
@@ -122,4 +122,4 @@ AreSteps w e p r [] = Unit {0}
 AreSteps w e p r (x ∷ xs) = Needs w p r x × AreSteps w e p (after_record w e p r x) xs
 
 pub record IsStepwise (w : WorkloadView) (r : Readings) (e : Event) : Type 0 where
-  pub steps : AreSteps w e.number e.proc (begun w e r) e.records
+  pub steps : AreSteps w e.number e.proc (event_begun w e r) e.records

@@ -19,7 +19,7 @@ use Rattle.sa_laws.specs.Event.{Event}
 use Rattle.sa_laws.specs.State.{space_def, instr_of}
 use Rattle.sa_laws.specs.Life.{Life, Lock, first_lock}
 use Rattle.sa_laws.specs.Readings.{Readings, HasNothing, HasList, NoneIsOpen, owner_of, line_of, life_of, life_on, demand_of, load_of, usable, taken_of, running_of, is_resident, carried_by, has_hand}
-use Rattle.sa_laws.specs.History.{begun}
+use Rattle.sa_laws.specs.History.{event_begun}
 use Rattle.sa_laws.specs.Shape.{own_part, closing_part}
 
 -- the closing's wants come before its aims and lines, and nothing else is in it
@@ -126,7 +126,7 @@ CanHint false w r life n = CanRaise w r life n
 
 pub record CanIdle (w : WorkloadView) (r : Readings) (life : Life) : Type 0 where
   pub finds : FindsNone r life
-  pub goes_on : (life.scans < (space_def w life.space).patience) ⊎ (demand_of r life.space ≤ load_of r life.space)
+  pub no_hint_is_due : (life.scans < (space_def w life.space).patience) ⊎ (demand_of r life.space ≤ load_of r life.space)
 
 -- all that was taken is given back, in the order of taking
 pub record CanGiveBack (r : Readings) (life : Life) (records : List Record) : Type 0 where
@@ -193,7 +193,7 @@ IsTurn Step false e w r p records = IsTurnWhileDue Step (due_of e r.under_way) w
 -- the completion of the I/O that is due; a tick, where nobody owns the processor; a step of its running life. After it
 -- come the closing's records, and no others.
 pub record TurnsAreTaken (Step : Steps) (w : WorkloadView) (r : Readings) (e : Event) : Type 0 where
-  pub turn : 1 ≤ e.number → IsTurn Step (is_some (line_of r e.proc)) e.number w (begun w e r) e.proc (own_part e.records)
+  pub turn : 1 ≤ e.number → IsTurn Step (is_some (line_of r e.proc)) e.number w (event_begun w e r) e.proc (own_part e.records)
   pub closing : 1 ≤ e.number → IsClosing (closing_part e.records)
 
 -- An event is strict where a completion comes first: a local instruction comes only where no I/O is due.

@@ -16,7 +16,7 @@ use Rattle.sa_laws.specs.Event.{Event}
 use Rattle.sa_laws.specs.Life.{Life}
 use Rattle.sa_laws.specs.Readings.{Readings, owner_of, aim_of, line_of, running_of, life_of, space_of_life, untold_of, taken_of, is_resident, is_fetching}
 use Rattle.sa_laws.specs.Record.{after_record}
-use Rattle.sa_laws.specs.History.{Test, begun, behind, after_event}
+use Rattle.sa_laws.specs.History.{Test, event_begun, behind, after_event}
 use Rattle.sa_laws.specs.Closing.{wants_due, aims_due, shares_at, lines_due, must_want}
 use Rattle.sa_laws.specs.Shape.{others_of, wants_in, lines_in, aims_in, before_aims, before_wants, front_part, last_lines, told_run, leave_run, BeginsWithUp}
 
@@ -29,7 +29,7 @@ EachRecord L w e p r [] = Unit {0}
 EachRecord L w e p r (x ∷ xs) = L r x xs × EachRecord L w e p (after_record w e p r x) xs
 
 abbrev pub EachOf : RecordLaw → WorkloadView → Readings → Event → Type 0
-EachOf L w r e = EachRecord L w e.number e.proc (begun w e r) e.records
+EachOf L w r e = EachRecord L w e.number e.proc (event_begun w e r) e.records
 
 -- Tells at most once: each told record but `told add` tells what was untold to the space of the up before it; what is
 -- told is untold no longer.
@@ -123,8 +123,8 @@ GoesOn true p r s rest = BeginsWithUp s rest
 GoesOn false p r s rest = Leaves p r (Some s) s rest
 
 pub record GivesUpcall (p : ProcNo) (r : Readings) (s : SpaceNo) (io : IoNo) (rest : List Record) : Type 0 where
-  pub number : io.0 ≡ r.begun
-  pub goes_on : GoesOn (is_resident r s UPCALL_PAGE) p r s rest
+  pub number : io.0 ≡ r.io_count
+  pub follows : GoesOn (is_resident r s UPCALL_PAGE) p r s rest
 
 abbrev pub GivesUpcallThen : ProcNo → RecordLaw
 GivesUpcallThen p r (Block s t a io) rest = GivesUpcall p r s io rest
@@ -159,7 +159,7 @@ StopsAndGoes p r (Some o) aim _ = ⊥
 
 pub record InterruptIsNext (w : WorkloadView) (r : Readings) (e : Event) : Type 0 where
   pub interrupt : is_some (line_of r e.proc) ≡ true
-      → StopsAndGoes e.proc (begun w e r) (owner_of r e.proc) (aim_of r e.proc) e.records
+      → StopsAndGoes e.proc (event_begun w e r) (owner_of r e.proc) (aim_of r e.proc) e.records
   pub calm : BeginsAsInterrupt e.records → is_some (line_of r e.proc) ≡ true
 
 -- A line has its cause: no line is raised that is raised already. Directly after each aim at a space of a processor

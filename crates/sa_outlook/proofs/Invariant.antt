@@ -11,7 +11,7 @@ use Rattle.sa_core_model.specs.Standing.{IsBetween}
 use Rattle.sa_outlook.proofs.ios.DueOrder.{AreNumbered}
 
 abbrev pub IsNumbered : {C : Type 0} → KernelState C → Type 0
-IsNumbered k = AreNumbered 0 k.begun k.under_way
+IsNumbered k = AreNumbered 0 k.io_count k.under_way
 
 -- what the kernel is given of a workload
 abbrev pub fixed_of : WorkloadView → Fixed

@@ -7,21 +7,21 @@ use Rattle.sa_base.specs.declared.record.Item.{Item}
 use Rattle.sa_base.specs.declared.record.Record.TheVariants.{Ins}
 use Rattle.sa_base.specs.Items.{items_from}
 use Rattle.sa_instr.specs.declared.instr.Instr.{Instr}
-use Rattle.sa_instr.specs.Local.{instr_at, place_after, regs_after}
+use Rattle.sa_instr.specs.Local.{instr_at, pc_after, regs_after}
 use Rattle.sa_abstract.specs.Walk.{Spot, after_many, after_one, ins_records}
 use Rattle.sa_fast.specs.declared.threads.Block.{Block}
 use Rattle.sa_fast.specs.Threads.{gone_to}
 use Rattle.sa_package_model.specs.Step.{block_after, says_between, spot_of, at_spot}
 
 -- the spot after one instruction
-spot_is : (program : List Instr) (b : Block) (pc : ℕ) (regs : List ℕ) → pc ≡ place_after (instr_at program b.pc) b.pc b.regs
+spot_is : (program : List Instr) (b : Block) (pc : ℕ) (regs : List ℕ) → pc ≡ pc_after (instr_at program b.pc) b.pc b.regs
     → regs ≡ regs_after (instr_at program b.pc) b.regs → spot_of (gone_to b pc regs) ≡ after_one program (spot_of b)
 spot_is program b pc regs at with =
     let of : ℕ → List ℕ → Spot = λ p r. record { pc = p; regs = r } in
-    ap (λ p. of p regs) at ∙ ap (of (place_after (instr_at program b.pc) b.pc b.regs)) with
+    ap (λ p. of p regs) at ∙ ap (of (pc_after (instr_at program b.pc) b.pc b.regs)) with
 
 module _ (program : List Instr) (b : Block) (pc : ℕ) (regs : List ℕ) (n done : ℕ) (more : done < n)
-    (at : pc ≡ place_after (instr_at program b.pc) b.pc b.regs) (with : regs ≡ regs_after (instr_at program b.pc) b.regs) where
+    (at : pc ≡ pc_after (instr_at program b.pc) b.pc b.regs) (with : regs ≡ regs_after (instr_at program b.pc) b.regs) where
   left : n - done ≡ suc (n - (done + 1))
   left = omega arith
 

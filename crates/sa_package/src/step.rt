@@ -9,7 +9,7 @@ ghost use Rattle.sa_fast.specs.Work.{IsWork};
 ghost use Rattle.sa_fast.specs.Instruction.{CanRun};
 ghost use Rattle.sa_package_model.specs.Conditions.{CanBeDue, CanCode, CanStep, CanWork, IsThread};
 ghost use Rattle.sa_package_model.specs.Context.{carried_by};
-ghost use Rattle.sa_package_model.specs.Rules.{own_list, Steps, moved_by, goes_on, coded, continued, pushing, used, is_idle, popping, looked, with_shared};
+ghost use Rattle.sa_package_model.specs.Rules.{own_list, Steps, moved_by, context_after, coded, continued, pushing, used, is_idle, popping, looked, with_shared};
 ghost use Rattle.sa_package_model.specs.Step.{resettled, stepped, stepped_at, worked};
 
 use crate::package::FastThreads;
@@ -286,7 +286,7 @@ impl FastThreads {
 
     // The context goes on in the code, or settles at the end of a routine.
     fn go_on(&self, seen: &Seen, ctx: &mut Context, next: Frame)
-        ensures { ctx.new ≡ goes_on self.now seen.now ctx.old next
+        ensures { ctx.new ≡ context_after self.now seen.now ctx.old next
             (slice_get self.now.shared.state.code next.pc) }
     {
         match self.package.shared.state.code.at(next.pc) {

@@ -101,7 +101,7 @@ blocks fetch pages x w t b End some few range = tt
 in_range : (def : SpaceView) (b : Block) → IsSpace def → IsAt def b → IsInRange (instr_of def b)
 in_range def b h at =
     let program : IsProgram (program_at def.programs b.program) = All-get_or IsProgram def.programs b.program [] at.program h.programs in
-    All-get_or IsInRange (program_at def.programs b.program) b.pc End at.place program.ranges
+    All-get_or IsInRange (program_at def.programs b.program) b.pc End at.pc program.ranges
 
 -- each rule's answer
 module _ (s : Setting) (u : Package) (seen : Seen) (made : IsMadeFor s u) where

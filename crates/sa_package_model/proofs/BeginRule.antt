@@ -215,7 +215,7 @@ starts-with ranks s h =
         works = opened_works MAX_THREADS refl;
         counts = λ k. omega (arith, opening_counts s.def k h.def.starts);
         at = λ t made. holds-set (IsAt s.def) (replicate MAX_THREADS unmade) 0 t (at_start 0 Ready) unmade (omega (arith, length-replicate MAX_THREADS unmade))
-            (λ same. record { program = h.def.some_program; place = main.not_empty }) (λ other. absurd (omega (arith, made, other)));
+            (λ same. record { program = h.def.some_program; pc = main.not_empty }) (λ other. absurd (omega (arith, made, other)));
       };
       locks = all_at_rest (free_locks (opened ranks s.processors)) (λ l. ap (λ b. cond b 0 1) (opened_free ranks s.processors l h.some_processor));
       threads = all_at_rest (threads_at_rest (started_with ranks s).shared)

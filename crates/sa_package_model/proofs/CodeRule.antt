@@ -32,7 +32,7 @@ use Rattle.sa_package_model.specs.declared.context.ContextState.TheVariants.{Cod
 use Rattle.sa_package_model.specs.declared.package.Package.{Package}
 use Rattle.sa_package_model.specs.Context.{carried_by, section_in, is_left, has_bulk, settled_to}
 use Rattle.sa_package_model.specs.Conditions.{IsThread, CanBeDue, CanCode}
-use Rattle.sa_package_model.specs.Rules.{thread_alone, at_state, owed, settled, placed, with_shared, with_package, put_last, coded_by, coded, goes_on}
+use Rattle.sa_package_model.specs.Rules.{thread_alone, at_state, owed, settled, placed, with_shared, with_package, put_last, coded_by, coded, context_after}
 use Rattle.sa_package_model.specs.Hands.{carried_of, sections_of, locks_in, locks_of, threads_in, threads_of}
 use Rattle.sa_package_model.specs.Stands.{Fits, AreSections, StandsAt, IsState, IsContext, IsStanding}
 use Rattle.sa_package_model.proofs.Changing.{IsChange, sections_kept, still-change}
@@ -250,7 +250,7 @@ module _ (s : Setting) (e : ℕ) (u : Package) (cs : Contexts Context) (h : IsSt
                 (λ y some. list_of-with_list_other u.shared.state.lists (list_in f).0 y
                 (inserted u.shared.state.lists.ranks t.0 (list_of u.shared.state.lists (list_in f).0)) (apart_rest k copy y some)) (rest k copy));
           } in
-          subst (λ o. IsChange s e u (with_shared u x) (Some c) (goes_on (with_shared u x) seen c g o)) (sym now) done
+          subst (λ o. IsChange s e u (with_shared u x) (Some c) (context_after (with_shared u x) seen c g o)) (sym now) done
 
       -- the effect of a pop
       pops_so : (t : ℕ) → slice_get package_ops f.pc ≡ Some Pop → chosen u.shared.state.lists (takes_first u.shared.state.lists f.own) (list_in f).0 ≡ Some t
@@ -311,7 +311,7 @@ module _ (s : Setting) (e : ℕ) (u : Package) (cs : Contexts Context) (h : IsSt
                 (sections_kept u.shared.state.lists m.state.lists c.sections
                 (λ y some. list_of-with_list_other u.shared.state.lists (list_in f).0 y left (apart_rest k copy y some)) (rest k copy));
           } in
-          subst (λ o. IsChange s e u (with_shared u x) (Some c) (goes_on (with_shared u x) seen c g o)) (sym now) done
+          subst (λ o. IsChange s e u (with_shared u x) (Some c) (context_after (with_shared u x) seen c g o)) (sym now) done
 
       -- the free
       frees_so : slice_get package_ops f.pc ≡ Some Free → Keeps (Some Free) (freed u.shared.state f (list_in f))
@@ -347,11 +347,11 @@ module _ (s : Setting) (e : ℕ) (u : Package) (cs : Contexts Context) (h : IsSt
           let code_at : slice_get m.state.code g.pc ≡ slice_get package_ops g.pc = ap (λ ops. slice_get ops g.pc) h.code in
           elim (next-free f.pc op) [
             | inl leaves ↦
-                subst (λ o. IsChange s e u v (Some c) (goes_on v seen c g o)) (sym (code_at ∙ leaves))
+                subst (λ o. IsChange s e u v (Some c) (context_after v seen c g o)) (sym (code_at ∙ leaves))
                 (done (settled_to f.thread (is_left c) (is_some (owed v seen)) (has_bulk seen))
                 (settled_between f.thread (is_left c) (is_some (owed v seen)) (has_bulk seen)))
             | inr yields ↦
-                subst (λ o. IsChange s e u v (Some c) (goes_on v seen c g o)) (sym (code_at ∙ yields))
+                subst (λ o. IsChange s e u v (Some c) (context_after v seen c g o)) (sym (code_at ∙ yields))
                 (done (Code g) (let b = yields_between g yields own.1 in record { section = b.section; carries = b.carries; is = b.is }))
           ]
 

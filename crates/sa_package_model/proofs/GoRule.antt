@@ -55,7 +55,7 @@ module _ (s : Setting) (e : ℕ) (u : Package) (cs : Contexts Context) (h : IsSt
   seat_by Return at = (tt, refl)
   seat_by (User t) at =
       let there : IsAt s.def (block_at u.shared.threads t.0) = subst (λ d. IsAt d (block_at u.shared.threads t.0)) h.made.def (user_at t at) in
-      ((h.made.space, there.program, there.place), refl)
+      ((h.made.space, there.program, there.pc), refl)
   seat_by (Look looks) at = (tt, refl)
 
   pub seats : IsSeat s (local_at u c.state) × (is_away (local_at u c.state) ≡ (stands_inside c.state || is_none (carried_by c.state)))
@@ -119,7 +119,7 @@ module _ (s : Setting) (e : ℕ) (u : Package) (cs : Contexts Context) (h : IsSt
       record {
         value = change-stands s e u cs h (seen.event + n - 1) a v (Some c) c is
             (gone-change (seen.event + n - 1) t after (omega arith) at
-            (record { program = there.program; place = after_inside program n (spot_of b) is_program there.place }) refl);
+            (record { program = there.program; pc = after_inside program n (spot_of b) is_program there.pc }) refl);
         says = ap (λ d. ins_records u.shared.state.space t (program_at d.programs b.program) n (spot_of b)) h.made.def;
         state =
             ap (local_at v) at ∙ ap (stands_at v t) (get_or-set_same u.shared.threads t.0 after unmade (omega (arith, below, h.parts.blocks)))

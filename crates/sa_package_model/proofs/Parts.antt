@@ -60,7 +60,7 @@ at_placed : (def : SpaceView) (blocks : List Block) (t : ℕ) (n : Option Thread
 at_placed def blocks t None place h = h
 at_placed def blocks t (Some n) place h =
     at_set def blocks t n.0 (moved_to (block_at blocks n.0) place)
-    (λ e. let here : IsAt def (block_at blocks n.0) = subst (λ k. IsAt def (block_at blocks k)) e h in record { program = here.program; place = here.place }) h
+    (λ e. let here : IsAt def (block_at blocks n.0) = subst (λ k. IsAt def (block_at blocks k)) e h in record { program = here.program; pc = here.pc }) h
 
 pub parts_placed : (def : SpaceView) (p e : ℕ) (x : Shared) (t : Option ThreadNo) (place : Place) → ArePartsFor def p e x
     → ArePartsFor def p e (placed x t place)

@@ -19,7 +19,7 @@ use Rattle.sa_package_model.specs.declared.package.Package.{Package}
 use Rattle.sa_package_model.specs.Context.{carried_by, section_in, before_all}
 use Rattle.sa_package_model.specs.Conditions.{CanBeDue, CanTakeOver}
 use Rattle.sa_package_model.specs.Rules.{thread_alone, placed, took_over}
-use Rattle.sa_package_model.specs.Hands.{sections_of, locks_in, locks_of, threads_in, threads_of, name_of}
+use Rattle.sa_package_model.specs.Hands.{sections_of, locks_in, locks_of, threads_in, name_of}
 use Rattle.sa_package_model.specs.Stands.{AreSections, IsStanding}
 use Rattle.sa_package_model.proofs.Changing.{IsJoin, names_own}
 use Rattle.sa_package_model.proofs.Holding.{lock_once, own_inside, own_due, own_work, few_sections}
@@ -76,14 +76,6 @@ joined_work works (Some n) (Some m) mine theirs apart step =
 module _ (s : Setting) (e : ℕ) (u : Package) (cs : Contexts Context) (h : IsStanding s e u cs) (a b : ℕ) (c d : Context) (is : cs a ≡ Some c)
     (was : cs b ≡ Some d) (ne : b ≢ a) where
   -- what one has, the other has not
-  thread_other : (t : ℕ) → 1 ≤ threads_of u.shared.works (Some d) t → threads_of u.shared.works (Some c) t ≡ 0
-  thread_other t some = elim (cases_lt (threads_of u.shared.works (Some c) t) 1) [
-    | inl less ↦ omega arith
-    | inr more ↦
-        absurd (ne (h.threads.apart b a t (subst (λ x. 1 ≤ threads_of u.shared.works x t) (sym was) some)
-        (subst (λ x. 1 ≤ threads_of u.shared.works x t) (sym is) more)))
-  ]
-
   lock_other : (l : ℕ) → 1 ≤ locks_of (Some d) l → locks_of (Some c) l ≡ 0
   lock_other l some = elim (cases_lt (locks_of (Some c) l) 1) [
     | inl less ↦ omega arith

@@ -112,14 +112,14 @@ moved_by x (Some Push) f g = placed x f.pushed Ready
 moved_by x (Some Pop) f g = placed x g.thread Running
 moved_by x _ f g = x
 
-abbrev pub goes_on : Package → Seen → Context → Frame → Option Op → Context
-goes_on u seen c g (Some Leave) = settled u seen c g.thread
-goes_on u seen c g _ = at_state c (Code g)
+abbrev pub context_after : Package → Seen → Context → Frame → Option Op → Context
+context_after u seen c g (Some Leave) = settled u seen c g.thread
+context_after u seen c g _ = at_state c (Code g)
 
 abbrev pub coded_by : Package → Seen → Context → Frame → Option Op → Micro → MicroDone → Stepped Package Context
 coded_by u seen c f op m micros.Did =
     let v = with_shared u (moved_by (record u.shared { state = m.state }) op f m.frame) in
-    did (pair v (goes_on v seen c m.frame (slice_get m.state.code m.frame.pc))) m.says
+    did (pair v (context_after v seen c m.frame (slice_get m.state.code m.frame.pc))) m.says
 coded_by u seen c f op m micros.Spun = did (pair (with_package u m.state) c) m.says
 coded_by u seen c f op m micros.Faulted = record {
   user = placed_in (with_package u m.state) f.thread Blocked;

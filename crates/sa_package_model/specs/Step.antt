@@ -22,7 +22,7 @@ use Rattle.sa_lists.specs.declared.ranks.Ranks.TheVariants.{One, Many}
 use Rattle.sa_lists.specs.ReadyView.{ReadyView, no_threads, with_lock, with_made, pushed}
 use Rattle.sa_code.specs.declared.state.Frame.{Frame}
 use Rattle.sa_code.specs.Micro.{list_in}
-use Rattle.sa_code.specs.Changes.{begun as package_begun, in_section as is_in_section}
+use Rattle.sa_code.specs.Changes.{opening_package, in_section as is_in_section}
 use Rattle.sa_copies.specs.Copies.{package_ops}
 use Rattle.sa_sync.specs.Sync.{opening}
 use Rattle.sa_fast.specs.declared.threads.Block.{Block}
@@ -53,7 +53,7 @@ started_with ranks s = record {
   processors = s.processors;
   fetch = s.fetch;
   shared = record {
-    state = record (package_begun s.space package_ops (lists_for ranks s.processors) ranks MAX_THREADS) { lists = opened ranks s.processors };
+    state = record (opening_package s.space package_ops (lists_for ranks s.processors) ranks MAX_THREADS) { lists = opened ranks s.processors };
     sync = opening s.def;
     threads = with_block (replicate MAX_THREADS unmade) 0 (at_start 0 Ready);
     works = replicate MAX_THREADS [];

@@ -17,7 +17,7 @@ use Rattle.sa_package_model.specs.declared.context.ContextState.TheVariants.{Cod
 use Rattle.sa_laws.specs.Life.{Life}
 use Rattle.sa_laws.specs.Readings.{Readings, line_of}
 use Rattle.sa_user_laws.specs.Moments.{Sees}
-use Rattle.sa_user_laws.specs.Scene.{IsActing, begun_at}
+use Rattle.sa_user_laws.specs.Scene.{IsActing, event_begun_at}
 use Rattle.sa_user_laws.specs.Steps.{IsLegalStep}
 use Rattle.sa_fast_laws.specs.View.{is_lone}
 use Rattle.sa_fast_laws.proofs.user_steps.StepCases.{give-is, more-is}
@@ -129,7 +129,7 @@ module _ (set : Setting) (e : ℕ) (v : Prio) (w : WorkloadView) (r : Readings) 
 pub prio-steps : (w : WorkloadView) (s : Setting) (e : ℕ) (r : Readings) (v : Prio) (cs : Contexts PrioContext) (p : ProcNo) (a : ActNo) (life : Life)
     (c : PrioContext) (seen : Seen)
     → IsActing prio_calls prio_stands prio_fits w s e r v cs p a life c
-    → Sees s.space (begun_at w seen.event p r) p seen.event seen → line_of r p ≡ None → 1 ≤ seen.event → e < seen.event → seen.event ≤ MAX_EVENTS
+    → Sees s.space (event_begun_at w seen.event p r) p seen.event seen → line_of r p ≡ None → 1 ≤ seen.event → e < seen.event → seen.event ≤ MAX_EVENTS
     → IsLegalStep prio_calls prio_threads prio_fits w s r p seen.event a cs (stepped v seen c)
 prio-steps w s e r v cs p a life c seen i sees low some later within =
     step-legal s e v w r p a life seen cs c.urge c.base.state c.base.sections c.base.work (the-scene w s e r v cs p a life c seen i sees low later within)

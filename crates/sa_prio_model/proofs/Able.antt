@@ -109,5 +109,5 @@ pub went_base : (v : Prio) (seen : Seen) (c : PrioContext) (n : ℕ) → IsGoing
 went_base v seen c n r =
     base.go_can r.setting r.event v.base (bases r.others) r.value.base r.act c.base (ap (option_map unmarked_of) r.mine) n (by c.urge r.goes) where
       by : (urge : Bool) → GoesOn r.setting n (if urge then Away else local_at v.base c.base.state) → GoesOn r.setting n (local_at v.base c.base.state)
-      by true goes_on = absurd goes_on
-      by false goes_on = goes_on
+      by true goes = absurd goes
+      by false goes = goes

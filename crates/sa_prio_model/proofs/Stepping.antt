@@ -29,7 +29,7 @@ use Rattle.sa_package_model.proofs.StepRule.{steps_well}
 use Rattle.sa_prio_model.specs.declared.context.PrioContext.{PrioContext}
 use Rattle.sa_prio_model.specs.declared.pair.Outranked.{Outranked}
 use Rattle.sa_prio_model.specs.Prio.{Prio, with_base, outranked, lowest}
-use Rattle.sa_prio_model.specs.Urge.{is_out, goes_on, came_out}
+use Rattle.sa_prio_model.specs.Urge.{is_out, remains_out, came_out}
 use Rattle.sa_prio_model.specs.Step.{left_on, goes, gives_way, interrupts, urged_by, urged, resettled, again, served, stepped}
 use Rattle.sa_prio_model.specs.Stands.{unmarked_of, bases, IsMarkedWell, IsPrioStanding, prio_stands}
 use Rattle.sa_prio_model.proofs.Contexts.{threads-with, built}
@@ -39,7 +39,7 @@ use Rattle.sa_prio_model.proofs.Calling.{well-marked, well-unmarked, out-no-sect
 
 -- where a context came out, it is out
 came_is_out : (before after : ContextState) → came_out before after ≡ true → is_out after ≡ true
-came_is_out before after e = first (is_out after) (not (goes_on before after)) e where
+came_is_out before after e = first (is_out after) (not (remains_out before after)) e where
   first : (a b : Bool) → (a && b) ≡ true → a ≡ true
   first true b h = refl
   first false b h = absurd cc

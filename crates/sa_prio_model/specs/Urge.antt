@@ -26,10 +26,10 @@ settles v seen c = let d = settled v.base seen c (carried_by c.state) in marked 
 
 -- a context came to an instruction or a look from elsewhere: neither from its instruction to the next one, nor from a look
 -- to a further one
-abbrev pub goes_on : ContextState → ContextState → Bool
-goes_on (User t) (User n) = true
-goes_on (Look m) (Look n) = true
-goes_on before after = false
+abbrev pub remains_out : ContextState → ContextState → Bool
+remains_out (User t) (User n) = true
+remains_out (Look m) (Look n) = true
+remains_out before after = false
 
 abbrev pub came_out : ContextState → ContextState → Bool
-came_out before after = is_out after && not (goes_on before after)
+came_out before after = is_out after && not (remains_out before after)

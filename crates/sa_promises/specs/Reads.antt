@@ -99,7 +99,7 @@ pub record TakenAreRead (w : WorkloadView) (events : List Event) (r : Readings) 
 
 -- the I/Os under way, with their numbers, ends and kinds
 pub record IosAreRead (w : WorkloadView) (events : List Event) (r : Readings) : Type 0 where
-  pub begun : r.begun ≡ ios_begun (items_of events)
+  pub io_count : r.io_count ≡ ios_begun (items_of events)
   pub under_way : r.under_way ≡ ios_of w (items_of events)
 
 -- the resident pages

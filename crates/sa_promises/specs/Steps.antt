@@ -15,7 +15,7 @@ use Rattle.sa_laws.specs.Event.{Event, items_of}
 use Rattle.sa_laws.specs.State.{space_at, thread_at, runner_on}
 use Rattle.sa_laws.specs.Life.{some_lock}
 use Rattle.sa_laws.specs.Readings.{counts}
-use Rattle.sa_laws.specs.History.{goes_on, is_up}
+use Rattle.sa_laws.specs.History.{is_running_or_blocked, is_up}
 use Rattle.sa_promises.specs.Words.{last_want}
 use Rattle.sa_promises.specs.Along.{along}
 use Rattle.sa_promises.specs.Moments.{Home, machine_of, runs_on, home_of}
@@ -60,7 +60,7 @@ with_event past e = past ++ items_at e.number e.proc e.records
 -- An own event settles its life, but for four: an instruction after which its thread runs or is blocked, an idle record, a
 -- lowering hint, and the life's block. (The event of its up settles it too.)
 abbrev pub settles_by : WorkloadView → List Item → List Item → Record → Bool
-settles_by w past now (Ins s t i) = not (goes_on (thread_at (machine_of w now) s t).place)
+settles_by w past now (Ins s t i) = not (is_running_or_blocked (thread_at (machine_of w now) s t).place)
 settles_by w past now Idle = false
 settles_by w past now (Want s n) = not (nat_lt n (last_want past s))
 settles_by w past now (Block s t a io) = false

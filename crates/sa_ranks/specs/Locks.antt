@@ -12,7 +12,7 @@ use Rattle.sa_laws.specs.Event.{Event}
 use Rattle.sa_laws.specs.State.{SpaceState, space_at}
 use Rattle.sa_laws.specs.Life.{Life}
 use Rattle.sa_laws.specs.Readings.{Readings, Listed, IsLocked, life_on, carried_by, has_hand, has_ready, ready_of}
-use Rattle.sa_laws.specs.History.{begun, is_step}
+use Rattle.sa_laws.specs.History.{event_begun, is_step}
 use Rattle.sa_laws.specs.Shape.{own_part}
 use Rattle.sa_laws.specs.Turns.{is_of_locks}
 use Rattle.sa_laws.specs.Demand.{is_bound, DemandIsAnnounced}
@@ -58,7 +58,7 @@ KeepsTheLockIn w r p (first ∷ others) =
     KeepsTheLockIf (is_step first) w r p (life_on r p) first × StandsAlone (list_any is_of_locks (first ∷ others)) others
 
 pub record TheLockIsKept (w : WorkloadView) (r : Readings) (e : Event) : Type 0 where
-  pub step : 1 ≤ e.number → KeepsTheLockIn w (begun w e r) e.proc (own_part e.records)
+  pub step : 1 ≤ e.number → KeepsTheLockIn w (event_begun w e r) e.proc (own_part e.records)
 
 -- List order: a run takes the ready thread of the greatest rank, and of these the newest by ready records.
 abbrev pub greater_of : SpaceState → Listed → Option Listed → Option Listed

@@ -73,8 +73,8 @@ module _ (w : WorkloadView) (p : ProcNo) (r : Readings) where
   ins_needs : (s : SpaceNo) (t : ThreadNo) (i : ℕ) → CanInsWith w p r.state s t i (slice_index r.pages s.0) ↔ CanIns w p r s t i
   ins_needs s t i =
       let same = touched r s (instr_of w r.state s t i) in (
-        λ h. record { owned = h.owned; runs = h.runs; place = h.place; within = h.within; page = along _ _ same h.page },
-        λ h. record { owned = h.owned; runs = h.runs; place = h.place; within = h.within; page = back _ _ same h.page },
+        λ h. record { owned = h.owned; runs = h.runs; pc = h.pc; within = h.within; page = along _ _ same h.page },
+        λ h. record { owned = h.owned; runs = h.runs; pc = h.pc; within = h.within; page = back _ _ same h.page },
       )
 
   -- a block
@@ -216,7 +216,7 @@ module _ (w : WorkloadView) (p : ProcNo) (r : Readings) where
 
 -- a record whose needs are met can be done
 pub can-change : (w : WorkloadView) (p : ProcNo) (r : Readings) (x : Record) → Needs w p r x → CanChange w p r.state x
-can-change w p r (records.Ins s t i) met = record { runs = met.runs; within = subst (λ n. n < program_len w r.state s t) (sym met.place) met.within }
+can-change w p r (records.Ins s t i) met = record { runs = met.runs; within = subst (λ n. n < program_len w r.state s t) (sym met.pc) met.within }
 can-change w p r (records.Out s t value) met = tt
 can-change w p r (records.Run s t) met = met
 can-change w p r (records.Stop s t a) met = met.1

@@ -123,8 +123,8 @@ module _ (w : WorkloadView) (spaces : List SpaceState) (owners : List (Option Sp
   -- as it is known of a run
   module _ (p : ProcNo) (s : SpaceNo) (t : ThreadNo) (def : SpaceView) (new : List SpaceState) (roused : List ThreadNo)
       (runs : place_in spaces s t ≡ places.Running p) (ran : HasRun spaces def s t new roused) where
-    pub goes_on : is_running (place_in new s t) ≡ true → IsReplay w new owners runners
-    goes_on goes =
+    pub still_runs : is_running (place_in new s t) ≡ true → IsReplay w new owners runners
+    still_runs goes =
         subst (λ (xs : List SpaceState). IsReplay w xs owners runners) (sym ran.spaces)
         (go_kept p s t (run_of def (space_in spaces s) t).space runs ran.shape
         (subst (λ (xs : List SpaceState). is_running (place_in xs s t) ≡ true) ran.spaces goes))

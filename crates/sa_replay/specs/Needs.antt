@@ -34,7 +34,7 @@ IsMissedIn pages _ = ⊥
 pub record CanInsWith (w : WorkloadView) (p : ProcNo) (a : State) (s : SpaceNo) (t : ThreadNo) (i pages : ℕ) : Type 0 where
   pub owned : owner_at a p ≡ Some s
   pub runs : (thread_at a s t).place ≡ place.Running p
-  pub place : (thread_at a s t).pc ≡ i
+  pub pc : (thread_at a s t).pc ≡ i
   pub within : i < program_len w a s t
   pub page : IsTouchedIn pages (instr_of w a s t i)
 

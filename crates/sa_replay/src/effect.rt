@@ -1,7 +1,7 @@
 // What one instruction of a thread does to its space.
 ghost use Rattle.std.specs.Prelude.{◌≡◌, ◌≢◌, ◌+◌, ◌^◌, ◌<◌, [], length, slice_set, vec_capacity};
 ghost use Rattle.sa_instr.specs.Instr.{NamesDeclared};
-ghost use Rattle.sa_instr.specs.Local.{place_after, regs_after};
+ghost use Rattle.sa_instr.specs.Local.{pc_after, regs_after};
 ghost use Rattle.sa_sync.specs.Sync.{WaitsNowhere, joiners_at, with_joiners};
 ghost use Rattle.sa_laws.specs.Effect.{effect, effect_of, next, next_with, answered, fork_effect, join_effect, end_effect};
 ghost use Rattle.sa_replay.specs.Running.{instr_in, IsAt};
@@ -84,7 +84,7 @@ fn go(def: &SpaceDef, table: &mut Threads, t: ThreadNo, thread: &ThreadState)
     requires made { t.0 < length table.old }
     requires at { IsAt def.now thread.now }
     ensures { let instr = instr_in def.now thread.now in table.new ≡ slice_set table.old t.0 (record thread.now {
-      pc = place_after instr thread.now.pc thread.now.regs;
+      pc = pc_after instr thread.now.pc thread.now.regs;
       regs = regs_after instr thread.now.regs;
     }) }
 {

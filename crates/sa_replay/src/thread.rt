@@ -1,6 +1,6 @@
 // One thread.
 ghost use Rattle.std.specs.Prelude.{◌≡◌, ◌+◌, ◌<◌, ◌^◌, length};
-ghost use Rattle.sa_instr.specs.Local.{instr_at, place_after, regs_after};
+ghost use Rattle.sa_instr.specs.Local.{instr_at, pc_after, regs_after};
 ghost use Rattle.sa_laws.specs.State.{at_start};
 ghost use Rattle.sa_laws.specs.Effect.{next, next_with};
 
@@ -102,7 +102,7 @@ impl ThreadState {
     pub(crate) fn went(&self, program: &Program) -> ThreadState
         requires { self.now.pc < length program.now }
         ensures { let instr = instr_at program.now self.now.pc in
-            result ≡ record self.now { pc = place_after instr self.now.pc self.now.regs; regs = regs_after instr self.now.regs } }
+            result ≡ record self.now { pc = pc_after instr self.now.pc self.now.regs; regs = regs_after instr self.now.regs } }
     {
         let mut thread = *self;
         local(program, &mut thread.regs, &mut thread.pc);

@@ -13,7 +13,7 @@ use Rattle.sa_trace.proofs.FirstBad.{same_cons, some_after, same_after, take_few
 use Rattle.sa_script.specs.declared.command.DebugCommand.{DebugCommand}
 use Rattle.sa_script.specs.declared.script.TheConstants.{MAX_LINES}
 use Rattle.sa_script.specs.Line.{line_in, cause_after}
-use Rattle.sa_script.specs.Reading.{goes_on, read_from, script_of}
+use Rattle.sa_script.specs.Reading.{after_line, read_from, script_of}
 use Rattle.sa_script.specs.Text.{script_text, Fits, IsTextOf}
 use Rattle.sa_script.specs.TextLaws.{IsFirstBad}
 use Rattle.sa_script.proofs.Commands.{IsSmall, small-workload}
@@ -22,14 +22,14 @@ use Rattle.sa_script.proofs.Whole.{command_line, text_lines, step, line_in-some,
 same_bad : (a b : Bad) → (λ (r : Result (List DebugCommand) Bad). r) (Err a) ≡ Err b → a ≡ b
 same_bad a b h = cc
 
-goes_on-err : (number : ℕ) (r : Result (Option DebugCommand) Cause) (more : DebugCommand → Result (List DebugCommand) Bad)
+after_line-err : (number : ℕ) (r : Result (Option DebugCommand) Cause) (more : DebugCommand → Result (List DebugCommand) Bad)
     (last : Result (List DebugCommand) Bad) (bad : Bad)
-    → goes_on number r more last ≡ Err bad
+    → after_line number r more last ≡ Err bad
     → ((cause : Cause) × (r ≡ Err cause) × (bad_at number cause ≡ bad))
     ⊎ (((c : DebugCommand) × (r ≡ Ok (Some c)) × (more c ≡ Err bad)) ⊎ ((r ≡ Ok None) × (last ≡ Err bad)))
-goes_on-err number (Err cause) more last bad h = inl (cause, refl, same_bad (bad_at number cause) bad h)
-goes_on-err number (Ok (Some c)) more last bad h = inr (inl (c, refl, h))
-goes_on-err number (Ok None) more last bad h = inr (inr (refl, h))
+after_line-err number (Err cause) more last bad h = inl (cause, refl, same_bad (bad_at number cause) bad h)
+after_line-err number (Ok (Some c)) more last bad h = inr (inl (c, refl, h))
+after_line-err number (Ok None) more last bad h = inr (inr (refl, h))
 
 unless-err : (o : Option Bad) (cs : List DebugCommand) (bad : Bad) → unless o cs ≡ Err bad → o ≡ Some bad
 unless-err None cs bad h = absurd cc
@@ -92,7 +92,7 @@ module _ (w : WorkloadView) where
     },
   )
   stops small number before (line ∷ lines) bad few h =
-      elim (goes_on-err number (line_in w number line) (λ c. read_from w (number + 1) (before ++ c ∷ []) lines)
+      elim (after_line-err number (line_in w number line) (λ c. read_from w (number + 1) (before ++ c ∷ []) lines)
       (unless (bad_after cause_after (number + 1) lines) before) bad h) [
         | inl wrong ↦ (
           0,

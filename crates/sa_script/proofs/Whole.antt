@@ -26,7 +26,7 @@ use Rattle.sa_script.specs.declared.command.DebugCommand.TheVariants.{Break, Cle
 use Rattle.sa_script.specs.declared.script.TheConstants.{MAX_LINES}
 use Rattle.sa_script.specs.Fields.{Pieces}
 use Rattle.sa_script.specs.Line.{said_by, line_in, cause_after}
-use Rattle.sa_script.specs.Reading.{goes_on, read_from, script_of}
+use Rattle.sa_script.specs.Reading.{after_line, read_from, script_of}
 use Rattle.sa_script.specs.Text.{words_of, last_words, line_of, script_text, Fits, IsScript}
 use Rattle.sa_script.proofs.Commands.{IsSmall, small-workload, said_by-command, said_by-last, command-said, fine-command, fine-last}
 
@@ -98,7 +98,7 @@ line_in-none w few number line h =
 -- what comes of a line, after some commands and before some lines
 abbrev pub step : WorkloadView → ℕ → List DebugCommand → List LineText → Result (Option DebugCommand) Cause → Result (List DebugCommand) Bad
 step w number before rest said =
-    goes_on number said (λ c. read_from w (number + 1) (before ++ c ∷ []) rest) (unless (bad_after cause_after (number + 1) rest) before)
+    after_line number said (λ c. read_from w (number + 1) (before ++ c ∷ []) rest) (unless (bad_after cause_after (number + 1) rest) before)
 
 last-said : (w : WorkloadView) → said_by w last_words ≡ Ok None
 last-said w = refl
@@ -155,12 +155,12 @@ pub record AreLinesOf (w : WorkloadView) (number : ℕ) (before : List DebugComm
   pub fit : All (Fits w) more
   pub few : number + length more ≤ MAX_LINES
 
-goes_on-ok : {A : Type 0} (number : ℕ) (r : Result (Option DebugCommand) Cause) (more : DebugCommand → Result A Bad) (last : Result A Bad) (a : A)
-    → goes_on number r more last ≡ Ok a
+after_line-ok : {A : Type 0} (number : ℕ) (r : Result (Option DebugCommand) Cause) (more : DebugCommand → Result A Bad) (last : Result A Bad) (a : A)
+    → after_line number r more last ≡ Ok a
     → ((c : DebugCommand) × (r ≡ Ok (Some c)) × (more c ≡ Ok a)) ⊎ ((r ≡ Ok None) × (last ≡ Ok a))
-goes_on-ok number (Err cause) more last a h = absurd cc
-goes_on-ok number (Ok (Some c)) more last a h = inl (c, refl, h)
-goes_on-ok number (Ok None) more last a h = inr (refl, h)
+after_line-ok number (Err cause) more last a h = absurd cc
+after_line-ok number (Ok (Some c)) more last a h = inl (c, refl, h)
+after_line-ok number (Ok None) more last a h = inr (refl, h)
 
 unless-read : (o : Option Bad) (a b : List DebugCommand) → unless o a ≡ Ok b → (o ≡ None) × (a ≡ b)
 unless-read None a b h = (refl, cc)
@@ -170,7 +170,7 @@ pub lines-only : (w : WorkloadView) → IsSmall w → (number : ℕ) (before : L
     → read_from w number before lines ≡ Ok all → AreLinesOf w number before lines all
 lines-only w small number before [] all h = absurd cc
 lines-only w small number before (line ∷ lines) all h =
-    elim (goes_on-ok number (line_in w number line) (λ c. read_from w (number + 1) (before ++ c ∷ []) lines)
+    elim (after_line-ok number (line_in w number line) (λ c. read_from w (number + 1) (before ++ c ∷ []) lines)
     (unless (bad_after cause_after (number + 1) lines) before) all h) [
       | inl next ↦
           let is = line_in-some w small number line next.0 next.1 in

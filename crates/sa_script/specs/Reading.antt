@@ -13,16 +13,16 @@ use Rattle.sa_script.specs.declared.command.DebugCommand.{DebugCommand}
 use Rattle.sa_script.specs.Line.{line_in, cause_after}
 
 -- what comes of what a line says: it is bad, or the commands go on with one more, or it is the last
-abbrev pub goes_on : {A : Type 0} → ℕ → Result (Option DebugCommand) Cause → (DebugCommand → Result A Bad) → Result A Bad → Result A Bad
-goes_on number (Err cause) more last = Err (bad_at number cause)
-goes_on number (Ok (Some command)) more last = more command
-goes_on number (Ok None) more last = last
+abbrev pub after_line : {A : Type 0} → ℕ → Result (Option DebugCommand) Cause → (DebugCommand → Result A Bad) → Result A Bad → Result A Bad
+after_line number (Err cause) more last = Err (bad_at number cause)
+after_line number (Ok (Some command)) more last = more command
+after_line number (Ok None) more last = last
 
 -- what these lines are read as, after these commands, where the first has this number
 abbrev pub read_from : WorkloadView → ℕ → List DebugCommand → List LineText → Result (List DebugCommand) Bad
 read_from w number commands [] = Err (bad_at number Missing)
 read_from w number commands (line ∷ rest) =
-    goes_on number (line_in w number line) (λ command. read_from w (number + 1) (commands ++ command ∷ []) rest)
+    after_line number (line_in w number line) (λ command. read_from w (number + 1) (commands ++ command ∷ []) rest)
     (unless (bad_after cause_after (number + 1) rest) commands)
 
 -- what a text is read as: the commands of a script, or the first line that is bad, from 1, and why

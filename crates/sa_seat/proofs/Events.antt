@@ -17,7 +17,7 @@ use Rattle.sa_kernel_model.specs.declared.entry.Entry.TheVariants.{Interrupt, Bl
 use Rattle.sa_kernel_model.specs.State.{KernelState, owner_of}
 use Rattle.sa_kernel_model.specs.Entries.{fetched}
 use Rattle.sa_kernel_model.specs.Entering.{upcalls}
-use Rattle.sa_core_model.specs.Machine.{Machine, scene_of, user_of, context_on, seen_on, without_context, called_by, begun, begun_by, answered, stopped_in, stepped, stepped_by, gone_by}
+use Rattle.sa_core_model.specs.Machine.{Machine, scene_of, user_of, context_on, seen_on, without_context, called_by, context_begun, context_begun_by, answered, stopped_in, stepped, stepped_by, gone_by}
 use Rattle.sa_core_model.specs.Turn.{next_event, more_events, ticked, ends_slice, sliced, sliced_if, kernel_entered, told_one, told_all, welcomed_in, welcomed_if, entered_on, answered_in, hinted, blocked_by, blocked, asked, turned_owned, turned_due, turned_raised, turned, gone_in, committed}
 use Rattle.sa_seat.proofs.Lines.{Tells, tells-same, tells-more, tells-again, tells-closed, tells-entered, same-fetched}
 
@@ -58,7 +58,7 @@ module _ {U C : Type 0} where
   says-without p m = record { event = refl; tells = tells-same m.event (scene_of m) _ refl refl }
 
 module _ {U C : Type 0} (f : Calls U C) where
-  says-begun_by : (p : ProcNo) (s : SpaceNo) (seen : Seen) (u : Option U) (m : Machine U C) → Says m (begun_by f p s seen u m)
+  says-begun_by : (p : ProcNo) (s : SpaceNo) (seen : Seen) (u : Option U) (m : Machine U C) → Says m (context_begun_by f p s seen u m)
   says-begun_by p s seen None m = says-self m
   says-begun_by p s seen (Some u) m = record { event = refl; tells = tells-same m.event (scene_of m) _ refl refl }
 
@@ -82,7 +82,7 @@ module _ {U C : Type 0} (f : Calls U C) where
   says-welcomed_in : (p : ProcNo) (o : Option SpaceNo) (m : Machine U C) → Says m (welcomed_in f p o m)
   says-welcomed_in p None m = says-self m
   says-welcomed_in p (Some s) m =
-      let one = begun f p s m in
+      let one = context_begun f p s m in
       let two = told_all f p s m.kernel.telling one in
       says-again m two (answered f p s two)
       (says-again m one two (says-begun_by p s (seen_on m p s) (user_of m s) m) (says-told_all p s m.kernel.telling one))

@@ -30,13 +30,13 @@ credited_by (DroppedStart c start) s = s
 module _ {U C : Type 0} (f : Calls U C) (budget : ℕ) where
   -- the burst is dropped: the run goes on, and one is pending
   pub record IsDropped (m : Machine U C) (s : SeatView) (after : Machine U C) : Type 0 where
-    pub goes_on : end_of f budget m ≡ None
+    pub not_ended : end_of f budget m ≡ None
     pub pending : 0 < s.pending
     pub same : after ≡ m
 
   -- the burst is committed, whole or as much of it as the budget and the slice leave
   pub record IsCommitted (m : Machine U C) (s : SeatView) (n : ℕ) (after : Machine U C) : Type 0 where
-    pub goes_on : end_of f budget m ≡ None
+    pub not_ended : end_of f budget m ≡ None
     pub low : line_of m.kernel s.poller.proc ≡ None
     pub start : local_on f m s.poller.proc ≡ s.start
     pub made : n ≡ committable budget m s.pending
@@ -46,7 +46,7 @@ module _ {U C : Type 0} (f : Calls U C) (budget : ℕ) where
 
   -- a turn
   pub record IsTurned (m : Machine U C) (s : SeatView) (n : ℕ) (after : Machine U C) : Type 0 where
-    pub goes_on : end_of f budget m ≡ None
+    pub not_ended : end_of f budget m ≡ None
     pub one : n ≡ 1
     pub turn : IsTurn f m s.poller.proc after
 

@@ -61,7 +61,7 @@ module _ {U C : Type 0} (f : Calls U C) (budget : ℕ) where
       : Type 0 where
     pub before : CoreView U C
     pub locked : IsLocked w table before lines keeper
-    pub goes_on : end_of f budget (machine before) ≡ None
+    pub not_ended : end_of f budget (machine before) ≡ None
     pub move : Move
     pub made : IsMove f (machine before) move (machine core)
     pub within : (machine core).event ≤ budget

@@ -77,7 +77,7 @@ impl<U: UserLevel, K: Named> Held<U, K> {
         requires own { words.now ≡ K.table }
         ensures ok { IfOk result (λ answer. IsEntered U.calls K.budget
             (machine self.old.core) seat.old answer (machine self.new.core) seat.new) }
-        ensures goes_on { OnErr result (end_of U.calls K.budget (machine self.old.core) ≡ None) }
+        ensures not_ended { OnErr result (end_of U.calls K.budget (machine self.old.core) ≡ None) }
         ensures held_stays { OnErr result (machine self.new.core ≡ machine self.old.core) }
         ensures seat_stays { OnErr result (seat.new ≡ seat.old) }
     {
@@ -162,7 +162,7 @@ impl<U: UserLevel, K: Named> Held<U, K> {
         seat: &mut Seat<K>,
     ) -> Result<(), AllocError>
         requires own { words.now ≡ K.table }
-        requires goes_on { end_of U.calls K.budget (machine self.old.core) ≡ None }
+        requires not_ended { end_of U.calls K.budget (machine self.old.core) ≡ None }
         ensures turn { OnOk result
             (IsTurn U.calls (machine self.old.core) seat.old.poller.proc (machine self.new.core)) }
         ensures seat { OnOk result (seat.new ≡ renewed
@@ -194,7 +194,7 @@ impl<U: UserLevel, K: Named> Held<U, K> {
     ) -> Result<u16, AllocError>
         requires own { words.now ≡ K.table }
         requires pending { 0 < seat.old.pending }
-        requires goes_on { end_of U.calls K.budget (machine self.old.core) ≡ None }
+        requires not_ended { end_of U.calls K.budget (machine self.old.core) ≡ None }
         requires low { line_of (machine self.old.core).kernel seat.old.poller.proc ≡ None }
         requires start { local_on U.calls (machine self.old.core) seat.old.poller.proc ≡ seat.old.start }
         ensures made { IfOk result (λ n. IsCommitted U.calls K.budget

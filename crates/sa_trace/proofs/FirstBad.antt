@@ -21,7 +21,7 @@ use Rattle.sa_trace.specs.declared.line.Said.{Said}
 use Rattle.sa_trace.specs.declared.line.Said.TheVariants.{Next, Last}
 use Rattle.sa_trace.specs.Pieces.{unless}
 use Rattle.sa_trace.specs.Line.{last_of, so_far, least_event, line_in}
-use Rattle.sa_trace.specs.Reading.{Told, told, bad_after, cause_after, goes_on, read_from, read_of}
+use Rattle.sa_trace.specs.Reading.{Told, told, bad_after, cause_after, after_line, read_from, read_of}
 use Rattle.sa_trace.specs.Text.{FitsItem, InOrder}
 use Rattle.sa_trace.specs.TextLaws.{IsFirstBad}
 use Rattle.sa_trace.proofs.Lines.{FitsProc}
@@ -33,13 +33,13 @@ same_bad a b h = cc
 pub same_cons : {A : Type 0} (x y : A) (xs ys : List A) → x ∷ xs ≡ y ∷ ys → (x ≡ y) × (xs ≡ ys)
 same_cons x y xs ys h = (cc, cc)
 
-goes_on-err : (number : ℕ) (r : Result Said Cause) (more : Item → Result Told Bad) (last : End → ℕ → Result Told Bad) (bad : Bad)
-    → goes_on number r more last ≡ Err bad
+after_line-err : (number : ℕ) (r : Result Said Cause) (more : Item → Result Told Bad) (last : End → ℕ → Result Told Bad) (bad : Bad)
+    → after_line number r more last ≡ Err bad
     → ((cause : Cause) × (r ≡ Err cause) × (bad_at number cause ≡ bad))
     ⊎ (((item : Item) × (r ≡ Ok (Next item)) × (more item ≡ Err bad)) ⊎ ((end : End) × (events : ℕ) × (r ≡ Ok (Last end events)) × (last end events ≡ Err bad)))
-goes_on-err number (Err cause) more last bad h = inl (cause, refl, same_bad (bad_at number cause) bad h)
-goes_on-err number (Ok (Next item)) more last bad h = inr (inl (item, refl, h))
-goes_on-err number (Ok (Last end events)) more last bad h = inr (inr (end, events, refl, h))
+after_line-err number (Err cause) more last bad h = inl (cause, refl, same_bad (bad_at number cause) bad h)
+after_line-err number (Ok (Next item)) more last bad h = inr (inl (item, refl, h))
+after_line-err number (Ok (Last end events)) more last bad h = inr (inr (end, events, refl, h))
 
 unless-err : (o : Option Bad) (t : Told) (bad : Bad) → unless o t ≡ Err bad → o ≡ Some bad
 unless-err None t bad h = absurd cc
@@ -154,7 +154,7 @@ stops number before [] bad fits few h = (
   },
 )
 stops number before (line ∷ lines) bad fits few h =
-    elim (goes_on-err number (line_in (so_far before) line) (λ item. read_from (number + 1) (before ++ item ∷ []) lines)
+    elim (after_line-err number (line_in (so_far before) line) (λ item. read_from (number + 1) (before ++ item ∷ []) lines)
     (λ end events. unless (bad_after cause_after (number + 1) lines) (told before end events)) bad h) [
       | inl wrong ↦ (
         0,

@@ -23,7 +23,7 @@ use Rattle.sa_trace.specs.Parts.{parts_of}
 use Rattle.sa_trace.specs.TraceText.{kind_number, count_of_kind, counts_of}
 use Rattle.sa_trace.specs.Pieces.{unless}
 use Rattle.sa_trace.specs.Line.{so_far, line_in}
-use Rattle.sa_trace.specs.Reading.{Told, told, bad_after, cause_after, goes_on, read_from, read_of}
+use Rattle.sa_trace.specs.Reading.{Told, told, bad_after, cause_after, after_line, read_from, read_of}
 use Rattle.sa_trace.specs.Reader.{in_front, with_said, counted, and_item, read_on, LeftToRead, left}
 use Rattle.sa_trace.proofs.Counting.{count-more}
 use Rattle.sa_trace.proofs.Whole.{last_of-append}
@@ -112,20 +112,20 @@ in_front-last items None end events = ap (λ is. Ok (told is end events)) (sym (
 in_front-last items (Some bad) end events = refl
 
 -- the same whatever a line says, where it is the same of the lines after it
-goes_on-front : (number : ℕ) (items : List Item) (r : Result Said Cause) (more next : Item → Result Told Bad) (o : Option Bad)
+after_line-front : (number : ℕ) (items : List Item) (r : Result Said Cause) (more next : Item → Result Told Bad) (o : Option Bad)
     → ((item : Item) → more item ≡ in_front (items ++ item ∷ []) (next item))
-    → goes_on number r more (λ end events. unless o (told items end events))
-    ≡ in_front items (goes_on number r (λ item. in_front (item ∷ []) (next item)) (λ end events. unless o (told [] end events)))
-goes_on-front number items (Err cause) more next o same = refl
-goes_on-front number items (Ok (Next item)) more next o same = same item ∙ sym (in_front-append items (item ∷ []) (next item))
-goes_on-front number items (Ok (Last end events)) more next o same = in_front-last items o end events
+    → after_line number r more (λ end events. unless o (told items end events))
+    ≡ in_front items (after_line number r (λ item. in_front (item ∷ []) (next item)) (λ end events. unless o (told [] end events)))
+after_line-front number items (Err cause) more next o same = refl
+after_line-front number items (Ok (Next item)) more next o same = same item ∙ sym (in_front-append items (item ∷ []) (next item))
+after_line-front number items (Ok (Last end events)) more next o same = in_front-last items o end events
 
 pub read_from-front : (number : ℕ) (items : List Item) (lines : List LineText)
     → read_from number items lines ≡ in_front items (read_on number (so_far items) lines)
 unfolding read_on
 read_from-front number items [] = refl
 read_from-front number items (line ∷ rest) =
-    goes_on-front number items (line_in (so_far items) line) (λ item. read_from (number + 1) (items ++ item ∷ []) rest)
+    after_line-front number items (line_in (so_far items) line) (λ item. read_from (number + 1) (items ++ item ∷ []) rest)
     (λ item. read_on (number + 1) (and_item item (so_far items)) rest) (bad_after cause_after (number + 1) rest)
     (λ item. read_from-front (number + 1) (items ++ item ∷ []) rest
     ∙ ap (λ so. in_front (items ++ item ∷ []) (read_on (number + 1) so rest)) (so_far-append items item))
@@ -138,7 +138,7 @@ none-left at none = ap (read_on at.number at.so) none
 -- what comes of what the first of these lines says
 abbrev pub says_on : LeftToRead → List LineText → Result Said Cause → Result Told Bad
 says_on at rest said =
-    goes_on at.number said (λ item. in_front (item ∷ []) (read_on (at.number + 1) (and_item item at.so) rest))
+    after_line at.number said (λ item. in_front (item ∷ []) (read_on (at.number + 1) (and_item item at.so) rest))
     (λ end events. unless (bad_after cause_after (at.number + 1) rest) (told [] end events))
 
 by-line : (at : LeftToRead) (line : LineText) (rest : List LineText) (said : Result Said Cause) → at.lines ≡ line ∷ rest

@@ -18,7 +18,7 @@ use Rattle.sa_trace.specs.declared.line.Said.{Said}
 use Rattle.sa_trace.specs.declared.line.Said.TheVariants.{Next, Last}
 use Rattle.sa_trace.specs.Pieces.{and_then, unless}
 use Rattle.sa_trace.specs.Line.{last_of, so_far, least_event, said_by, pieces_in, line_in}
-use Rattle.sa_trace.specs.Reading.{Told, told, bad_after, cause_after, goes_on, read_from, read_of}
+use Rattle.sa_trace.specs.Reading.{Told, told, bad_after, cause_after, after_line, read_from, read_of}
 use Rattle.sa_trace.specs.Text.{FitsItem, MayFollow, InOrder, IsTextOf}
 use Rattle.sa_trace.proofs.Readings.{and_then-ok}
 use Rattle.sa_trace.proofs.Lines.{item_pieces, last_pieces, FitsProc, said_by-item, said_by-last, said_by-next, said_by-end}
@@ -74,7 +74,7 @@ last_of-append items item =
 -- what comes of a line, after some items and before some lines
 abbrev pub step : ℕ → List Item → List LineText → Result Said Cause → Result Told Bad
 step number items rest said =
-    goes_on number said (λ item. read_from (number + 1) (items ++ item ∷ []) rest)
+    after_line number said (λ item. read_from (number + 1) (items ++ item ∷ []) rest)
     (λ end events. unless (bad_after cause_after (number + 1) rest) (told items end events))
 
 -- what makes the items and the end after some items a text's
@@ -110,12 +110,12 @@ pub record AreLinesOf (before : List Item) (lines : List LineText) (t : Told) : 
   pub are : lines ≡ text_lines more t.items t.end t.events
   pub accepted : AreAccepted before more t.items t.events
 
-goes_on-ok : {A : Type 0} (number : ℕ) (r : Result Said Cause) (more : Item → Result A Bad) (last : End → ℕ → Result A Bad) (a : A)
-    → goes_on number r more last ≡ Ok a
+after_line-ok : {A : Type 0} (number : ℕ) (r : Result Said Cause) (more : Item → Result A Bad) (last : End → ℕ → Result A Bad) (a : A)
+    → after_line number r more last ≡ Ok a
     → ((item : Item) × (r ≡ Ok (Next item)) × (more item ≡ Ok a)) ⊎ ((end : End) × (events : ℕ) × (r ≡ Ok (Last end events)) × (last end events ≡ Ok a))
-goes_on-ok number (Err cause) more last a h = absurd cc
-goes_on-ok number (Ok (Next item)) more last a h = inl (item, refl, h)
-goes_on-ok number (Ok (Last end events)) more last a h = inr (end, events, refl, h)
+after_line-ok number (Err cause) more last a h = absurd cc
+after_line-ok number (Ok (Next item)) more last a h = inl (item, refl, h)
+after_line-ok number (Ok (Last end events)) more last a h = inr (end, events, refl, h)
 
 unless_told : (o : Option Bad) (a t : Told) → unless o a ≡ Ok t → (o ≡ None) × (a ≡ t)
 unless_told None a t h = (refl, cc)
@@ -129,7 +129,7 @@ pub lines-only : (number : ℕ) (before : List Item) (lines : List LineText) (t 
     → AreLinesOf before lines t
 lines-only number before [] t fits h = absurd cc
 lines-only number before (line ∷ lines) t fits h =
-    elim (goes_on-ok number (line_in (so_far before) line) (λ item. read_from (number + 1) (before ++ item ∷ []) lines)
+    elim (after_line-ok number (line_in (so_far before) line) (λ item. read_from (number + 1) (before ++ item ∷ []) lines)
     (λ end events. unless (bad_after cause_after (number + 1) lines) (told before end events)) t h) [
       | inl next ↦
           let is = line_in-next before line next.0 fits next.1 in

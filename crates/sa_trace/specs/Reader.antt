@@ -11,7 +11,7 @@ use Rattle.sa_trace.specs.Pieces.{unless}
 use Rattle.sa_trace.specs.TraceText.{kind_number}
 use Rattle.sa_trace.specs.declared.so_far.SoFar.{SoFar}
 use Rattle.sa_trace.specs.Line.{line_in}
-use Rattle.sa_trace.specs.Reading.{Told, told, bad_after, cause_after, goes_on}
+use Rattle.sa_trace.specs.Reading.{Told, told, bad_after, cause_after, after_line}
 
 -- some items in front of what is told
 abbrev pub in_front : List Item → Result Told Bad → Result Told Bad
@@ -35,7 +35,7 @@ and_item item so = record { last = Some item; counts = counted (kind_number item
 unfoldable pub read_on : ℕ → SoFar → List LineText → Result Told Bad
 read_on number so [] = Err (bad_at number Missing)
 read_on number so (line ∷ rest) =
-    goes_on number (line_in so line) (λ item. in_front (item ∷ []) (read_on (number + 1) (and_item item so) rest))
+    after_line number (line_in so line) (λ item. in_front (item ∷ []) (read_on (number + 1) (and_item item so) rest))
     (λ end events. unless (bad_after cause_after (number + 1) rest) (told [] end events))
 
 -- where a reader is: the number of the next line, what a line may depend on of those before it, and the lines that are still to come

@@ -37,16 +37,16 @@ bad_after cause number [] = None
 bad_after cause number (line ∷ rest) = Some (bad_at number (cause number line))
 
 -- what comes of what a line says: it is bad, or the items go on with one more, or it is the last
-abbrev pub goes_on : {A : Type 0} → ℕ → Result Said Cause → (Item → Result A Bad) → (End → ℕ → Result A Bad) → Result A Bad
-goes_on number (Err cause) more last = Err (bad_at number cause)
-goes_on number (Ok (Next item)) more last = more item
-goes_on number (Ok (Last end events)) more last = last end events
+abbrev pub after_line : {A : Type 0} → ℕ → Result Said Cause → (Item → Result A Bad) → (End → ℕ → Result A Bad) → Result A Bad
+after_line number (Err cause) more last = Err (bad_at number cause)
+after_line number (Ok (Next item)) more last = more item
+after_line number (Ok (Last end events)) more last = last end events
 
 -- what these lines are read as, after these items, where the first has this number
 abbrev pub read_from : ℕ → List Item → List LineText → Result Told Bad
 read_from number items [] = Err (bad_at number Missing)
 read_from number items (line ∷ rest) =
-    goes_on number (line_in (so_far items) line) (λ item. read_from (number + 1) (items ++ item ∷ []) rest)
+    after_line number (line_in (so_far items) line) (λ item. read_from (number + 1) (items ++ item ∷ []) rest)
     (λ end events. unless (bad_after cause_after (number + 1) rest) (told items end events))
 
 -- what a text is read as: what it tells, or the first line that is bad, from 1, and why

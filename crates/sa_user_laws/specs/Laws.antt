@@ -26,7 +26,7 @@ use Rattle.sa_laws.specs.Ends.{are_done, are_at_rest}
 use Rattle.sa_laws.specs.Opening.{opening_event}
 use Rattle.sa_laws.specs.Rules.{UserRules}
 use Rattle.sa_user_laws.specs.Moments.{IsMoment, SameFor, AlikeButDemands, AlikeButEnds, Sees, ThreadsRun}
-use Rattle.sa_user_laws.specs.Scene.{Fits, Hears, IsOfSpace, HoldsIn, Holds, IsOn, RunsAlone, IsActing, begun_at}
+use Rattle.sa_user_laws.specs.Scene.{Fits, Hears, IsOfSpace, HoldsIn, Holds, IsOn, RunsAlone, IsActing, event_begun_at}
 use Rattle.sa_user_laws.specs.Steps.{AreKernels, IsClosed, RulesPass, event_with, IsLegalStep, AreLegalIns}
 
 pub record UserLaws {U C : Type 0} (calls : Calls U C) (stands : Standing U C) (rules : UserRules) (fits : Fits U C) (hears : Hears U C) : Type 0 where
@@ -54,12 +54,12 @@ pub record UserLaws {U C : Type 0} (calls : Calls U C) (stands : Standing U C) (
   -- is low then: a step is made by nobody whose processor is to be interrupted.
   pub steps : (w : WorkloadView) (s : Setting) (e : ℕ) (r : Readings) (u : U) (cs : Contexts C) (p : ProcNo) (a : ActNo) (life : Life) (c : C) (seen : Seen)
       → IsActing calls stands fits w s e r u cs p a life c
-      → Sees s.space (begun_at w seen.event p r) p seen.event seen → line_of r p ≡ None → 1 ≤ seen.event → e < seen.event → seen.event ≤ MAX_EVENTS
+      → Sees s.space (event_begun_at w seen.event p r) p seen.event seen → line_of r p ≡ None → 1 ≤ seen.event → e < seen.event → seen.event ≤ MAX_EVENTS
       → IsLegalStep calls rules fits w s r p seen.event a cs (calls.stepped u seen c)
   pub goes : (w : WorkloadView) (s : Setting) (e : ℕ) (r : Readings) (u : U) (cs : Contexts C) (p : ProcNo) (a : ActNo) (life : Life) (c : C) (seen : Seen)
       (n : ℕ)
       → IsActing calls stands fits w s e r u cs p a life c
-      → Sees s.space (begun_at w seen.event p r) p seen.event seen → line_of r p ≡ None → 1 ≤ n → e < seen.event → seen.event + n ≤ MAX_EVENTS + 1
+      → Sees s.space (event_begun_at w seen.event p r) p seen.event seen → line_of r p ≡ None → 1 ≤ n → e < seen.event → seen.event + n ≤ MAX_EVENTS + 1
       → GoesOn s n (calls.local u c)
       → AreLegalIns rules w seen.event p r (calls.went u seen c n).says
       (λ last. fits w s last (calls.went u seen c n).user (put cs a.0 (Some (calls.went u seen c n).ctx)))
@@ -68,7 +68,7 @@ pub record UserLaws {U C : Type 0} (calls : Calls U C) (stands : Standing U C) (
   pub stops : (w : WorkloadView) (s : Setting) (e : ℕ) (r : Readings) (u : U) (cs : Contexts C) (p : ProcNo) (a : ActNo) (life : Life) (c : C) (number : ℕ)
       → IsActing calls stands fits w s e r u cs p a life c
       → (calls.idle u c ≡ (not life.inside && is_none (calls.thread u c)))
-      × fits w s (after_record w number p (begun_at w number p r) (Stop s.space (calls.thread u c) a)) u cs
+      × fits w s (after_record w number p (event_begun_at w number p r) (Stop s.space (calls.thread u c) a)) u cs
   -- A blocked life comes back. No notice of it waits; r is read before the record.
   pub unblocks : (w : WorkloadView) (s : Setting) (e : ℕ) (r : Readings) (u : U) (cs : Contexts C) (p : ProcNo) (a : ActNo) (life : Life) (c : C) (number : ℕ)
       → Holds stands w s e r u cs → fits w s r u cs → cs a.0 ≡ Some c → life_of r a ≡ Some life → life.space ≡ s.space

@@ -12,7 +12,7 @@ use Rattle.sa_laws.specs.declared.place.Place.TheVariants.{Running}
 use Rattle.sa_laws.specs.Life.{Life}
 use Rattle.sa_laws.specs.State.{thread_at, runner_on, runner_of}
 use Rattle.sa_laws.specs.Readings.{Readings, running_of, life_of, owner_of, taken_of}
-use Rattle.sa_laws.specs.History.{begun}
+use Rattle.sa_laws.specs.History.{event_begun}
 use Rattle.sa_user_laws.specs.Moments.{IsMoment, AreSized}
 
 -- How a space's value and the contexts of its activations stand to what is read of the history: at rest, that is
@@ -69,5 +69,5 @@ pub record IsActing {U C : Type 0} (calls : Calls U C) (stands : Standing U C) (
   pub runner : runner_on r.state p ≡ runner_of s.space (calls.thread u c)
 
 -- the moment directly after the beginning of an event
-abbrev pub begun_at : WorkloadView → ℕ → ProcNo → Readings → Readings
-begun_at w e p r = begun w (record { number = e; proc = p; records = [] }) r
+abbrev pub event_begun_at : WorkloadView → ℕ → ProcNo → Readings → Readings
+event_begun_at w e p r = event_begun w (record { number = e; proc = p; records = [] }) r

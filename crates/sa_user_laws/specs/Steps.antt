@@ -18,13 +18,13 @@ use Rattle.sa_devices.specs.declared.kind.IoKind.TheVariants.{Plain, Page}
 use Rattle.sa_laws.specs.Event.{Event}
 use Rattle.sa_laws.specs.Readings.{Readings, demand_of, taken_of}
 use Rattle.sa_laws.specs.Record.{blocking}
-use Rattle.sa_laws.specs.History.{begun, after_records, after_event, with_step, is_step}
+use Rattle.sa_laws.specs.History.{event_begun, after_records, after_event, with_step, is_step}
 use Rattle.sa_laws.specs.Shape.{own_part}
 use Rattle.sa_laws.specs.Step.{Needs, AreSteps}
 use Rattle.sa_laws.specs.Turns.{IsClosing, IsPassage, IsInterrupt, IsOver, IsLocalIns}
 use Rattle.sa_laws.specs.Rules.{UserRules}
 use Rattle.sa_user_laws.specs.Moments.{Alike, AlikeButDemands, Sees}
-use Rattle.sa_user_laws.specs.Scene.{Fits, begun_at}
+use Rattle.sa_user_laws.specs.Scene.{Fits, event_begun_at}
 
 -- an event with these records of its own, and a closing after them
 abbrev pub event_with : ℕ → ProcNo → List Record → List Record → Event
@@ -37,7 +37,7 @@ pub record IsClosed (own closing : List Record) : Type 0 where
 
 -- The user level's rules hold at an event of its own.
 pub record RulesHold (rules : UserRules) (w : WorkloadView) (r : Readings) (ev : Event) (own : List Record) : Type 0 where
-  pub steps : rules.Steps w (begun w ev r) ev.proc own
+  pub steps : rules.Steps w (event_begun w ev r) ev.proc own
   pub demand : rules.Demand w r ev
   pub locks : rules.Locks w r ev
   pub order : rules.Order w r ev
@@ -73,8 +73,8 @@ records_asked r s _ = []
 module _ (rules : UserRules) where
   -- A local instruction is a legal event of its own, whether or not a slice ends with it.
   pub record IsLegalIns (w : WorkloadView) (e : ℕ) (p : ProcNo) (r : Readings) (x : Record) : Type 0 where
-    pub needs : Needs w p (begun_at w e p r) x
-    pub is_local : IsLocalIns w (begun_at w e p r) (x ∷ [])
+    pub needs : Needs w p (event_begun_at w e p r) x
+    pub is_local : IsLocalIns w (event_begun_at w e p r) (x ∷ [])
     pub rules_hold : (closing : List Record) → IsClosed (x ∷ []) closing → RulesHold rules w r (event_with e p (x ∷ []) closing) (x ∷ [])
 
   -- Local instructions that are committed at once: each is legal, and after the last, with which a slice may end,
@@ -84,7 +84,7 @@ module _ (rules : UserRules) where
   AreLegalIns w e p r (x ∷ []) finally =
       IsLegalIns w e p r x
       × ((closing : List Record) → IsClosed (x ∷ []) closing
-      → Alike (after_records w e p (begun_at w e p r) (x ∷ [])) (after_records w e p (begun_at w e p r) (x ∷ closing))
+      → Alike (after_records w e p (event_begun_at w e p r) (x ∷ [])) (after_records w e p (event_begun_at w e p r) (x ∷ closing))
       → finally (after_event rules.inside w r (event_with e p (x ∷ []) closing)))
   AreLegalIns w e p r (x ∷ y ∷ xs) finally =
       IsLegalIns w e p r x × AreLegalIns w (e + 1) p (after_event rules.inside w r (event_with e p (x ∷ []) [])) (y ∷ xs) finally
@@ -96,7 +96,7 @@ module _ {U C : Type 0} (calls : Calls U C) (rules : UserRules) (fits : Fits U C
     pub some : st.says ≢ []
     pub rules_hold : (closing : List Record) → IsClosed st.says closing → RulesHold rules w r (event_with e p st.says closing) st.says
     pub after : (closing : List Record) → IsClosed st.says closing
-        → Alike (after_records w e p (begun_at w e p r) st.says) (after_records w e p (begun_at w e p r) (st.says ++ closing))
+        → Alike (after_records w e p (event_begun_at w e p r) st.says) (after_records w e p (event_begun_at w e p r) (st.says ++ closing))
         → fits w s (after_event rules.inside w r (event_with e p st.says closing)) st.user (put cs a.0 (Some st.ctx))
 
   -- One that asks for a hint, for the return of activations, or for a line, adds none. The kernel's records and the
@@ -107,8 +107,8 @@ module _ {U C : Type 0} (calls : Calls U C) (rules : UserRules) (fits : Fits U C
         → RulesHold rules w r (event_with e p (records_asked r s.space st.answer) closing) (records_asked r s.space st.answer)
     pub after : (closing : List Record) (seen : Seen) → IsClosed (records_asked r s.space st.answer) closing
         → let own = records_asked r s.space st.answer in
-        let last = after_records w e p (begun_at w e p r) (own ++ closing) in
-        AlikeButDemands (after_records w e p (begun_at w e p r) own) last
+        let last = after_records w e p (event_begun_at w e p r) (own ++ closing) in
+        AlikeButDemands (after_records w e p (event_begun_at w e p r) own) last
         → Sees s.space last p e seen
         → fits w s (after_event rules.inside w r (event_with e p own closing)) (calls.answered st.user seen st.ctx).0
         (put (put cs a.0 (Some st.ctx)) a.0 (Some (calls.answered st.user seen st.ctx).1))
@@ -118,15 +118,15 @@ module _ {U C : Type 0} (calls : Calls U C) (rules : UserRules) (fits : Fits U C
   pub record IsLegalBlock (w : WorkloadView) (s : Setting) (r : Readings) (p : ProcNo) (e : ℕ) (a : ActNo) (cs : Contexts C) (st : Stepped U C) (len : ℕ)
       (page : Option ℕ) : Type 0 where
     pub begins : (io : IoNo) → begins_step (st.says ++ BlockRecord s.space (calls.thread st.user st.ctx) a io ∷ []) ≡ true
-    pub for : blocking w (after_records w e p (begun_at w e p r) st.says) s.space (calls.thread st.user st.ctx) a
+    pub for : blocking w (after_records w e p (event_begun_at w e p r) st.says) s.space (calls.thread st.user st.ctx) a
         ≡ record { kind = io_of s.space a page; length = len }
-    pub needs : (io : IoNo) → Needs w p (after_records w e p (begun_at w e p r) st.says) (BlockRecord s.space (calls.thread st.user st.ctx) a io)
+    pub needs : (io : IoNo) → Needs w p (after_records w e p (event_begun_at w e p r) st.says) (BlockRecord s.space (calls.thread st.user st.ctx) a io)
     pub rules_hold : (io : IoNo) (passage closing : List Record)
         → let own = st.says ++ BlockRecord s.space (calls.thread st.user st.ctx) a io ∷ passage in
         IsPassage passage → IsClosed own closing → RulesHold rules w r (event_with e p own closing) own
     pub after : (io : IoNo) (behind : List Record)
         → let own = st.says ++ BlockRecord s.space (calls.thread st.user st.ctx) a io ∷ [] in
-        let here = after_records w e p (begun_at w e p r) own in
+        let here = after_records w e p (event_begun_at w e p r) own in
         let ev = event_with e p own behind in
         (last : Readings) → last.state.spaces ≡ here.state.spaces
         → fits w s (record here { lives = with_step rules.inside w r ev last ev.records here.lives }) st.user (put cs a.0 (Some st.ctx))
@@ -139,5 +139,5 @@ module _ {U C : Type 0} (calls : Calls U C) (rules : UserRules) (fits : Fits U C
 
   -- Its records are steps of the abstract machine, and what follows is legal by what it asks for.
   pub record IsLegalStep (w : WorkloadView) (s : Setting) (r : Readings) (p : ProcNo) (e : ℕ) (a : ActNo) (cs : Contexts C) (st : Stepped U C) : Type 0 where
-    pub steps : AreSteps w e p (begun_at w e p r) st.says
+    pub steps : AreSteps w e p (event_begun_at w e p r) st.says
     pub answer : IsLegalAnswer w s r p e a cs st st.answer

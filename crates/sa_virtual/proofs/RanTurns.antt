@@ -145,14 +145,14 @@ module _ (w : WorkloadView) (valid : IsWorkload w) (e : ℕ) (p : ProcNo) (v : V
   ins is = record {
     owned = (h.fits p).owned a at;
     runs = here;
-    place = refl;
+    pc = refl;
     within = stands.in_program;
     page = touched r s i is;
   }
 
   -- 4. A TOUCH OF AN ABSENT PAGE
   abbrev miss_io : Io
-  miss_io = let b = blocking w r s (Some t) a in record { number = r.begun; ends = e + b.length; kind = b.kind }
+  miss_io = let b = blocking w r s (Some t) a in record { number = r.io_count; ends = e + b.length; kind = b.kind }
 
   pub faults : misses r s i ≡ true → Met w e p r (ran w v p a t thread i true)
   faults is =
@@ -246,7 +246,7 @@ module _ (w : WorkloadView) (valid : IsWorkload w) (e : ℕ) (p : ProcNo) (v : V
         ∙ ap length_in io_instr
 
     abbrev io_of : Io
-    io_of = let b = blocking w mid s (Some t) a in record { number = r.begun; ends = e + b.length; kind = b.kind }
+    io_of = let b = blocking w mid s (Some t) a in record { number = r.io_count; ends = e + b.length; kind = b.kind }
 
     abbrev length' : Option ℕ
     length' = length_behind w mid s (Some t) mid.last
@@ -257,7 +257,7 @@ module _ (w : WorkloadView) (valid : IsWorkload w) (e : ℕ) (p : ProcNo) (v : V
         (kind_own w mid (Some t) a length')
 
     pub blocks_on : Met w e p r (record {
-      says = rec.Ins s t thread.pc ∷ rec.Block s (Some t) a (record { 0 = r.begun }) ∷ rec.Move (Some s) None ∷ [];
+      says = rec.Ins s t thread.pc ∷ rec.Block s (Some t) a (record { 0 = r.io_count }) ∷ rec.Move (Some s) None ∷ [];
       after = record v { work = goes.work; placed = set v.placed p.0 None };
     })
     blocks_on = record {

@@ -10,7 +10,7 @@ use Rattle.sa_instr.specs.declared.instr.Instr.{Instr}
 use Rattle.sa_instr.specs.declared.instr.Instr.TheVariants.{Compute, Set, Add, Sub, Jnz, Load, Store, Out, Fork, Join, Lock, Unlock, Wait, Signal, Io, Touch, End}
 use Rattle.sa_instr.specs.declared.instr.Reg.{Reg}
 use Rattle.sa_instr.specs.Instr.{NamesDeclared}
-use Rattle.sa_instr.specs.Local.{place_after, regs_after}
+use Rattle.sa_instr.specs.Local.{pc_after, regs_after}
 use Rattle.sa_instr.specs.Program.{IsProgram}
 use Rattle.sa_instr.specs.Regs.{reg_value}
 use Rattle.sa_instr.proofs.PlaceLemmas.{next_inside, place_inside}
@@ -73,7 +73,7 @@ module _ (def : SpaceView) (space : IsSpace def) (x : SpaceState) (t : ThreadNo)
   behind_with i reg value is more = record { in_space = at.in_space; in_program = next_place i is more }
 
   local : (i : Instr) → i ≡ instr_in def thread → AllAt def (local_effect x t thread i).space
-  local i is = goes (record thread { pc = place_after i thread.pc thread.regs; regs = regs_after i thread.regs })
+  local i is = goes (record thread { pc = pc_after i thread.pc thread.regs; regs = regs_after i thread.regs })
       (record { in_space = at.in_space; in_program = place_inside (get_or def.programs thread.program []) thread.pc thread.regs i program_is at.in_program is })
 
   forked : (after : Thread) (program : ℕ) → IsAt def after → program < length def.programs

@@ -77,7 +77,7 @@ module _ (w : WorkloadView) (valid : IsWorkload w) (order : Order) (n : ℕ) (fe
       ((read m less).ends budget))
 
   module _ (budget : ℕ) (b : Board) (is : b ≡ board_at w order n) (within : n ≤ budget)
-      (goes_on : (k : ℕ) → k < n → end_of budget (board_at w order k) ≡ None) where
+      (not_ended : (k : ℕ) → k < n → end_of budget (board_at w order k) ≡ None) where
     whole : RunIsRead w (first_turns w order n) (board_at w order n) (first_events w order n)
     whole = read n (omega arith)
 
@@ -86,7 +86,7 @@ module _ (w : WorkloadView) (valid : IsWorkload w) (order : Order) (n : ℕ) (fe
       history = ap (λ (c : Board). c.items) is ∙ whole.items;
       legal = subst (λ (c : Board). IsLegalVp w c.items) (sym is) whole.legal;
       within = within;
-      goes_on = λ k below. ends-at budget k None (omega (arith, below)) (goes_on k below);
+      not_ended = λ k below. ends-at budget k None (omega (arith, below)) (not_ended k below);
     }
 
     pub ended : (e : End) → end_of budget b ≡ Some e → RunsTo w order budget b.items e n b.lost

@@ -28,7 +28,7 @@ pub record IsVpRun (w : WorkloadView) (order : Order) (budget : ℕ) (items : Li
   pub history : items ≡ items_of (first_events w order events)
   pub legal : IsLegalVp w items
   pub within : events ≤ budget
-  pub goes_on : (k : ℕ) → k < events → EndsAt w order budget k None
+  pub not_ended : (k : ℕ) → k < events → EndsAt w order budget k None
 
 -- the run of the workload comes so far
 pub record RunsSoFar (w : WorkloadView) (order : Order) (budget : ℕ) (items : List Item) : Type 0 where

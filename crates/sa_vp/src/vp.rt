@@ -95,7 +95,7 @@ impl Vp {
     /// One event of the processor. It takes no memory where there is room; an error changes nothing.
     pub fn turn(&mut self, p: ProcNo) -> Result<(), AllocError>
         requires within { p.0 < self.old.board.workload.processors }
-        requires goes_on { end_of self.old.budget self.old.board ≡ None }
+        requires not_ended { end_of self.old.budget self.old.board ≡ None }
         ensures ok { OnOk result (self.new.board ≡ turned p self.old.board) }
         ensures number { OnOk result (self.new.board.number ≡ self.old.board.number + 1) }
         ensures workload { self.new.board.workload ≡ self.old.board.workload }

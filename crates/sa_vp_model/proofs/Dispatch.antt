@@ -34,7 +34,7 @@ module _ (w : WorkloadView) (valid : IsWorkload w) (v : Virtuals) (good : Good w
   back (Some io) is n reason due found =
       let number : io.number ≡ n.0 = ap (λ (m : IoNo). m.0) (same_Some _ _ due) in
       let at : io_at n.0 v.base.under_way ≡ Some io =
-      ap (λ k. io_at k v.base.under_way) (sym number) ∙ due_found v.base.number v.base.begun v.base.under_way io fits.numbered is in
+      ap (λ k. io_at k v.base.under_way) (sym number) ∙ due_found v.base.number v.base.io_count v.base.under_way io fits.numbered is in
       let same : io.kind ≡ reason = same_Some _ _ (sym (ap (option_map (λ (y : Io). y.kind)) at) ∙ found) in
       subst (λ k. CanComeBack p (rules.of_io k) (board_of w v x)) same (safe.comes_back w valid v good x fits p io is)
 
@@ -69,8 +69,8 @@ module _ (w : WorkloadView) (valid : IsWorkload w) (v : Virtuals) (good : Good w
       tabled = safe.tabled w valid now good' more fits';
       virtual = safe.is_virtual_here w valid now good' more fits' p a at;
       goes = safe.goes_it w valid now good' more fits' p a at room t carried bounds.due event;
-      faults = safe.faults_it w valid now good' more fits' p a at room t carried event bounds.begun bounds.blocked;
-      blocks = safe.blocks_it w valid now good' more fits' p a at room t carried event bounds.begun bounds.blocked;
+      faults = safe.faults_it w valid now good' more fits' p a at room t carried event bounds.io_count bounds.blocked;
+      blocks = safe.blocks_it w valid now good' more fits' p a at room t carried event bounds.io_count bounds.blocked;
     }
 
     pub steps : CanStep p a (board_of w v x)
@@ -101,4 +101,4 @@ can_act w p b read inside few =
     subst (λ (c : Board). CanAct p (after_evictions c)) (sym read.is)
     (acts w read.valid (turns.now w p b read inside few) (turns.good w p b read inside few) read.own (turns.fits w p b read inside few) p inside
     (turns.room w p b read inside few) refl (omega (arith, few, turns.number_is w p b read inside few))
-    (record { begun = read.bounded.begun; steps = read.bounded.steps; blocked = read.bounded.blocked; lost = read.bounded.lost; due = read.bounded.due }))
+    (record { io_count = read.bounded.io_count; steps = read.bounded.steps; blocked = read.bounded.blocked; lost = read.bounded.lost; due = read.bounded.due }))

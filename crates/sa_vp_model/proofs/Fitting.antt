@@ -29,7 +29,7 @@ BlockedFits w v x =
     ((s : ℕ) → s < length w.spaces → slice_index_or x.blocked s 0 ≡ blocked_in v (record { 0 = s })) × (length x.blocked ≡ length w.spaces)
 
 pub fit : {w : WorkloadView} {v : Virtuals} {x : Own} → ThreadsFit v x → StepsFit v x → ReadyFits w v x → WorkFits w v x → BlockedFits w v x
-    → AreNumbered v.base.begun v.base.under_way → length x.lost ≡ length w.spaces → length v.base.pages ≡ length w.spaces → Fits w v x
+    → AreNumbered v.base.io_count v.base.under_way → length x.lost ≡ length w.spaces → length v.base.pages ≡ length w.spaces → Fits w v x
 fit threads steps ready work blocked numbered lost pages = record {
   threads = threads.0;
   steps = steps.0;

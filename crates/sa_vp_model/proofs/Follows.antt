@@ -19,7 +19,7 @@ pub record Follows (w : WorkloadView) (p : ProcNo) (v : Virtuals) (t : Turned) (
   pub fits : Fits w (behind w p v t) own
   pub lost : own.lost ≡ x.lost
   pub items : own.items ≡ x.items ++ items_at v.base.number p t.says
-  pub begun : (behind w p v t).base.begun ≤ v.base.begun + 1
+  pub io_count : (behind w p v t).base.io_count ≤ v.base.io_count + 1
   pub steps : (a : ℕ) → get_or own.steps a 0 ≤ get_or x.steps a 0
   pub blocked : (s : ℕ) → get_or own.blocked s 0 ≤ get_or x.blocked s 0 + 1
   pub due : own.due ≤ x.due + MAX_THREADS
@@ -31,7 +31,7 @@ pub record Goes (w : WorkloadView) (p : ProcNo) (v : Virtuals) (t : Turned) (x :
   pub fits : Fits w (behind w p v t) own
   pub lost : own.lost ≡ x.lost
   pub items : own.items ≡ x.items ++ items_at v.base.number p t.says
-  pub begun : (behind w p v t).base.begun ≤ v.base.begun + 1
+  pub io_count : (behind w p v t).base.io_count ≤ v.base.io_count + 1
   pub steps : (a : ℕ) → get_or own.steps a 0 ≤ get_or x.steps a 0 + 1
   pub blocked : (s : ℕ) → get_or own.blocked s 0 ≤ get_or x.blocked s 0 + 1
   pub due : own.due ≤ x.due + MAX_THREADS

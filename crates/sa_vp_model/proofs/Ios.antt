@@ -61,8 +61,8 @@ among-found io (x ∷ xs) (inr there) few = elim (cases_eq x.number io.number) [
 ]
 
 -- the one that is due is the one of its number
-pub due_found : (e : ℕ) (begun : ℕ) (ios : List Io) (io : Io) → AreNumbered begun ios → due_of e ios ≡ Some io → io_at io.number ios ≡ Some io
-due_found e begun ios io numbered due = among-found io ios (due_among e ios io due) (numbered.once io.number)
+pub due_found : (e : ℕ) (io_count : ℕ) (ios : List Io) (io : Io) → AreNumbered io_count ios → due_of e ios ≡ Some io → io_at io.number ios ≡ Some io
+due_found e io_count ios io numbered due = among-found io ios (due_among e ios io due) (numbered.once io.number)
 
 -- THE ONLY ONE OF ITS VIRTUAL PROCESSOR
 none_left : (a : ActNo) (ios : List Io) → in_ios ios a.0 ≡ 0 → filter (is_io_of_other a) ios ≡ ios
@@ -122,14 +122,14 @@ fewer n keeps (x ∷ xs) = elim (keeps x) as (λ b. of_number n (cond b (x ∷ f
   | false ↦ omega (arith, fewer n keeps xs, number-cons n x xs)
 ]
 
-pub numbered_over : (begun : ℕ) (keeps : Io → Bool) (ios : List Io) → AreNumbered begun ios → AreNumbered begun (filter keeps ios)
-numbered_over begun keeps ios are = record {
+pub numbered_over : (io_count : ℕ) (keeps : Io → Bool) (ios : List Io) → AreNumbered io_count ios → AreNumbered io_count (filter keeps ios)
+numbered_over io_count keeps ios are = record {
   once = λ n. omega (arith, fewer n keeps ios, are.once n);
   below = λ n past. omega (arith, fewer n keeps ios, are.below n past);
 }
 
-pub numbered_more : (begun : ℕ) (ios : List Io) (io : Io) → io.number ≡ begun → AreNumbered begun ios → AreNumbered (begun + 1) (ios ++ io ∷ [])
-numbered_more begun ios io is are = record {
+pub numbered_more : (io_count : ℕ) (ios : List Io) (io : Io) → io.number ≡ io_count → AreNumbered io_count ios → AreNumbered (io_count + 1) (ios ++ io ∷ [])
+numbered_more io_count ios io is are = record {
   once = λ n. elim (cases_eq io.number n) [
     | inl e ↦ omega (arith, sum_by_push (λ (x : Io). cond (is_number n x) 1 0) ios io, one_at (is_number n io), are.below n (omega (arith, e, is)))
     | inr ne ↦ let none : one (is_number n io) ≡ 0 = ap one (ne_eqb io.number n ne) in

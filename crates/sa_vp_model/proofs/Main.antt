@@ -117,7 +117,7 @@ module _ (w : WorkloadView) (valid : IsWorkload w) (p : ProcNo) (inside : p.0 < 
         fits = f.fits;
         lost = f.lost;
         items = f.items;
-        begun = f.begun;
+        io_count = f.io_count;
         steps = λ a. omega (arith, f.steps a);
         blocked = f.blocked;
         due = f.due;
@@ -131,7 +131,7 @@ module _ (w : WorkloadView) (valid : IsWorkload w) (p : ProcNo) (inside : p.0 < 
         fits = f.fits;
         lost = f.lost;
         items = f.items;
-        begun = f.begun;
+        io_count = f.io_count;
         steps = λ c. omega (arith, f.steps c, more_most x.steps a.0 c);
         blocked = f.blocked;
         due = f.due;

@@ -93,7 +93,7 @@ module _ (w : WorkloadView) (valid : IsWorkload w) where
 
   bounded : IsBounded (opening w) own
   bounded = record {
-    begun = omega arith;
+    io_count = omega arith;
     steps = λ a. omega (arith, none_at VIRTUALS a);
     blocked = λ s. omega (arith, none_at (length w.spaces) s);
     lost = λ s. omega (arith, none_at (length w.spaces) s);

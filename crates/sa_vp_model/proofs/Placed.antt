@@ -84,7 +84,7 @@ module _ (w : WorkloadView) (p : ProcNo) (v : Virtuals) (good : Good w v) (x : O
           fits.many_pages;
       lost = refl;
       items = refl;
-      begun = omega arith;
+      io_count = omega arith;
       steps = λ b. zero_most x.steps a.0 b;
       blocked = λ r. omega arith;
       due = omega arith;
@@ -96,7 +96,7 @@ module _ (w : WorkloadView) (p : ProcNo) (v : Virtuals) (good : Good w v) (x : O
           (restarted w v x fits a within) (ready-of fits) (work-of fits) (blocked-of fits) fits.numbered fits.many_lost fits.many_pages;
       lost = refl;
       items = append_assoc x.items (item v p move ∷ []) (item v p (rec.Cont s (Some t)) ∷ []);
-      begun = omega arith;
+      io_count = omega arith;
       steps = λ b. zero_most x.steps a.0 b;
       blocked = λ r. omega arith;
       due = omega arith;
@@ -114,7 +114,7 @@ module _ (w : WorkloadView) (p : ProcNo) (v : Virtuals) (good : Good w v) (x : O
         fits.many_pages;
     lost = refl;
     items = refl;
-    begun = omega arith;
+    io_count = omega arith;
     steps = λ b. omega arith;
     blocked = λ r. omega arith;
     due = omega arith;

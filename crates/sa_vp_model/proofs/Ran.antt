@@ -148,11 +148,11 @@ module _ (w : WorkloadView) (valid : IsWorkload w) (p : ProcNo) (v : Virtuals) (
 
   abbrev missed_own : Own
   missed_own = record (blocked_own w v good x fits a there small t) {
-    items = (x.items ++ item v p (rec.Block s (Some t) a (record { 0 = r.begun })) ∷ []) ++ item v p (rec.Move (Some s) None) ∷ [];
+    items = (x.items ++ item v p (rec.Block s (Some t) a (record { 0 = r.io_count })) ∷ []) ++ item v p (rec.Move (Some s) None) ∷ [];
   }
 
   abbrev with_io' : IoKind → ℕ → Io
-  with_io' kind length = record { number = r.begun; ends = r.number + length; kind = kind }
+  with_io' kind length = record { number = r.io_count; ends = r.number + length; kind = kind }
 
   faults : Follows w p v missed x (blocks p a t (Page s a (page_in i)) w.fetch (board_of w v x))
   faults = record {
@@ -160,7 +160,7 @@ module _ (w : WorkloadView) (valid : IsWorkload w) (p : ProcNo) (v : Virtuals) (
     is = ap (λ (b : Blocking). record (board_of w (behind w p v missed) missed_own) {
       devices =
           record {
-            ios = record { begun = r.begun + 1; under_way = r.under_way ++ with_io' b.kind b.length ∷ []; spare = x.spare - 1 };
+            ios = record { io_count = r.io_count + 1; under_way = r.under_way ++ with_io' b.kind b.length ∷ []; spare = x.spare - 1 };
             pages = r.pages;
             evictions = w.evictions;
           };
@@ -171,11 +171,11 @@ module _ (w : WorkloadView) (valid : IsWorkload w) (p : ProcNo) (v : Virtuals) (
               with_io' b.kind b.length) refl (λ q. ap (λ (b : Blocking). one_where (is_of (record { 0 = q }) b.kind)) for),
           length-set x.blocked s.0 (get_or x.blocked s.0 0 + 1) ∙ fits.many_blocked,
         )
-        (numbered_more r.begun r.under_way (let b = blocking w r s (Some t) a in with_io' b.kind b.length) refl fits.numbered)
+        (numbered_more r.io_count r.under_way (let b = blocking w r s (Some t) a in with_io' b.kind b.length) refl fits.numbered)
         fits.many_lost fits.many_pages;
     lost = refl;
-    items = append_assoc x.items (item v p (rec.Block s (Some t) a (record { 0 = r.begun })) ∷ []) (item v p (rec.Move (Some s) None) ∷ []);
-    begun = omega arith;
+    items = append_assoc x.items (item v p (rec.Block s (Some t) a (record { 0 = r.io_count })) ∷ []) (item v p (rec.Move (Some s) None) ∷ []);
+    io_count = omega arith;
     steps = λ b. omega arith;
     blocked = λ q. more_most x.blocked s.0 q;
     due = omega arith;
@@ -229,7 +229,7 @@ module _ (w : WorkloadView) (valid : IsWorkload w) (p : ProcNo) (v : Virtuals) (
         fits.numbered fits.many_lost fits.many_pages;
     lost = refl;
     items = refl;
-    begun = omega arith;
+    io_count = omega arith;
     steps = λ b. omega arith;
     blocked = λ q. omega arith;
     due = omega (arith, few_roused);
@@ -247,7 +247,7 @@ module _ (w : WorkloadView) (valid : IsWorkload w) (p : ProcNo) (v : Virtuals) (
         fits.numbered fits.many_lost fits.many_pages;
     lost = refl;
     items = append_assoc x.items (item v p (rec.Ins s t thread.pc) ∷ []) (item v p (rec.Out s t (reg_value thread.regs reg)) ∷ []);
-    begun = omega arith;
+    io_count = omega arith;
     steps = λ b. omega arith;
     blocked = λ q. omega arith;
     due = omega (arith, few_roused);
@@ -257,7 +257,7 @@ module _ (w : WorkloadView) (valid : IsWorkload w) (p : ProcNo) (v : Virtuals) (
   module _ (n : ℕ) (is_n : i ≡ IoOf n) where
     abbrev blocks_on : Turned
     blocks_on = record {
-      says = rec.Ins s t thread.pc ∷ rec.Block s (Some t) a (record { 0 = r.begun }) ∷ rec.Move (Some s) None ∷ [];
+      says = rec.Ins s t thread.pc ∷ rec.Block s (Some t) a (record { 0 = r.io_count }) ∷ rec.Move (Some s) None ∷ [];
       after = record went { placed = set v.placed p.0 None };
     }
 
@@ -272,7 +272,7 @@ module _ (w : WorkloadView) (valid : IsWorkload w) (p : ProcNo) (v : Virtuals) (
       spare = x.spare - 1;
       threads = set x.threads a.0 (Some t);
       blocked = one_more x.blocked s;
-      items = (went_own.items ++ item v p (rec.Block s (Some t) a (record { 0 = r.begun })) ∷ []) ++ item v p (rec.Move (Some s) None) ∷ [];
+      items = (went_own.items ++ item v p (rec.Block s (Some t) a (record { 0 = r.io_count })) ∷ []) ++ item v p (rec.Move (Some s) None) ∷ [];
     }
 
     io_threads : (λ b. get_or (set x.threads a.0 (Some t)) b None) ≡ threads_of (with_life (held_with (Some t)) (Some a) mid.lives)
@@ -285,7 +285,7 @@ module _ (w : WorkloadView) (valid : IsWorkload w) (p : ProcNo) (v : Virtuals) (
       is = ap (λ (b : Blocking). record (board_of w (behind w p v blocks_on) io_own) {
         devices =
             record {
-              ios = record { begun = r.begun + 1; under_way = r.under_way ++ with_io' b.kind b.length ∷ []; spare = x.spare - 1 };
+              ios = record { io_count = r.io_count + 1; under_way = r.under_way ++ with_io' b.kind b.length ∷ []; spare = x.spare - 1 };
               pages = r.pages;
               evictions = w.evictions;
             };
@@ -296,15 +296,15 @@ module _ (w : WorkloadView) (valid : IsWorkload w) (p : ProcNo) (v : Virtuals) (
                 with_io' b.kind b.length) refl (λ q. ap (λ (b : Blocking). one_where (is_of (record { 0 = q }) b.kind)) for_io),
             length-set x.blocked s.0 (get_or x.blocked s.0 0 + 1) ∙ fits.many_blocked,
           )
-          (numbered_more r.begun r.under_way (let b = blocking w mid s (Some t) a in with_io' b.kind b.length) refl fits.numbered)
+          (numbered_more r.io_count r.under_way (let b = blocking w mid s (Some t) a in with_io' b.kind b.length) refl fits.numbered)
           fits.many_lost fits.many_pages;
       lost = refl;
       items =
           ap (λ is. is ++ item v p (rec.Move (Some s) None) ∷ [])
-          (append_assoc x.items (item v p (rec.Ins s t thread.pc) ∷ []) (item v p (rec.Block s (Some t) a (record { 0 = r.begun })) ∷ []))
-          ∙ append_assoc x.items (item v p (rec.Ins s t thread.pc) ∷ item v p (rec.Block s (Some t) a (record { 0 = r.begun })) ∷ [])
+          (append_assoc x.items (item v p (rec.Ins s t thread.pc) ∷ []) (item v p (rec.Block s (Some t) a (record { 0 = r.io_count })) ∷ []))
+          ∙ append_assoc x.items (item v p (rec.Ins s t thread.pc) ∷ item v p (rec.Block s (Some t) a (record { 0 = r.io_count })) ∷ [])
           (item v p (rec.Move (Some s) None) ∷ []);
-      begun = omega arith;
+      io_count = omega arith;
       steps = λ b. omega arith;
       blocked = λ q. more_most x.blocked s.0 q;
       due = omega (arith, few_roused);

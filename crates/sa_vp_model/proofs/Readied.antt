@@ -113,7 +113,7 @@ module _ (w : WorkloadView) (p : ProcNo) (v : Virtuals) (good : Good w v) (x : O
       lost = refl;
       items = ap (λ is. is ++ item v p (rec.Free s l t) ∷ []) (append_assoc x.items (item v p (rec.Take s l t) ∷ []) (item v p (rec.Ready s first) ∷ []))
           ∙ append_assoc x.items (item v p (rec.Take s l t) ∷ item v p (rec.Ready s first) ∷ []) (item v p (rec.Free s l t) ∷ []);
-      begun = omega arith;
+      io_count = omega arith;
       steps = λ b. omega arith;
       blocked = λ r. omega arith;
       due = omega arith;

@@ -96,7 +96,7 @@ module _ (w : WorkloadView) (p : ProcNo) (v : Virtuals) (good : Good w v) (x : O
           (ready-of fits) (work-of fits) (blocked-of fits) fits.numbered fits.many_lost fits.many_pages;
       lost = refl;
       items = append_assoc x.items (item v p stop ∷ []) (item v p move ∷ []);
-      begun = omega arith;
+      io_count = omega arith;
       steps = λ b. zero_most x.steps first.0 b;
       blocked = λ r. omega arith;
       due = omega arith;
@@ -114,7 +114,7 @@ module _ (w : WorkloadView) (p : ProcNo) (v : Virtuals) (good : Good w v) (x : O
       lost = refl;
       items = ap (λ is. is ++ item v p (rec.Cont (space_of first) (Some u)) ∷ []) (append_assoc x.items (item v p stop ∷ []) (item v p move ∷ []))
           ∙ append_assoc x.items (item v p stop ∷ item v p move ∷ []) (item v p (rec.Cont (space_of first) (Some u)) ∷ []);
-      begun = omega arith;
+      io_count = omega arith;
       steps = λ b. zero_most x.steps first.0 b;
       blocked = λ r. omega arith;
       due = omega arith;

@@ -278,16 +278,16 @@ module _ (w : WorkloadView) (valid : IsWorkload w) (v : Virtuals) (good : Good w
         go false e = let same : k ≡ page = same_Some _ _ e in (omega (arith, in_range.0.0, same), omega (arith, in_range.0.1, same))
       touches j page in_range is = cc
 
-      pub faults_it : v.base.number ≤ MAX_EVENTS → v.base.begun < v.base.number → ((r : ℕ) → get_or x.blocked r 0 < v.base.number) → (page : ℕ)
+      pub faults_it : v.base.number ≤ MAX_EVENTS → v.base.io_count < v.base.number → ((r : ℕ) → get_or x.blocked r 0 < v.base.number) → (page : ℕ)
           → missed_page (board_of w v x) s i ≡ Some page
           → CanBlockOn p a t (Page s a page) (board_of w v x)
-      faults_it event begun blocked page is =
+      faults_it event io_count blocked page is =
           let range = touches i page ranged is in
           record {
             tabled = tabled;
             virtual = is_virtual_here;
             event = event;
-            begun = begun;
+            io_count = io_count;
             kind = (omega (arith, known.0, fits.many_pages), range.0, range.1);
             blocked = blocked s.0;
             can = (left.stop_needs w (parts_of v) good.stands.runners good.stands.holds p a at (Some t) runs).1;
@@ -314,13 +314,13 @@ module _ (w : WorkloadView) (valid : IsWorkload w) (v : Virtuals) (good : Good w
             work_rows = λ r below. record { nodes = (are r below).nodes; many = (are r below).many };
           }
 
-      pub blocks_it : v.base.number ≤ MAX_EVENTS → v.base.begun < v.base.number → ((r : ℕ) → get_or x.blocked r 0 < v.base.number) → (n : ℕ) → i ≡ IoOf n
+      pub blocks_it : v.base.number ≤ MAX_EVENTS → v.base.io_count < v.base.number → ((r : ℕ) → get_or x.blocked r 0 < v.base.number) → (n : ℕ) → i ≡ IoOf n
           → CanBlockOn p a t (Plain s a) (goes p a t (board_of w v x))
-      blocks_it event begun blocked n is = record {
+      blocks_it event io_count blocked n is = record {
         tabled = gone_tabled;
         virtual = record { space = is_virtual_here.space; list = is_virtual_here.list; small = is_virtual_here.small };
         event = event;
-        begun = begun;
+        io_count = io_count;
         kind = omega (arith, known.0, fits.many_pages);
         blocked = blocked s.0;
         can = (ran.blocks_on w valid v.base.number p v good a at t runs room n is).steps.1.0.runs;

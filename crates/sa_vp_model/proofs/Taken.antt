@@ -177,7 +177,7 @@ module _ (w : WorkloadView) (p : ProcNo) (v : Virtuals) (good : Good w v) (x : O
       lost = refl;
       items = ap (λ is. is ++ item v p (rec.Free s l (Some t)) ∷ []) (append_assoc x.items (item v p (rec.Take s l None) ∷ []) (item v p (rec.Run s t) ∷ []))
           ∙ append_assoc x.items (item v p (rec.Take s l None) ∷ item v p (rec.Run s t) ∷ []) (item v p (rec.Free s l (Some t)) ∷ []);
-      begun = omega arith;
+      io_count = omega arith;
       steps = λ b. omega arith;
       blocked = λ r. omega arith;
       due = omega arith;
@@ -204,7 +204,7 @@ module _ (w : WorkloadView) (p : ProcNo) (v : Virtuals) (good : Good w v) (x : O
         fits.many_pages;
     lost = refl;
     items = refl;
-    begun = omega arith;
+    io_count = omega arith;
     steps = λ b. omega arith;
     blocked = λ r. omega arith;
     due = omega arith;

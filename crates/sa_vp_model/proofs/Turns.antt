@@ -120,7 +120,7 @@ module _ (w : WorkloadView) (p : ProcNo) (b : Board) (read : IsRead w b) (inside
 
   bounded : IsBounded after' own
   bounded = record {
-    begun = omega (arith, number_after, gone.begun, read.bounded.begun);
+    io_count = omega (arith, number_after, gone.io_count, read.bounded.io_count);
     steps = λ a. omega (arith, number_after, gone.steps a, read.bounded.steps a);
     blocked = λ s. omega (arith, number_after, gone.blocked s, read.bounded.blocked s);
     due = omega (arith, number_after, gone.due, read.bounded.due);

@@ -84,7 +84,7 @@ module _ (w : WorkloadView) (p : ProcNo) (v : Virtuals) (good : Good w v) (x : O
   once = omega (arith, among.1, good.stands.holds.once a.0, one_or_none (is_virtual w (record { 0 = a.0 })))
 
   at : io_at io.number ios ≡ Some io
-  at = due_found v.base.number v.base.begun ios io fits.numbered due
+  at = due_found v.base.number v.base.io_count ios io fits.numbered due
 
   gone : IsOver a io.number io ios
   gone = over a io.number io ios at (own_kind io.kind among.0) once
@@ -101,7 +101,7 @@ module _ (w : WorkloadView) (p : ProcNo) (v : Virtuals) (good : Good w v) (x : O
   abbrev made : Option ThreadNo → List Io → List ℕ → List ℕ → Board
   made t us ps qs = record (board_of w v own) {
     state = placed_if v.base.state s t places.Carried;
-    devices = record { ios = record { begun = v.base.begun; under_way = us; spare = x.spare }; pages = ps; evictions = w.evictions };
+    devices = record { ios = record { io_count = v.base.io_count; under_way = us; spare = x.spare }; pages = ps; evictions = w.evictions };
     queue = record { nodes = VIRTUALS; lists = qs ∷ [] };
     items = x.items ++ record { event = v.base.number; proc = p; what = rec.Unblock s t a } ∷ [];
   }
@@ -143,11 +143,11 @@ module _ (w : WorkloadView) (p : ProcNo) (v : Virtuals) (good : Good w v) (x : O
         (fits.threads ∙ sym (threads_same (with_hand (one_thread (thread_of v a))) a v.base.lives (λ life. refl)), fits.many_threads)
         (steps-of fits) (ready-of fits) (work-of fits)
         (blocked, length-set x.blocked s.0 (get_or x.blocked s.0 0 - 1) ∙ fits.many_blocked)
-        (numbered_over v.base.begun (is_io_of_other a) ios fits.numbered) fits.many_lost
+        (numbered_over v.base.io_count (is_io_of_other a) ios fits.numbered) fits.many_lost
         (ap (λ o. length (with_page v.base.pages o)) gone.found ∙ length-completed io.kind v.base.pages ∙ fits.many_pages);
     lost = refl;
     items = refl;
-    begun = omega arith;
+    io_count = omega arith;
     steps = λ b. omega arith;
     blocked = λ r. less_most x.blocked s.0 r;
     due = omega arith;

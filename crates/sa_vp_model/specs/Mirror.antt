@@ -32,7 +32,7 @@ board_of w v x = record {
   number = v.base.number;
   state = v.base.state;
   devices = record {
-    ios = record { begun = v.base.begun; under_way = v.base.under_way; spare = x.spare };
+    ios = record { io_count = v.base.io_count; under_way = v.base.under_way; spare = x.spare };
     pages = v.base.pages;
     evictions = w.evictions;
   };
@@ -63,9 +63,9 @@ abbrev pub rows : List Lists → ℕ → Lists
 rows xs s = slice_index_or xs s no_lists
 
 -- no number of an I/O under way comes twice, and none was not begun
-pub record AreNumbered (begun : ℕ) (ios : List Io) : Type 0 where
+pub record AreNumbered (io_count : ℕ) (ios : List Io) : Type 0 where
   pub once : (n : ℕ) → count_by (is_number n) ios ≤ 1
-  pub below : (n : ℕ) → begun ≤ n → count_by (is_number n) ios ≡ 0
+  pub below : (n : ℕ) → io_count ≤ n → count_by (is_number n) ios ≡ 0
 
 abbrev pub total : List Lists → ℕ
 total xs = sum_by (λ (c : Lists). sum_by length c.lists) xs
@@ -78,7 +78,7 @@ pub record Fits (w : WorkloadView) (v : Virtuals) (x : Own) : Type 0 where
   pub work : (s : ℕ) → s < length w.spaces → AreLists w.processors (λ l. numbers (v.work (MAX_PROCESSORS * s + l))) (rows x.work s)
   pub blocked : (s : ℕ) → s < length w.spaces → slice_index_or x.blocked s 0 ≡ blocked_in v (record { 0 = s })
   pub due : x.due ≡ total x.work
-  pub numbered : AreNumbered v.base.begun v.base.under_way
+  pub numbered : AreNumbered v.base.io_count v.base.under_way
   -- there is one of each
   pub many_threads : length x.threads ≡ VIRTUALS
   pub many_steps : length x.steps ≡ VIRTUALS
@@ -90,7 +90,7 @@ pub record Fits (w : WorkloadView) (v : Virtuals) (x : Own) : Type 0 where
 
 -- no count is above what the events so far can make of it
 pub record IsBounded (v : Virtuals) (x : Own) : Type 0 where
-  pub begun : v.base.begun < v.base.number
+  pub io_count : v.base.io_count < v.base.number
   pub steps : (a : ℕ) → slice_index_or x.steps a 0 < v.base.number
   pub blocked : (s : ℕ) → slice_index_or x.blocked s 0 < v.base.number
   pub lost : (s : ℕ) → slice_index_or x.lost s 0 < MAX_THREADS * v.base.number

@@ -91,10 +91,10 @@ pub record CanBlockOn (p : ProcNo) (a : ActNo) (t : ThreadNo) (reason : IoKind) 
   pub tabled : IsTabled b
   pub virtual : IsVirtual b a
   pub event : b.number ≤ MAX_EVENTS
-  pub begun : b.devices.ios.begun < b.number
+  pub io_count : b.devices.ios.io_count < b.number
   pub kind : IsKind (length b.devices.pages) reason
   pub blocked : slice_index_or b.blocked (space_of a).0 0 < b.number
-  pub can : CanChange b.workload p b.state (Block (space_of a) (Some t) a (record { 0 = b.devices.ios.begun }))
+  pub can : CanChange b.workload p b.state (Block (space_of a) (Some t) a (record { 0 = b.devices.ios.io_count }))
 
 -- an instruction
 pub record CanGoOn (p : ProcNo) (a : ActNo) (t : ThreadNo) (b : Board) : Type 0 where

@@ -102,7 +102,7 @@ readies p a t first b =
 abbrev pub blocks : ProcNo → ActNo → ThreadNo → IoKind → ℕ → Board → Board
 blocks p a t kind len b =
     let s = space_of a in
-    said p (Move (Some s) None) (said p (Block s (Some t) a (record { 0 = b.devices.ios.begun })) (record b {
+    said p (Move (Some s) None) (said p (Block s (Some t) a (record { 0 = b.devices.ios.io_count })) (record b {
       devices = record b.devices { ios = begun_with b.devices.ios kind (b.number + len) };
       threads = slice_set b.threads a.0 (Some t);
       placed = slice_set b.placed p.0 None;

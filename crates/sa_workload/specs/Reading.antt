@@ -25,14 +25,14 @@ abbrev pub finished : ℕ → Position → Result WorkloadView Bad
 finished number p = or_missing number (closed p)
 
 -- what comes of a line: it is bad, or the others are read after it
-abbrev pub goes_on : ℕ → Result Position ℕ → (Position → Result WorkloadView Bad) → Result WorkloadView Bad
-goes_on number (Ok p) more = more p
-goes_on number (Err why) more = Err (record { line = number; why = why })
+abbrev pub after_line : ℕ → Result Position ℕ → (Position → Result WorkloadView Bad) → Result WorkloadView Bad
+after_line number (Ok p) more = more p
+after_line number (Err why) more = Err (record { line = number; why = why })
 
 -- what these lines are read as from a position, where the first has this number
 abbrev pub read_from : ℕ → ℕ → Position → List LineText → Result WorkloadView Bad
 read_from versions number p [] = finished number p
-read_from versions number p (line ∷ rest) = goes_on number (line_in versions p line) (λ q. read_from versions (number + 1) q rest)
+read_from versions number p (line ∷ rest) = after_line number (line_in versions p line) (λ q. read_from versions (number + 1) q rest)
 
 -- what a text of one of that many versions is read as
 unfoldable pub read_of : ℕ → List ℕ → Result WorkloadView Bad

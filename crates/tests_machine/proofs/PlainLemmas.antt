@@ -13,6 +13,7 @@ use Rattle.sa_kernel_model.specs.Entries.{evicted_at}
 use Rattle.sa_kernel_model.specs.Entering.{MayEnter}
 use Rattle.sa_kernel_laws.specs.Turn.{SaysRightly}
 use Rattle.sa_kernel_laws.specs.Histories.{IsHistory, IsUnderWay, IsLonger, GoesOnLawfully, QuietEventsGoOn, last_of, read_from, read_within}
+use Rattle.sa_kernel_laws.proofs.histories.Histories.{last_of-push}
 use Rattle.sa_laws.specs.Readings.{Readings}
 use Rattle.sa_laws.specs.History.{Test}
 use Rattle.sa_laws.specs.Event.{Event}
@@ -51,11 +52,6 @@ fits-evicted e n k p (InterruptOwn q) fit = record {
   within = fit.within;
   owned = record { owner = fit.owned.owner; low = fit.owned.low };
 }
-
--- the last of some events, where one is put after them
-last_of-push : (e : Event) (es : List Event) (x : Event) → last_of e (es ++ x ∷ []) ≡ x
-last_of-push e [] x = refl
-last_of-push e (y ∷ es) x = last_of-push y es x
 
 longer-lawful : (test : Test) (w : WorkloadView) (events : List Event) (e : ℕ) (p : ProcNo) (x : Scene ℕ) → IsLonger test w events e p x → IsLawful test w e x
 longer-lawful test w events e p x next = record {

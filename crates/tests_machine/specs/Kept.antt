@@ -6,7 +6,7 @@ use Rattle.sa_base.specs.declared.context.Seen.{Seen}
 use Rattle.sa_instr.specs.declared.instr.Reg.TheVariants.{R0}
 use Rattle.sa_instr.specs.declared.instr.Instr.{Instr}
 use Rattle.sa_instr.specs.declared.instr.Instr.TheVariants.{Jnz}
-use Rattle.sa_instr.specs.Local.{instr_at, place_after, regs_after}
+use Rattle.sa_instr.specs.Local.{instr_at, pc_after, regs_after}
 use Rattle.sa_abstract.specs.Walk.{Spot, after_many, ins_records, program_at}
 use Rattle.sa_abstract.specs.Keeps.{Keeps, IsAsked, IsOwn, IsSeat, GoesOn, is_away, state_after, records_of, moved_to}
 use Rattle.sa_abstract.specs.Setting.{Setting}
@@ -27,7 +27,7 @@ abbrev start : Spot
 start = record { pc = 0; regs = loop_regs }
 
 -- the jump stays where it is
-stays : (instr : Instr) → true ≡ jumps_to_itself instr → record { pc = place_after instr 0 loop_regs; regs = regs_after instr loop_regs } ≡ start
+stays : (instr : Instr) → true ≡ jumps_to_itself instr → record { pc = pc_after instr 0 loop_regs; regs = regs_after instr loop_regs } ≡ start
 stays (Jnz R0 zero) is = refl
 stays instr is = absurd (cc)
 

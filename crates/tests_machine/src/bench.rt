@@ -51,7 +51,7 @@ fn has(rt: &impl Abort, trace: &Trace, events: &[Event]) {
 // Whether the run goes on, with a turn of the processor.
 fn can_turn<U: UserLevel>(core: &Core<U>, p: ProcNo) -> bool
     ensures within { IsTrue result → p.0 < (machine core.now).workload.processors }
-    ensures goes_on { IsTrue result → end_of U.calls core.now.budget (machine core.now) ≡ None }
+    ensures not_ended { IsTrue result → end_of U.calls core.now.budget (machine core.now) ≡ None }
 {
     p.0 < core.workload().processors() && core.end().is_none()
 }

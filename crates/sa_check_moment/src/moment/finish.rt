@@ -4,7 +4,7 @@
 ghost use Rattle.std.specs.Prelude.{◌≡◌, ◌+◌, IfOk, OnOk};
 ghost use Rattle.std.specs.List.{list_any};
 ghost use Rattle.sa_laws.specs.Readings.{Readings, running_of, life_if};
-ghost use Rattle.sa_laws.specs.History.{is_up, goes_on};
+ghost use Rattle.sa_laws.specs.History.{is_up, is_running_or_blocked};
 ghost use Rattle.sa_check_lives.specs.View.{lives_of};
 ghost use Rattle.sa_check_moment.specs.Seen.{seen, at_end, lowers};
 ghost use Rattle.sa_check_moment.specs.Ending.{is_in, is_in_if, settles_by, scan_by, step_with, step_by, up_by, stepped_if, arisen_if};
@@ -140,7 +140,7 @@ impl Moment {
 
 // A thread there runs or is blocked.
 fn runs_or_is_blocked(place: Place) -> bool
-    ensures { result ≡ goes_on place }
+    ensures { result ≡ is_running_or_blocked place }
 {
     matches!(place, Place::Running(_) | Place::Blocked)
 }

@@ -48,7 +48,7 @@ struct Before {
     // A take of the life that runs on the processor is for a push, where the record is one.
     for_push: bool,
     // The I/O that the record begins.
-    begun: Option<NewIo>,
+    new_io: Option<NewIo>,
     // The list into which a thread is put that the record makes ready.
     list: ProcNo,
 }
@@ -81,7 +81,7 @@ impl Moment {
     {
         let before = Before {
             for_push: self.push_at(p, what),
-            begun: self.begun_by(what),
+            new_io: self.begun_by(what),
             list: self.list_at(p, what),
         };
         let parts: &mut Parts = &mut self.parts;
@@ -189,7 +189,7 @@ impl Moment {
 
     // The I/O that the record begins.
     fn begun_by(&self, what: &Record) -> Option<NewIo>
-        ensures begun { result ≡ begun_by (seen self.now).workload (seen self.now).readings what.now }
+        ensures new_io { result ≡ begun_by (seen self.now).workload (seen self.now).readings what.now }
         ensures page { IfSome result (λ b. HasPage b.kind) }
     {
         match *what {
@@ -204,7 +204,7 @@ impl Moment {
 
     // What the block of a life is for.
     fn blocking(&self, s: SpaceNo, t: Option<ThreadNo>, a: ActNo) -> NewIo
-        ensures begun { result ≡ blocking (seen self.now).workload (seen self.now).readings s t a }
+        ensures new_io { result ≡ blocking (seen self.now).workload (seen self.now).readings s t a }
         ensures page { HasPage result.kind }
     {
         match self.length_behind(s, t) {
@@ -309,15 +309,15 @@ fn read_parts(
     before: Before,
 ) -> Result<(), AllocError>
     requires can { CanChange replay.old.workload item.proc replay.old.state item.what }
-    requires page { IfSome before.begun (λ b. HasPage b.kind) }
+    requires page { IfSome before.new_io (λ b. HasPage b.kind) }
     ensures replay { OnOk result (replay.new ≡ after item.proc replay.old item.what) }
     ensures lives { OnOk result (lives_of lives.new
         ≡ recorded replay.new.roused before.for_push item.proc item.what (lives_of lives.old)) }
     ensures pending { OnOk result (pending.new
-        ≡ pending_after before.begun item.event item.what pending.old) }
+        ≡ pending_after before.new_io item.event item.what pending.old) }
     ensures ready { OnOk result (ready.new ≡ ready_after before.list item.what ready.old) }
 {
-    read_pending(pending, item.event, &item.what, before.begun)?;
+    read_pending(pending, item.event, &item.what, before.new_io)?;
     read_ready(ready, &item.what, before.list)?;
     replay.change(item.proc, &item.what)?;
     lives.read(item.proc, item.what, replay.roused(), before.for_push)
@@ -328,13 +328,13 @@ fn read_pending(
     pending: &mut Pending,
     event: u64,
     what: &Record,
-    begun: Option<NewIo>,
+    new_io: Option<NewIo>,
 ) -> Result<(), AllocError>
-    requires { IfSome begun (λ b. HasPage b.kind) }
-    ensures { OnOk result (pending.new ≡ pending_after begun event what.now pending.old) }
+    requires { IfSome new_io (λ b. HasPage b.kind) }
+    ensures { OnOk result (pending.new ≡ pending_after new_io event what.now pending.old) }
 {
-    match begun {
-        Some(begun) => pending.begin(begun.kind, event, begun.length),
+    match new_io {
+        Some(new_io) => pending.begin(new_io.kind, event, new_io.length),
         None => {
             end_one(pending, what);
             Ok(())

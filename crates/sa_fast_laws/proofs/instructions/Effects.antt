@@ -27,7 +27,7 @@ use Rattle.sa_fast.specs.declared.threads.Block.{Block}
 use Rattle.sa_fast.specs.declared.threads.Place.{Place as KeptPlace}
 use Rattle.sa_fast.specs.declared.threads.Place.TheVariants as fast
 use Rattle.sa_laws.specs.Effect.{Effect, effect, next, next_with, answered, sync_effect, fork_effect, join_effect, effect_of}
-use Rattle.sa_laws.specs.History.{goes_on}
+use Rattle.sa_laws.specs.History.{is_running_or_blocked}
 use Rattle.sa_laws.specs.State.{Thread, SpaceState, at_start, thread_in, with_thread as with_laws, is_active, active_threads}
 use Rattle.sa_laws.specs.declared.place.Place.{Place}
 use Rattle.sa_laws.specs.declared.place.Place.TheVariants as place
@@ -207,7 +207,7 @@ module _ (x : Shared) (ys : List Thread) (w : Option ThreadNo) (t : ThreadNo) (b
   -- WHAT CHANGES is the thread alone, but for a new one after all that were made
   abbrev pub AnswerIs : Ran → KeptPlace → Place → Type 0
   AnswerIs Goes bp ap = (bp ≡ b.place) × (ap ≡ zp)
-  AnswerIs Leaves bp ap = (is_loaded bp ≡ false) × (is_active ap ≡ false) × (goes_on ap ≡ false)
+  AnswerIs Leaves bp ap = (is_loaded bp ≡ false) × (is_active ap ≡ false) × (is_running_or_blocked ap ≡ false)
   AnswerIs (Blocks n page) bp ap = (bp ≡ fast.Blocked) × (ap ≡ zp)
 
   pub record Changes (o : Outcome) (f : Effect) : Type 0 where

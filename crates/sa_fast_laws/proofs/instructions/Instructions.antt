@@ -35,7 +35,7 @@ use Rattle.sa_package_model.specs.declared.context.ContextState.{ContextState}
 use Rattle.sa_package_model.specs.declared.context.ContextState.TheVariants.{User}
 use Rattle.sa_package_model.specs.declared.package.Package.{Package}
 use Rattle.sa_laws.specs.Effect.{Effect, effect_of}
-use Rattle.sa_laws.specs.History.{goes_on}
+use Rattle.sa_laws.specs.History.{is_running_or_blocked}
 use Rattle.sa_laws.specs.Life.{Life, with_hand}
 use Rattle.sa_laws.specs.Machine.{next_effect}
 use Rattle.sa_laws.specs.Readings.{Readings, running_of, life_of}
@@ -288,18 +288,18 @@ module _ (set : Setting) (e : ℕ) (u : Package) (cs : Contexts Context) (h : Is
         subst (λ x. AnswerIs u.shared ys None t b zp fits_now sits made inside x changes.block.place changes.changed.place) goes changes.answers in
         place_here ∙ is_so.1 ∙ runs_there
 
-    pub ins-leaves : o.answer ≡ Leaves → goes_on (thread_in (space_at q.state s) t).place ≡ false
+    pub ins-leaves : o.answer ≡ Leaves → is_running_or_blocked (thread_in (space_at q.state s) t).place ≡ false
     ins-leaves leaves =
         let is_so =
         subst (λ x. AnswerIs u.shared ys None t b zp fits_now sits made inside x changes.block.place changes.changed.place) leaves changes.answers in
-        ap goes_on place_here ∙ is_so.2
+        ap is_running_or_blocked place_here ∙ is_so.2
 
   -- ALL OF IT: what the package's instruction does is known from what all of them are
   pub record IsIns (state : ContextState) : Type 0 where
     pub held : IsHeld s r q u v a c (record { state = state; sections = []; work = o.work })
     pub lists : o.shared.state.lists.lists ≡ u.shared.state.lists.lists
     pub goes : o.answer ≡ Goes → (thread_in (space_at q.state s) t).place ≡ place.Running life.proc
-    pub leaves : o.answer ≡ Leaves → goes_on (thread_in (space_at q.state s) t).place ≡ false
+    pub leaves : o.answer ≡ Leaves → is_running_or_blocked (thread_in (space_at q.state s) t).place ≡ false
 
   pub ins-is : (can : IsThere u.shared ys None t b zp fits_now sits made inside pages i) (state : ContextState) → section_in state ≡ None
       → in_copy state ≡ false

@@ -25,7 +25,7 @@ use Rattle.sa_laws.specs.State.{space_at, thread_in}
 use Rattle.sa_laws.specs.Step.{StandsIn}
 use Rattle.sa_laws.specs.declared.place.Place.TheVariants as place
 use Rattle.sa_user_laws.specs.Moments.{AreSized}
-use Rattle.sa_user_laws.specs.Scene.{IsOfSpace, begun_at}
+use Rattle.sa_user_laws.specs.Scene.{IsOfSpace, event_begun_at}
 use Rattle.sa_fast_laws.proofs.relation.EventEnds.{begun-holds}
 use Rattle.sa_fast_laws.proofs.relation.NoteLists.{any-note}
 use Rattle.sa_fast_laws.proofs.relation.Notices.{note_of}
@@ -66,9 +66,9 @@ module _ {C : Type 0} (look : C → View) (base : C → Context) (bs : Contexts 
 
   -- A STOP, by the first record of an event: the life was idle exactly where its context shows so.
   pub stop-fits : running_of r p ≡ Some a
-      → LivesFit look s.space (after_record w number p (begun_at w number p r) (records.Stop s.space (carried_by (base c).state) a)) u bs cs
+      → LivesFit look s.space (after_record w number p (event_begun_at w number p r) (records.Stop s.space (carried_by (base c).state) a)) u bs cs
   stop-fits runs =
-      let r0 = begun_at w number p r in
+      let r0 = event_begun_at w number p r in
       let o = carried_by (base c).state in
       let q = after_record w number p r0 (records.Stop s.space o a) in
       let holds : Holds s.space r0 u bs = begun-holds s.space r u bs w (record { number = number; proc = p; records = [] }) k.holds in

@@ -17,7 +17,7 @@ use Rattle.sa_package_model.specs.declared.context.Context.{Context}
 use Rattle.sa_package_model.specs.declared.package.Package.{Package}
 use Rattle.sa_laws.specs.Demand.{DemandIsAnnounced}
 use Rattle.sa_laws.specs.Event.{Event}
-use Rattle.sa_laws.specs.History.{Test, is_inside, is_step, is_up, stepped, arisen, with_step, ended, begun}
+use Rattle.sa_laws.specs.History.{Test, is_inside, is_step, is_up, stepped, arisen, with_step, ended, event_begun}
 use Rattle.sa_laws.specs.Life.{Life}
 use Rattle.sa_laws.specs.Locks.{LocksAreKept, OrderIsKept}
 use Rattle.sa_laws.specs.Readings.{Readings, running_of, life_of, untold_of, ready_of, stopped_thread}
@@ -64,8 +64,8 @@ same-holds s r q u cs i k =
 
 -- the moment after an event's beginning
 pub begun-holds : (s : SpaceNo) (r : Readings) (u : Package) (cs : Contexts Context) (w : WorkloadView) (ev : Event) → Holds s r u cs
-    → Holds s (begun w ev r) u cs
-begun-holds s r u cs w ev k = same-holds s r (begun w ev r) u cs (record { space = refl; untold = refl; running = refl; lives = refl }) k
+    → Holds s (event_begun w ev r) u cs
+begun-holds s r u cs w ev k = same-holds s r (event_begun w ev r) u cs (record { space = refl; untold = refl; running = refl; lives = refl }) k
 
 -- a closing has no up
 raising-ups : (xs : List Record) → AreRaising xs → list_any is_up xs ≡ false
@@ -83,7 +83,7 @@ closing-ups (x ∷ xs) h = absurd h
 
 -- THE RULES of an event of one operation on lists, with a closing after it
 pub record Follows (w : WorkloadView) (r : Readings) (ev : Event) (own : List Record) : Type 0 where
-  pub steps : IsStep w (begun w ev r) ev.proc own
+  pub steps : IsStep w (event_begun w ev r) ev.proc own
   pub demand : DemandIsAnnounced w r ev
   pub locks : LocksAreKept w r ev
   pub order : OrderIsKept w r ev

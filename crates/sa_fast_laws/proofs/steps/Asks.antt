@@ -28,7 +28,7 @@ use Rattle.sa_laws.specs.Rules.{fast_threads}
 use Rattle.sa_laws.specs.State.{space_at}
 use Rattle.sa_laws.specs.Turns.{is_of_locks, StepBy}
 use Rattle.sa_user_laws.specs.Moments.{AlikeButDemands, Sees}
-use Rattle.sa_user_laws.specs.Scene.{begun_at}
+use Rattle.sa_user_laws.specs.Scene.{event_begun_at}
 use Rattle.sa_user_laws.specs.Steps.{event_with, IsClosed, IsLegalAsk, RulesHold, records_asked}
 use Rattle.sa_fast_laws.proofs.relation.EventEnds.{same-holds, closing-ups, ended-fits}
 use Rattle.sa_fast_laws.proofs.relation.Stages.{stage-same, others-stay}
@@ -49,17 +49,17 @@ pub record IsAsking (set : Setting) (e : ℕ) (u : Package) (cs : Contexts Conte
   pub no_up : list_any is_up (x ∷ xs) ≡ false
   pub back : is_back x ≡ back_is_due life
   -- after them its own life is what it was, and so are those of other contexts
-  pub running : (after_records w seen.event p (begun_at w seen.event p r) (x ∷ xs)).running ≡ r.running
-  pub ready : (after_records w seen.event p (begun_at w seen.event p r) (x ∷ xs)).ready ≡ r.ready
-  pub untold : (after_records w seen.event p (begun_at w seen.event p r) (x ∷ xs)).untold ≡ r.untold
-  pub elsewhere : (z : SpaceNo) → space_at (after_records w seen.event p (begun_at w seen.event p r) (x ∷ xs)).state z ≡ space_at r.state z
+  pub running : (after_records w seen.event p (event_begun_at w seen.event p r) (x ∷ xs)).running ≡ r.running
+  pub ready : (after_records w seen.event p (event_begun_at w seen.event p r) (x ∷ xs)).ready ≡ r.ready
+  pub untold : (after_records w seen.event p (event_begun_at w seen.event p r) (x ∷ xs)).untold ≡ r.untold
+  pub elsewhere : (z : SpaceNo) → space_at (after_records w seen.event p (event_begun_at w seen.event p r) (x ∷ xs)).state z ≡ space_at r.state z
   pub lives : (b : ActNo) (d : Context) → cs b.0 ≡ Some d
-      → life_of (after_records w seen.event p (begun_at w seen.event p r) (x ∷ xs)) b ≡ life_of r b
+      → life_of (after_records w seen.event p (event_begun_at w seen.event p r) (x ∷ xs)) b ≡ life_of r b
   pub holds : (later : Seen)
-      → Holds set.space (after_records w seen.event p (begun_at w seen.event p r) (x ∷ xs)) u (put cs a.0 (Some (answered u later c).1))
+      → Holds set.space (after_records w seen.event p (event_begun_at w seen.event p r) (x ∷ xs)) u (put cs a.0 (Some (answered u later c).1))
   pub marks : (ev : Event) (last : Readings) (later : Seen)
       → IsBehind set e u (put cs a.0 (Some (answered u later c).1)) a (answered u later c).1 life later
-      (after_records w seen.event p (begun_at w seen.event p r) (x ∷ xs)) last
+      (after_records w seen.event p (event_begun_at w seen.event p r) (x ∷ xs)) last
       → IsMarked (view (answered u later c).1) (ends is_inside w r ev last x life)
 
 -- what is known after them and the closing
@@ -68,9 +68,9 @@ module _ (set : Setting) (e : ℕ) (u : Package) (cs : Contexts Context) (w : Wo
     (i : IsScene set e u cs w r p a life c seen) {answer : Step} {x : Record} {xs : List Record}
     (m : IsAsking set e u cs w r p a life c seen answer x xs)
     (last : Readings) (later : Seen)
-    (same : AlikeButDemands (after_records w seen.event p (begun_at w seen.event p r) (x ∷ xs)) last) (sees : Sees set.space last p seen.event later) where
+    (same : AlikeButDemands (after_records w seen.event p (event_begun_at w seen.event p r) (x ∷ xs)) last) (sees : Sees set.space last p seen.event later) where
   abbrev q : Readings
-  q = after_records w seen.event p (begun_at w seen.event p r) (x ∷ xs)
+  q = after_records w seen.event p (event_begun_at w seen.event p r) (x ∷ xs)
 
   abbrev new : Context
   new = (answered u later c).1
@@ -111,15 +111,15 @@ module _ (set : Setting) (e : ℕ) (u : Package) (cs : Contexts Context) (w : Wo
     (i : IsFastScene set e u cs w r p a life c seen) where
   -- what FastThreads' rules ask of it
   pub record MayAsk (x : Record) (xs : List Record) : Type 0 where
-    pub table : StepBy w (begun_at w seen.event p r) p a life x xs
-    pub keeps : KeepsLocks w (begun_at w seen.event p r) p life x
+    pub table : StepBy w (event_begun_at w seen.event p r) p a life x xs
+    pub keeps : KeepsLocks w (event_begun_at w seen.event p r) p life x
     pub alone : StandsAlone (list_any is_of_locks (x ∷ xs)) xs
     pub free : IsFree w r life x
     pub next : (behind : List Record) → RunsNext r p (x ∷ behind)
 
   module _ {answer : Step} {x : Record} {xs : List Record} (m : IsAsking set e u cs w r p a life c seen answer x xs) (t : MayAsk x xs) where
     abbrev asked : Readings
-    asked = after_records w seen.event p (begun_at w seen.event p r) (x ∷ xs)
+    asked = after_records w seen.event p (event_begun_at w seen.event p r) (x ∷ xs)
 
     pub ask-legal : IsLegalAsk fast_calls fast_threads fast_fits w set r p seen.event a cs (asks (pair u c) answer)
     ask-legal = record {
@@ -132,14 +132,14 @@ module _ (set : Setting) (e : ℕ) (u : Package) (cs : Contexts Context) (w : Wo
           (xs ++ closing) i.scene.on.runs i.scene.on.is refl closed.is_own m.first t.table t.keeps m.back t.alone t.free (t.next (xs ++ closing)) in
           record { steps = follows.steps; demand = follows.demand; locks = follows.locks; order = follows.order });
       after = subst (λ own. (closing : List Record) (later : Seen) → IsClosed own closing
-          → AlikeButDemands (after_records w seen.event p (begun_at w seen.event p r) own)
-          (after_records w seen.event p (begun_at w seen.event p r) (own ++ closing))
-          → Sees set.space (after_records w seen.event p (begun_at w seen.event p r) (own ++ closing)) p seen.event later
+          → AlikeButDemands (after_records w seen.event p (event_begun_at w seen.event p r) own)
+          (after_records w seen.event p (event_begun_at w seen.event p r) (own ++ closing))
+          → Sees set.space (after_records w seen.event p (event_begun_at w seen.event p r) (own ++ closing)) p seen.event later
           → fast_fits w set (after_event is_inside w r (event_with seen.event p own closing)) u (put (put cs a.0 (Some c)) a.0 (Some (answered u later c).1)))
           (sym m.records)
           (λ closing later closed same sees.
           let ev = event_with seen.event p (x ∷ xs) closing in
-          let last = after_records w seen.event p (begun_at w seen.event p r) ((x ∷ xs) ++ closing) in
+          let last = after_records w seen.event p (event_begun_at w seen.event p r) ((x ∷ xs) ++ closing) in
           let new = (answered u later c).1 in
           let b = ask-behind set e u cs w r p a life c seen i.scene m last later same sees in
           subst (fast_fits w set (after_event is_inside w r ev) u) (sym (put-put cs a.0 (Some c) (Some new)))

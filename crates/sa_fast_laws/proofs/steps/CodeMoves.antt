@@ -30,7 +30,7 @@ use Rattle.sa_abstract.specs.Setting.{Setting}
 use Rattle.sa_package_model.proofs.Able.{step_can}
 use Rattle.sa_package_model.proofs.Views.{settled_between, yields_between, section_fits, has_copy}
 use Rattle.sa_package_model.specs.Context.{at_copy, has_some, settled_to, has_bulk}
-use Rattle.sa_package_model.specs.Rules.{placed, pair, did, coded_by, with_shared, with_package, goes_on, owed, settled, put_last}
+use Rattle.sa_package_model.specs.Rules.{placed, pair, did, coded_by, with_shared, with_package, context_after, owed, settled, put_last}
 use Rattle.sa_package_model.specs.Stands.{Fits as FitsOp, StandsAt}
 use Rattle.sa_package_model.specs.Step.{stepped}
 use Rattle.sa_package_model.specs.declared.context.Context.{Context}
@@ -42,7 +42,7 @@ use Rattle.sa_laws.specs.Life.{Life, some_lock}
 use Rattle.sa_laws.specs.Locks.{back_is_due}
 use Rattle.sa_laws.specs.Readings.{Readings, has_hand, demand_of, usable, many_taken, is_resident, carried_by as runs_by}
 use Rattle.sa_laws.specs.State.{runner_on, runner_of}
-use Rattle.sa_user_laws.specs.Scene.{begun_at}
+use Rattle.sa_user_laws.specs.Scene.{event_begun_at}
 use Rattle.sa_fast_laws.proofs.relation.EventEnds.{begun-holds}
 use Rattle.sa_fast_laws.proofs.relation.InCode.{push_at, pop_at, free_at, section-copy}
 use Rattle.sa_fast_laws.proofs.relation.InsideMarks.{settled-copy}
@@ -100,7 +100,7 @@ module _ (set : Setting) (e : ℕ) (u : Package) (cs : Contexts Context) (w : Wo
   s = set.space
 
   abbrev r0 : Readings
-  r0 = begun_at w seen.event p r
+  r0 = event_begun_at w seen.event p r
 
   abbrev n : ℕ
   n = seen.event
@@ -108,7 +108,7 @@ module _ (set : Setting) (e : ℕ) (u : Package) (cs : Contexts Context) (w : Wo
   abbrev Move : Record → Package → Context → Type 0
   Move x v new = IsMove set u cs w r p a life (record { state = Code f; sections = fs; work = wk }) seen x [] v new
 
-  pub k0 : Holds set.space (begun_at w seen.event p r) u cs
+  pub k0 : Holds set.space (event_begun_at w seen.event p r) u cs
   k0 = begun-holds set.space r u cs w (record { number = seen.event; proc = p; records = [] }) i.holds
 
   mark : IsOwnMarked c life
@@ -141,7 +141,7 @@ module _ (set : Setting) (e : ℕ) (u : Package) (cs : Contexts Context) (w : Wo
   not_yield : (op : Op) → slice_get package_ops f.pc ≡ Some op → is_yield_op (Some op) ≡ false → false ≡ back_is_due life
   not_yield op is none = sym (mark.back ∙ ap is_yield_op is ∙ none)
 
-  pub page : is_page_resident seen.pages PACKAGE_PAGE ≡ true → is_resident (begun_at w seen.event p r) set.space PACKAGE_PAGE ≡ true
+  pub page : is_page_resident seen.pages PACKAGE_PAGE ≡ true → is_resident (event_begun_at w seen.event p r) set.space PACKAGE_PAGE ≡ true
   page there = ap (λ m. is_page_resident m PACKAGE_PAGE) (sym i.sees.pages) ∙ there
 
   -- the marks of a context in a section
@@ -211,8 +211,8 @@ module _ (set : Setting) (e : ℕ) (u : Package) (cs : Contexts Context) (w : Wo
             ∙ ap (λ o. coded_by u seen c f o m micros.Did) (op_is ∙ op)
             ∙ ap
             (λ o. let z = with_shared u (placed (record u.shared { state = m.state }) o kept.Ready) in
-            did (pair z (goes_on z seen c g (slice_get u.shared.state.code (f.pc + 1)))) (records.Ready u.shared.state.space t ∷ [])) pushes
-            ∙ ap (λ o. did (pair v (goes_on v seen c g o)) (records.Ready u.shared.state.space t ∷ [])) next
+            did (pair z (context_after z seen c g (slice_get u.shared.state.code (f.pc + 1)))) (records.Ready u.shared.state.space t ∷ [])) pushes
+            ∙ ap (λ o. did (pair v (context_after v seen c g o)) (records.Ready u.shared.state.space t ∷ [])) next
             ∙ ap (λ o. did (pair v new) (records.Ready o t ∷ [])) space;
         first = refl;
         no_up = refl;
@@ -266,7 +266,7 @@ module _ (set : Setting) (e : ℕ) (u : Package) (cs : Contexts Context) (w : Wo
         step =
             ap (λ (y : Micro). coded_by u seen c f (slice_get u.shared.state.code f.pc) y y.done) is
             ∙ ap (λ o. coded_by u seen c f o m micros.Did) (op_is ∙ op)
-            ∙ ap (λ o. did (pair v (goes_on v seen c g o)) (records.Run u.shared.state.space (thread t) ∷ [])) next
+            ∙ ap (λ o. did (pair v (context_after v seen c g o)) (records.Run u.shared.state.space (thread t) ∷ [])) next
             ∙ ap (λ o. did (pair v new) (records.Run o (thread t) ∷ [])) space;
         first = refl;
         no_up = refl;
@@ -304,16 +304,16 @@ module _ (set : Setting) (e : ℕ) (u : Package) (cs : Contexts Context) (w : Wo
   free_step : slice_get package_ops f.pc ≡ Some ops.Free → micro u.shared.state f seen.pages ≡ freed u.shared.state f (list_in f) → (o : Option Op)
       → slice_get package_ops (f.pc + 1) ≡ o
       → let v = with_package u (freed u.shared.state f (list_in f)).state in
-      stepped u seen c ≡ did (pair v (goes_on v seen c (record f { pc = f.pc + 1 }) o)) (records.Free set.space (list_in f) f.thread ∷ [])
+      stepped u seen c ≡ did (pair v (context_after v seen c (record f { pc = f.pc + 1 }) o)) (records.Free set.space (list_in f) f.thread ∷ [])
   free_step op is o at =
       let v = with_package u (freed u.shared.state f (list_in f)).state in
       let g : Frame = record f { pc = f.pc + 1 } in
       let m = freed u.shared.state f (list_in f) in
       ap (λ (y : Micro). coded_by u seen c f (slice_get u.shared.state.code f.pc) y y.done) is
       ∙ ap (λ o. coded_by u seen c f o m micros.Did) (op_is ∙ op)
-      ∙ ap (λ o. did (pair v (goes_on v seen c g o)) (records.Free u.shared.state.space (list_in f) f.thread ∷ []))
+      ∙ ap (λ o. did (pair v (context_after v seen c g o)) (records.Free u.shared.state.space (list_in f) f.thread ∷ []))
       (ap (λ ops. slice_get ops (f.pc + 1)) i.stands.code ∙ at)
-      ∙ ap (λ q. did (pair v (goes_on v seen c g o)) (records.Free q (list_in f) f.thread ∷ [])) space
+      ∙ ap (λ q. did (pair v (context_after v seen c g o)) (records.Free q (list_in f) f.thread ∷ [])) space
 
   -- within a copy
   pub free-copy-move : (op : slice_get package_ops f.pc ≡ Some ops.Free) → micro u.shared.state f seen.pages ≡ freed u.shared.state f (list_in f)

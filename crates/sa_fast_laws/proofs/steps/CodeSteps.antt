@@ -22,7 +22,7 @@ use Rattle.sa_package_model.specs.declared.context.ContextState.TheVariants.{Cod
 use Rattle.sa_package_model.specs.declared.package.Package.{Package}
 use Rattle.sa_laws.specs.Life.{Life}
 use Rattle.sa_laws.specs.Readings.{Readings, is_resident}
-use Rattle.sa_user_laws.specs.Scene.{begun_at}
+use Rattle.sa_user_laws.specs.Scene.{event_begun_at}
 use Rattle.sa_fast_laws.proofs.relation.EventEnds.{begun-holds}
 use Rattle.sa_fast_laws.specs.FastFits.{Holds}
 use Rattle.sa_fast_laws.proofs.steps.Scenes.{IsScene}
@@ -44,7 +44,7 @@ module _ (set : Setting) (e : ℕ) (u : Package) (cs : Contexts Context) (w : Wo
   c = record { state = Code f; sections = fs; work = wk }
 
   abbrev r0 : Readings
-  r0 = begun_at w seen.event p r
+  r0 = event_begun_at w seen.event p r
 
   abbrev n : ℕ
   n = seen.event
@@ -55,7 +55,7 @@ module _ (set : Setting) (e : ℕ) (u : Package) (cs : Contexts Context) (w : Wo
   i : IsScene set e u cs w r p a life (record { state = Code f; sections = fs; work = wk }) seen
   i = z.scene
 
-  k0 : Holds set.space (begun_at w seen.event p r) u cs
+  k0 : Holds set.space (event_begun_at w seen.event p r) u cs
   k0 = begun-holds set.space r u cs w (record { number = seen.event; proc = p; records = [] }) i.holds
 
   known : set.space.0 < length r.state.spaces
@@ -64,7 +64,7 @@ module _ (set : Setting) (e : ℕ) (u : Package) (cs : Contexts Context) (w : Wo
   named : set.space.0 < length r.ready
   named = scene.named set e u cs w r p a life c seen i
 
-  page : is_page_resident seen.pages PACKAGE_PAGE ≡ true → is_resident (begun_at w seen.event p r) set.space PACKAGE_PAGE ≡ true
+  page : is_page_resident seen.pages PACKAGE_PAGE ≡ true → is_resident (event_begun_at w seen.event p r) set.space PACKAGE_PAGE ≡ true
   page there = ap (λ m. is_page_resident m PACKAGE_PAGE) (sym i.sees.pages) ∙ there
 
   ready-legal : (t : ThreadNo) → slice_get package_ops f.pc ≡ Some ops.Push → f.pushed ≡ Some t

@@ -33,7 +33,7 @@ use Rattle.sa_laws.specs.Readings.{Readings, life_of, taken_of, untold_of, stopp
 use Rattle.sa_laws.specs.Record.{after_record}
 use Rattle.sa_laws.specs.State.{runner_of, space_at}
 use Rattle.sa_laws.specs.Turns.{is_of_locks}
-use Rattle.sa_user_laws.specs.Scene.{begun_at}
+use Rattle.sa_user_laws.specs.Scene.{event_begun_at}
 use Rattle.sa_fast_laws.proofs.relation.EventEnds.{begun-holds}
 use Rattle.sa_fast_laws.proofs.relation.InsideMarks.{settled-copy, settled-left, settled-looks}
 use Rattle.sa_fast_laws.proofs.relation.NoteLists.{notes-same}
@@ -115,7 +115,7 @@ gives-plain (b ∷ bs) = gives-plain bs
 module _ (set : Setting) (e : ℕ) (u : Package) (cs : Contexts Context) (w : WorkloadView) (r : Readings) (p : ProcNo) (a : ActNo) (life : Life)
     (seen : Seen) where
   abbrev r0 : Readings
-  r0 = begun_at w seen.event p r
+  r0 = event_begun_at w seen.event p r
 
   abbrev n : ℕ
   n = seen.event
@@ -125,7 +125,7 @@ module _ (set : Setting) (e : ℕ) (u : Package) (cs : Contexts Context) (w : Wo
     abbrev c : Context
     c = record { state = Return; sections = []; work = None }
 
-    k0 : Holds set.space (begun_at w seen.event p r) u cs
+    k0 : Holds set.space (event_begun_at w seen.event p r) u cs
     k0 = begun-holds set.space r u cs w (record { number = seen.event; proc = p; records = [] }) i.holds
 
     pub many-taken : has_bulk seen ≡ true → BULK_RETURN ≤ length (taken_of r life.space)

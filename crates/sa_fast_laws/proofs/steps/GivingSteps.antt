@@ -31,7 +31,7 @@ use Rattle.sa_laws.specs.Readings.{Readings, demand_of, usable, many_taken, take
 use Rattle.sa_laws.specs.Rules.{fast_threads}
 use Rattle.sa_laws.specs.Turns.{is_of_locks}
 use Rattle.sa_laws.proofs.Records.{alone-plain}
-use Rattle.sa_user_laws.specs.Scene.{begun_at}
+use Rattle.sa_user_laws.specs.Scene.{event_begun_at}
 use Rattle.sa_user_laws.specs.Steps.{event_with, records_asked, IsLegalAnswer, IsLegalAsk}
 use Rattle.sa_fast_laws.proofs.relation.EventEnds.{begun-holds}
 use Rattle.sa_fast_laws.proofs.relation.InsideMarks.{owed_by}
@@ -59,7 +59,7 @@ module _ (set : Setting) (e : ℕ) (u : Package) (cs : Contexts Context) (w : Wo
   s = set.space
 
   abbrev r0 : Readings
-  r0 = begun_at w seen.event p r
+  r0 = event_begun_at w seen.event p r
 
   -- ALL THAT WAS TAKEN is given back
   module _ (y : IsFastScene set e u cs w r p a life (record { state = Return; sections = []; work = None }) seen) (bulk : has_bulk seen ≡ true) where
@@ -69,10 +69,10 @@ module _ (set : Setting) (e : ℕ) (u : Package) (cs : Contexts Context) (w : Wo
     j : IsScene set e u cs w r p a life (record { state = Return; sections = []; work = None }) seen
     j = y.scene
 
-    k0 : Holds set.space (begun_at w seen.event p r) u cs
+    k0 : Holds set.space (event_begun_at w seen.event p r) u cs
     k0 = begun-holds set.space r u cs w (record { number = seen.event; proc = p; records = [] }) j.holds
 
-    stays_here : is_gone (stage_of (begun_at w seen.event p r) set.space a life) ≡ false
+    stays_here : is_gone (stage_of (event_begun_at w seen.event p r) set.space a life) ≡ false
     stays_here = ap is_gone (k0.runs p a life j.on.runs j.on.is j.on.space).2
 
     pub give-legal : IsLegal w set r p seen.event a cs (asks (pair u (record { state = Return; sections = []; work = None })) asked.GiveBack)
@@ -155,14 +155,14 @@ module _ (set : Setting) (e : ℕ) (u : Package) (cs : Contexts Context) (w : Wo
     i : IsScene set e u cs w r p a life (record { state = old; sections = []; work = None }) seen
     i = y.scene
 
-    k2 : Holds set.space (begun_at w seen.event p r) u cs
+    k2 : Holds set.space (event_begun_at w seen.event p r) u cs
     k2 = begun-holds set.space r u cs w (record { number = seen.event; proc = p; records = [] }) i.holds
 
     pub settled-owes : stands_inside (settled_to t false (is_some (owed u seen)) (has_bulk seen)) ≡ false → OwesNothing w r life
     settled-owes outside =
         let both = outside_calm t (owed u seen) (has_bulk seen) outside in
         let calm = both.0 in let few = both.1 in
-        let stays_here : is_gone (stage_of (begun_at w seen.event p r) set.space a life) ≡ false =
+        let stays_here : is_gone (stage_of (event_begun_at w seen.event p r) set.space a life) ≡ false =
         ap is_gone (k2.runs p a life i.on.runs i.on.is i.on.space).2 in
         let none = nothing set e u cs i.stands s r0 k2 a old i.on.mine life i.on.is stays_here out no_copy w seen i.sees.demand in
         let processors = scene.processors set e u cs w r p a life was seen i in

@@ -101,7 +101,7 @@ module _ (set : Setting) (e : ℕ) (u : Package) (cs : Contexts Context) (h : Is
     pub can-idle : is_idle u seen looks ≡ false → CanIdle w r life
     can-idle not_idle = record {
       finds = finds;
-      goes_on = elim (cases_lt life.scans u.def.patience) [
+      no_hint_is_due = elim (cases_lt life.scans u.def.patience) [
         | inl less ↦ inl (let same = patience_is in omega arith)
         | inr more ↦ inr (elim (cases_lt (load u) seen.demand) [
           | inl above ↦ absurd (

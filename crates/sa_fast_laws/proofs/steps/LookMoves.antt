@@ -33,7 +33,7 @@ use Rattle.sa_laws.specs.Event.{Event}
 use Rattle.sa_laws.specs.History.{is_inside, stepped as ends, after_records}
 use Rattle.sa_laws.specs.Life.{Life}
 use Rattle.sa_laws.specs.Readings.{Readings, demand_of}
-use Rattle.sa_user_laws.specs.Scene.{begun_at}
+use Rattle.sa_user_laws.specs.Scene.{event_begun_at}
 use Rattle.sa_fast_laws.proofs.relation.EventEnds.{begun-holds, same-holds}
 use Rattle.sa_fast_laws.proofs.relation.InsideMarks.{settled-copy, unsettled-inside}
 use Rattle.sa_fast_laws.proofs.relation.OneLife.{IsHeld}
@@ -76,7 +76,7 @@ module _ (set : Setting) (e : ℕ) (u : Package) (cs : Contexts Context) (w : Wo
   s = set.space
 
   abbrev r0 : Readings
-  r0 = begun_at w seen.event p r
+  r0 = event_begun_at w seen.event p r
 
   abbrev n : ℕ
   n = seen.event
@@ -85,7 +85,7 @@ module _ (set : Setting) (e : ℕ) (u : Package) (cs : Contexts Context) (w : Wo
     abbrev c : Context
     c = record { state = Look looks; sections = []; work = None }
 
-    k0 : Holds set.space (begun_at w seen.event p r) u cs
+    k0 : Holds set.space (event_begun_at w seen.event p r) u cs
     k0 = begun-holds set.space r u cs w (record { number = seen.event; proc = p; records = [] }) i.holds
 
     -- what is looked for, from the list on that counts as the processor's own
@@ -166,9 +166,9 @@ module _ (set : Setting) (e : ℕ) (u : Package) (cs : Contexts Context) (w : Wo
     pub idle-move : sought u.shared.state.lists (own_list u seen.proc).0 ≡ None → is_idle u seen looks ≡ false
         → IsMove set u cs w r p a life (record { state = Look looks; sections = []; work = None }) seen records.Idle [] u behind_idle
     idle-move none calm =
-        let here = life-here set.space (begun_at w seen.event p r) u cs k0 a c life i.on.mine i.on.is in
-        let held : IsHeld set.space (begun_at w seen.event p r)
-        (after_records w seen.event p (begun_at w seen.event p r)
+        let here = life-here set.space (event_begun_at w seen.event p r) u cs k0 a c life i.on.mine i.on.is in
+        let held : IsHeld set.space (event_begun_at w seen.event p r)
+        (after_records w seen.event p (event_begun_at w seen.event p r)
         (records.Idle ∷ [])) u u a c behind_idle = still-held s r0 _ u u cs k0 a c behind_idle i.on.mine (record {
           space = refl;
           untold = refl;

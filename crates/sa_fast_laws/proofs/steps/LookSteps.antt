@@ -21,7 +21,7 @@ use Rattle.sa_package_model.specs.declared.package.Package.{Package}
 use Rattle.sa_laws.specs.Life.{Life}
 use Rattle.sa_laws.specs.Readings.{ready_of, Readings, demand_of, carried_by as runs_by}
 use Rattle.sa_laws.specs.Turns.{CanHint}
-use Rattle.sa_user_laws.specs.Scene.{begun_at}
+use Rattle.sa_user_laws.specs.Scene.{event_begun_at}
 use Rattle.sa_fast_laws.proofs.relation.EventEnds.{begun-holds}
 use Rattle.sa_fast_laws.proofs.relation.ReadyOrders.{ready-alike}
 use Rattle.sa_fast_laws.specs.FastFits.{Holds}
@@ -41,7 +41,7 @@ module _ (set : Setting) (e : ℕ) (u : Package) (cs : Contexts Context) (w : Wo
   s = set.space
 
   abbrev r0 : Readings
-  r0 = begun_at w seen.event p r
+  r0 = event_begun_at w seen.event p r
 
   abbrev n : ℕ
   n = seen.event
@@ -53,16 +53,16 @@ module _ (set : Setting) (e : ℕ) (u : Package) (cs : Contexts Context) (w : Wo
     i : IsScene set e u cs w r p a life (record { state = Look looks; sections = []; work = None }) seen
     i = y.scene
 
-    k0 : Holds set.space (begun_at w seen.event p r) u cs
+    k0 : Holds set.space (event_begun_at w seen.event p r) u cs
     k0 = begun-holds set.space r u cs w (record { number = seen.event; proc = p; records = [] }) i.holds
 
-    carries : runs_by (begun_at w seen.event p r) life ≡ None
+    carries : runs_by (event_begun_at w seen.event p r) life ≡ None
     carries = scene.carries set e u cs w r p a life c seen i
 
     inside : (own_list u seen.proc).0 < length u.shared.state.lists.lists
     inside = scene.list-inside set e u cs w r p a life c seen i
 
-    stays_there : is_gone (stage_of (begun_at w seen.event p r) set.space a life) ≡ false
+    stays_there : is_gone (stage_of (event_begun_at w seen.event p r) set.space a life) ≡ false
     stays_there = ap is_gone (k0.runs p a life i.on.runs i.on.is i.on.space).2
 
     patient : u.def.patience ≤ MAX_PATIENCE
@@ -117,7 +117,7 @@ module _ (set : Setting) (e : ℕ) (u : Package) (cs : Contexts Context) (w : Wo
         subst (IsLegal w set r p seen.event a cs) (sym (lower-is set e u cs w r p a life seen looks i none idle)) (record {
           steps = tt;
           answer = ask-legal set e u cs w r p a life c seen y (lower-move set e u cs w r p a life seen looks i less) (record {
-            table = (refl, sym i.on.space, subst (λ b. CanHint b w (begun_at w seen.event p r) life (demand_of r set.space - 1)) (sym less) lower);
+            table = (refl, sym i.on.space, subst (λ b. CanHint b w (event_begun_at w seen.event p r) life (demand_of r set.space - 1)) (sym less) lower);
             keeps = tt;
             alone = tt;
             free = record { free = λ bound. y.free refl };
@@ -142,13 +142,13 @@ module _ (set : Setting) (e : ℕ) (u : Package) (cs : Contexts Context) (w : Wo
     j : IsScene set e u cs w r p a life (record { state = Hint t; sections = []; work = None }) seen
     j = y.scene
 
-    k1 : Holds set.space (begun_at w seen.event p r) u cs
+    k1 : Holds set.space (event_begun_at w seen.event p r) u cs
     k1 = begun-holds set.space r u cs w (record { number = seen.event; proc = p; records = [] }) j.holds
 
     pub more-legal : IsLegal w set r p seen.event a cs (asks (pair u (record { state = Hint t; sections = []; work = None })) (asked.More more))
     more-legal =
         let processors = scene.processors set e u cs w r p a life d seen j in
-        let stays_here : is_gone (stage_of (begun_at w seen.event p r) set.space a life) ≡ false =
+        let stays_here : is_gone (stage_of (event_begun_at w seen.event p r) set.space a life) ≡ false =
         ap is_gone (k1.runs p a life j.on.runs j.on.is j.on.space).2 in
         let raise =
         can-raise set e u cs j.stands s r0 k1 a (Hint t) j.on.mine life j.on.is stays_here refl refl w seen j.sees.demand more processors owes in
@@ -156,7 +156,7 @@ module _ (set : Setting) (e : ℕ) (u : Package) (cs : Contexts Context) (w : Wo
         record {
           steps = tt;
           answer = ask-legal set e u cs w r p a life d seen y (more-move set e u cs w r p a life seen t more j) (record {
-            table = (refl, sym j.on.space, subst (λ b. CanHint b w (begun_at w seen.event p r) life (demand_of r set.space + more)) (sym not_lower) raise);
+            table = (refl, sym j.on.space, subst (λ b. CanHint b w (event_begun_at w seen.event p r) life (demand_of r set.space + more)) (sym not_lower) raise);
             keeps = tt;
             alone = tt;
             free = record { free = λ bound. absurd (let no_bound = sym not_lower ∙ bound in cc) };

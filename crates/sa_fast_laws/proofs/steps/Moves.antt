@@ -28,7 +28,7 @@ use Rattle.sa_laws.specs.State.{space_at}
 use Rattle.sa_laws.specs.Step.{AreSteps}
 use Rattle.sa_user_laws.proofs.Runners.{all-elsewhere}
 use Rattle.sa_user_laws.specs.Moments.{Alike}
-use Rattle.sa_user_laws.specs.Scene.{begun_at}
+use Rattle.sa_user_laws.specs.Scene.{event_begun_at}
 use Rattle.sa_fast_laws.proofs.relation.EventEnds.{same-holds, begun-holds}
 use Rattle.sa_fast_laws.proofs.relation.OneLife.{IsHeld, held-holds}
 use Rattle.sa_fast_laws.specs.FastFits.{Holds}
@@ -58,15 +58,15 @@ pub record IsMove (set : Setting) (u : Package) (cs : Contexts Context) (w : Wor
   pub step : stepped u seen c ≡ did (pair v new) (x ∷ xs)
   pub first : is_step x ≡ true
   pub no_up : list_any is_up (x ∷ xs) ≡ false
-  pub needs : AreSteps w seen.event p (begun_at w seen.event p r) (x ∷ xs)
+  pub needs : AreSteps w seen.event p (event_begun_at w seen.event p r) (x ∷ xs)
   pub back : is_back x ≡ back_is_due life
-  pub held : IsHeld set.space (begun_at w seen.event p r) (after_records w seen.event p (begun_at w seen.event p r) (x ∷ xs)) u v a c new
-  pub demands : (after_records w seen.event p (begun_at w seen.event p r) (x ∷ xs)).demands ≡ r.demands
-  pub taken : (after_records w seen.event p (begun_at w seen.event p r) (x ∷ xs)).taken ≡ r.taken
+  pub held : IsHeld set.space (event_begun_at w seen.event p r) (after_records w seen.event p (event_begun_at w seen.event p r) (x ∷ xs)) u v a c new
+  pub demands : (after_records w seen.event p (event_begun_at w seen.event p r) (x ∷ xs)).demands ≡ r.demands
+  pub taken : (after_records w seen.event p (event_begun_at w seen.event p r) (x ∷ xs)).taken ≡ r.taken
   -- the marks of its life, by what it has and what its space announced and was given
   pub marks : (ev : Event) (last : Readings)
       → IsBehind set seen.event v (put cs a.0 (Some new)) a new held.life seen
-      (after_records w seen.event p (begun_at w seen.event p r) (x ∷ xs)) last
+      (after_records w seen.event p (event_begun_at w seen.event p r) (x ∷ xs)) last
       → IsMarked (view new) (ends is_inside w r ev last x held.life)
 
 module _ (set : Setting) (e : ℕ) (u : Package) (cs : Contexts Context) (w : WorkloadView) (r : Readings) (p : ProcNo) (a : ActNo) (life : Life)
@@ -74,7 +74,7 @@ module _ (set : Setting) (e : ℕ) (u : Package) (cs : Contexts Context) (w : Wo
     (i : IsScene set e u cs w r p a life c seen)
     {x : Record} {xs : List Record} {v : Package} {new : Context} (m : IsMove set u cs w r p a life c seen x xs v new) where
   abbrev q : Readings
-  q = after_records w seen.event p (begun_at w seen.event p r) (x ∷ xs)
+  q = after_records w seen.event p (event_begun_at w seen.event p r) (x ∷ xs)
 
   abbrev ds : Contexts Context
   ds = put cs a.0 (Some new)
@@ -83,7 +83,7 @@ module _ (set : Setting) (e : ℕ) (u : Package) (cs : Contexts Context) (w : Wo
   well = subst (IsStepped IsStanding set seen cs a.0) m.step (steps set e u cs w r p a life c seen i)
 
   pub move-holds : Holds set.space q v ds
-  move-holds = held-holds set e u cs i.stands set.space (begun_at w seen.event p r)
+  move-holds = held-holds set e u cs i.stands set.space (event_begun_at w seen.event p r)
       (begun-holds set.space r u cs w (record { number = seen.event; proc = p; records = [] }) i.holds) a c i.on.mine q v new m.held
 
   pub move-behind : (last : Readings) → Alike q last → IsBehind set seen.event v ds a new m.held.life seen q last
@@ -101,7 +101,7 @@ module _ (set : Setting) (e : ℕ) (u : Package) (cs : Contexts Context) (w : Wo
         mine = mine;
         there = there;
         carries = runs-there set seen.event v ds well.value r last i.moment holds p a new m.held.life i.on.owner runs there of mine
-            (λ z ne. ap (λ y. space_at y z) same.kernel.state ∙ all-elsewhere w seen.event p (begun_at w seen.event p r) set.space z (x ∷ xs) well.own ne);
+            (λ z ne. ap (λ y. space_at y z) same.kernel.state ∙ all-elsewhere w seen.event p (event_begun_at w seen.event p r) set.space z (x ∷ xs) well.own ne);
         demand = i.sees.demand ∙ sym (ap (λ ns. slice_index ns set.space.0) (same.demands ∙ m.demands));
         taken = i.sees.taken ∙ sym (ap (λ ns. length (slice_index_or ns set.space.0 [])) (same.kernel.taken ∙ m.taken));
         stage = (holds.runs p a m.held.life runs there of).2;

@@ -29,7 +29,7 @@ use Rattle.sa_laws.specs.Readings.{Readings, running_of, life_of, owner_of, read
 use Rattle.sa_laws.specs.State.{Runner, space_at, space_def, no_space, runner_on, runner_of}
 use Rattle.sa_user_laws.proofs.Runners.{runner-behind}
 use Rattle.sa_user_laws.specs.Moments.{IsMoment, AreSized, Sees}
-use Rattle.sa_user_laws.specs.Scene.{IsOfSpace, IsOn, begun_at}
+use Rattle.sa_user_laws.specs.Scene.{IsOfSpace, IsOn, event_begun_at}
 use Rattle.sa_fast_laws.proofs.relation.ReadyOrders.{own-list-is}
 use Rattle.sa_fast_laws.proofs.relation.Runners.{alone-runs}
 use Rattle.sa_fast_laws.specs.FastFits.{Holds, FitsLists, OthersRest}
@@ -53,7 +53,7 @@ pub record IsScene (set : Setting) (e : ℕ) (u : Package) (cs : Contexts Contex
   pub own : IsOwnMarked c life
   pub on : IsOn set.space r p a life cs c
   pub runner : runner_on r.state p ≡ runner_of set.space (carried_by c.state)
-  pub sees : Sees set.space (begun_at w seen.event p r) p seen.event seen
+  pub sees : Sees set.space (event_begun_at w seen.event p r) p seen.event seen
   -- who was taken was handed over
   pub given : (b : ActNo) → Contains (taken_of r set.space) b → cs b.0 ≡ None
   pub later : e < seen.event

@@ -14,13 +14,13 @@ use Rattle.sa_package_model.specs.declared.context.Context.{Context}
 use Rattle.sa_package_model.specs.declared.package.Package.{Package}
 use Rattle.sa_laws.specs.Demand.{IsFree, StepIsFree, StepIsFreeIf, BeginsFreely}
 use Rattle.sa_laws.specs.Event.{Event}
-use Rattle.sa_laws.specs.History.{is_step, is_up, begun, after_records}
+use Rattle.sa_laws.specs.History.{is_step, is_up, event_begun, after_records}
 use Rattle.sa_laws.specs.Life.{Life}
 use Rattle.sa_laws.specs.Locks.{KeepsLocks, KeepsLocksIf, KeepsLocksIn, StandsAlone, is_back, back_is_due, RunsNext}
 use Rattle.sa_laws.specs.Readings.{Readings, running_of, life_of, life_if, life_on, ready_of}
 use Rattle.sa_laws.specs.Shape.{own_part}
 use Rattle.sa_laws.specs.Turns.{is_of_locks, StepBy, StepIn}
-use Rattle.sa_user_laws.specs.Scene.{begun_at}
+use Rattle.sa_user_laws.specs.Scene.{event_begun_at}
 use Rattle.sa_user_laws.specs.Steps.{event_with}
 use Rattle.sa_fast_laws.proofs.relation.EventEnds.{closing-ups, Follows, ended-fits}
 use Rattle.sa_fast_laws.proofs.relation.Stages.{stage-same, others-stay}
@@ -34,24 +34,24 @@ use Rattle.sa_fast_laws.proofs.steps.Scenes.{IsFastScene}
 pub rules-of : (w : WorkloadView) (r : Readings) (ev : Event) (a : ActNo) (life : Life) (x : Record) (xs behind : List Record)
     → running_of r ev.proc ≡ Some a → life_of r a ≡ Some life
     → ev.records ≡ x ∷ behind → own_part (x ∷ behind) ≡ x ∷ xs → is_step x ≡ true
-    → StepBy w (begun w ev r) ev.proc a life x xs → KeepsLocks w (begun w ev r) ev.proc life x → is_back x ≡ back_is_due life
+    → StepBy w (event_begun w ev r) ev.proc a life x xs → KeepsLocks w (event_begun w ev r) ev.proc life x → is_back x ≡ back_is_due life
     → StandsAlone (list_any is_of_locks (x ∷ xs)) xs
     → IsFree w r life x → RunsNext r ev.proc (x ∷ behind)
     → Follows w r ev (x ∷ xs)
 rules-of w r ev a life x xs behind runs there records own step by_table keeps back alone free next =
     let on : life_on r ev.proc ≡ Some life = ap (life_if r) runs ∙ there in
     record {
-      steps = subst (λ o. StepIn w (begun w ev r) ev.proc o (life_on r ev.proc) (x ∷ xs)) (sym runs)
-          (subst (λ o. StepIn w (begun w ev r) ev.proc (Some a) o (x ∷ xs)) (sym on) by_table);
+      steps = subst (λ o. StepIn w (event_begun w ev r) ev.proc o (life_on r ev.proc) (x ∷ xs)) (sym runs)
+          (subst (λ o. StepIn w (event_begun w ev r) ev.proc (Some a) o (x ∷ xs)) (sym on) by_table);
       demand = record {
         step = λ later. subst (BeginsFreely w r ev.proc) (sym records)
             (subst (λ b. StepIsFreeIf b w r (life_on r ev.proc) x) (sym step) (subst (λ o. StepIsFree w r o x) (sym on) free));
       };
       locks = record {
-        step = λ later. subst (λ ys. KeepsLocksIn w (begun w ev r) ev.proc (own_part ys)) (sym records)
-            (subst (KeepsLocksIn w (begun w ev r) ev.proc) (sym own) (
-              subst (λ b. KeepsLocksIf b w (begun w ev r) ev.proc (life_on r ev.proc) x) (sym step)
-                  (subst (λ o. KeepsLocksIf true w (begun w ev r) ev.proc o x) (sym on) (record { keeps = keeps; back = back })),
+        step = λ later. subst (λ ys. KeepsLocksIn w (event_begun w ev r) ev.proc (own_part ys)) (sym records)
+            (subst (KeepsLocksIn w (event_begun w ev r) ev.proc) (sym own) (
+              subst (λ b. KeepsLocksIf b w (event_begun w ev r) ev.proc (life_on r ev.proc) x) (sym step)
+                  (subst (λ o. KeepsLocksIf true w (event_begun w ev r) ev.proc o x) (sym on) (record { keeps = keeps; back = back })),
               alone,
             ));
       };
@@ -70,12 +70,12 @@ module _ (set : Setting) (e : ℕ) (u : Package) (cs : Contexts Context) (w : Wo
     (i : IsFastScene set e u cs w r p a life c seen) where
   -- what the rules ask of a move that says x and then xs and leads to v, and its ready lists after it
   pub record IsAllowed (x : Record) (xs : List Record) (v : Package) : Type 0 where
-    pub table : StepBy w (begun_at w seen.event p r) p a life x xs
-    pub keeps : KeepsLocks w (begun_at w seen.event p r) p life x
+    pub table : StepBy w (event_begun_at w seen.event p r) p a life x xs
+    pub keeps : KeepsLocks w (event_begun_at w seen.event p r) p life x
     pub alone : StandsAlone (list_any is_of_locks (x ∷ xs)) xs
     pub free : IsFree w r life x
     pub next : (behind : List Record) → RunsNext r p (x ∷ behind)
-    pub lists : FitsLists v (ready_of (after_records w seen.event p (begun_at w seen.event p r) (x ∷ xs)) set.space)
+    pub lists : FitsLists v (ready_of (after_records w seen.event p (event_begun_at w seen.event p r) (x ∷ xs)) set.space)
 
   module _ {x : Record} {xs : List Record} {v : Package} {new : Context} (m : IsMove set u cs w r p a life c seen x xs v new)
       (t : IsAllowed x xs v) where
@@ -91,7 +91,7 @@ module _ (set : Setting) (e : ℕ) (u : Package) (cs : Contexts Context) (w : Wo
             record { steps = follows.steps; demand = follows.demand; locks = follows.locks; order = follows.order };
         after = λ closing closed same.
             let ev = event_with seen.event p (x ∷ xs) closing in
-            let last = after_records w seen.event p (begun_at w seen.event p r) ((x ∷ xs) ++ closing) in
+            let last = after_records w seen.event p (event_begun_at w seen.event p r) ((x ∷ xs) ++ closing) in
             let b = move-behind set e u cs w r p a life c seen i.scene m last same in
             let lists = subst (FitsLists v) (sym (ap (λ ls. slice_index_or ls set.space.0 []) same.kernel.ready)) t.lists in
             let others = others-stay set.space r last a cs

@@ -34,7 +34,7 @@ use Rattle.sa_laws.specs.Life.{Life}
 use Rattle.sa_laws.specs.Readings.{Readings, has_hand, demand_of, usable, many_taken, carried_by as runs_by}
 use Rattle.sa_laws.specs.State.{space_at}
 use Rattle.sa_laws.specs.Turns.{AnotherHas}
-use Rattle.sa_user_laws.specs.Scene.{begun_at}
+use Rattle.sa_user_laws.specs.Scene.{event_begun_at}
 use Rattle.sa_fast_laws.proofs.relation.EventEnds.{begun-holds}
 use Rattle.sa_fast_laws.proofs.relation.InsideMarks.{has-left, hand_some}
 use Rattle.sa_fast_laws.proofs.relation.Still.{still-held}
@@ -58,7 +58,7 @@ module _ (set : Setting) (e : ℕ) (u : Package) (cs : Contexts Context) (w : Wo
   s = set.space
 
   abbrev r0 : Readings
-  r0 = begun_at w seen.event p r
+  r0 = event_begun_at w seen.event p r
 
   abbrev n : ℕ
   n = seen.event
@@ -75,7 +75,7 @@ module _ (set : Setting) (e : ℕ) (u : Package) (cs : Contexts Context) (w : Wo
     abbrev pub behind_cont : Context
     behind_cont = record { state = Code f; sections = fs; work = wk }
 
-    k0 : Holds set.space (begun_at w seen.event p r) u cs
+    k0 : Holds set.space (event_begun_at w seen.event p r) u cs
     k0 = begun-holds set.space r u cs w (record { number = seen.event; proc = p; records = [] }) i.holds
 
     copy : copy_at f.pc ≡ Some f.pc
@@ -140,13 +140,13 @@ module _ (set : Setting) (e : ℕ) (u : Package) (cs : Contexts Context) (w : Wo
           work = (without_first u.shared.works one).name;
         }
 
-    pub k1 : Holds set.space (begun_at w seen.event p r) u cs
+    pub k1 : Holds set.space (event_begun_at w seen.event p r) u cs
     k1 = begun-holds set.space r u cs w (record { number = seen.event; proc = p; records = [] }) i.holds
 
-    pub here : HasLife set.space u.shared (space_at r.state set.space) (stage_of (begun_at w seen.event p r) set.space a life) (view d) life
-    here = life-here set.space (begun_at w seen.event p r) u cs k1 a d life i.on.mine i.on.is
+    pub here : HasLife set.space u.shared (space_at r.state set.space) (stage_of (event_begun_at w seen.event p r) set.space a life) (view d) life
+    here = life-here set.space (event_begun_at w seen.event p r) u cs k1 a d life i.on.mine i.on.is
 
-    stays_there : is_gone (stage_of (begun_at w seen.event p r) set.space a life) ≡ false
+    stays_there : is_gone (stage_of (event_begun_at w seen.event p r) set.space a life) ≡ false
     stays_there = ap is_gone (k1.runs p a life i.on.runs i.on.is i.on.space).2
 
     -- its life has a thread in its hand
@@ -246,7 +246,7 @@ module _ (set : Setting) (e : ℕ) (u : Package) (cs : Contexts Context) (w : Wo
     }
 
     -- where it spins another life has the lock
-    pub spin-held : is_locked u.shared.state.lists (own_list u seen.proc).0 ≡ true → AnotherHas (begun_at w seen.event p r) a life.space (own_list u seen.proc)
+    pub spin-held : is_locked u.shared.state.lists (own_list u seen.proc).0 ≡ true → AnotherHas (event_begun_at w seen.event p r) a life.space (own_list u seen.proc)
     spin-held locked =
         let other = locked-read set e u cs i.stands set.space r0 k1 (own_list u seen.proc) locked in
         record {

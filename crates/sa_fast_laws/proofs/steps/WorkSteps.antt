@@ -17,7 +17,7 @@ use Rattle.sa_package_model.specs.declared.context.ContextState.TheVariants.{Wor
 use Rattle.sa_package_model.specs.declared.package.Package.{Package}
 use Rattle.sa_laws.specs.Life.{Life}
 use Rattle.sa_laws.specs.Readings.{Readings, has_hand}
-use Rattle.sa_user_laws.specs.Scene.{begun_at}
+use Rattle.sa_user_laws.specs.Scene.{event_begun_at}
 use Rattle.sa_fast_laws.proofs.relation.EventEnds.{begun-holds}
 use Rattle.sa_fast_laws.proofs.steps.Scenes.{IsScene}
 use Rattle.sa_fast_laws.proofs.steps.Scenes as scene
@@ -31,7 +31,7 @@ use Rattle.sa_fast_laws.proofs.steps.WorkMoves.{cont-move, has-one, here, push-m
 module _ (set : Setting) (e : ℕ) (u : Package) (cs : Contexts Context) (w : WorkloadView) (r : Readings) (p : ProcNo) (a : ActNo) (life : Life)
     (seen : Seen) where
   abbrev r0 : Readings
-  r0 = begun_at w seen.event p r
+  r0 = event_begun_at w seen.event p r
 
   abbrev n : ℕ
   n = seen.event

@@ -33,7 +33,7 @@ use Rattle.sa_laws.specs.Readings.{Readings, life_of, has_hand, counts}
 use Rattle.sa_laws.specs.Record.{after_record, blocking, locks_one, page_touched}
 use Rattle.sa_laws.specs.State.{no_threads}
 use Rattle.sa_laws.specs.Step.{HasCause, Needs}
-use Rattle.sa_user_laws.specs.Scene.{begun_at}
+use Rattle.sa_user_laws.specs.Scene.{event_begun_at}
 use Rattle.sa_fast_laws.proofs.relation.EventEnds.{begun-holds}
 use Rattle.sa_fast_laws.specs.FastFits.{Holds}
 use Rattle.sa_fast_laws.specs.Life.{IsMarked}
@@ -70,7 +70,7 @@ module _ (set : Setting) (e : ℕ) (u : Package) (cs : Contexts Context) (w : Wo
     (c : Context) (seen : Seen)
     (i : IsScene set e u cs w r p a life c seen) where
   abbrev r0 : Readings
-  r0 = begun_at w seen.event p r
+  r0 = event_begun_at w seen.event p r
 
   abbrev n : ℕ
   n = seen.event
@@ -78,14 +78,14 @@ module _ (set : Setting) (e : ℕ) (u : Package) (cs : Contexts Context) (w : Wo
   abbrev v : Package
   v = placed_in u (carried_by c.state) kept.Blocked
 
-  k0 : Holds set.space (begun_at w seen.event p r) u cs
+  k0 : Holds set.space (event_begun_at w seen.event p r) u cs
   k0 = begun-holds set.space r u cs w (record { number = seen.event; proc = p; records = [] }) i.holds
 
   -- A FAULT: the step asks for a block for this page, and says nothing before it
   pub record IsFault (page : ℕ) : Type 0 where
     pub step : stepped u seen c ≡ record { user = placed_in u (carried_by c.state) kept.Blocked; ctx = c; says = []; answer = asked.Block u.fetch (Some page) }
     pub for : (if locks_one (life_of r a) then PACKAGE_PAGE else page_touched w r set.space (carried_by c.state)) ≡ page
-    pub cause : HasCause w (begun_at w seen.event p r) set.space (carried_by c.state) a
+    pub cause : HasCause w (event_begun_at w seen.event p r) set.space (carried_by c.state) a
     pub yields : at_yield c.state ≡ false
     pub looks : looks_of c.state ≡ 0
     pub busy : is_idle (view c) ≡ false
@@ -114,11 +114,11 @@ module _ (set : Setting) (e : ℕ) (u : Package) (cs : Contexts Context) (w : Wo
         (scene.steps set e u cs w r p a life c seen i).value)
 
     -- what is blocked, and that its record is a step of the abstract machine
-    pub fault-for : blocking w (begun_at w seen.event p r) set.space (carried_by c.state) a ≡ record { kind = Page set.space a page; length = u.fetch }
+    pub fault-for : blocking w (event_begun_at w seen.event p r) set.space (carried_by c.state) a ≡ record { kind = Page set.space a page; length = u.fetch }
     fault-for = ap (λ k. record { kind = Page set.space a k; length = w.fetch }) z.for
         ∙ ap (λ m. record { kind = Page set.space a page; length = m }) (sym (i.stands.made.fetch ∙ i.of.fetch))
 
-    pub fault-needs : (io : IoNo) → Needs w p (begun_at w seen.event p r) (records.Block set.space (carried_by c.state) a io)
+    pub fault-needs : (io : IoNo) → Needs w p (event_begun_at w seen.event p r) (records.Block set.space (carried_by c.state) a io)
     fault-needs io = record { owned = i.on.owner; runs = scene.runner set e u cs w r p a life c seen i; cause = z.cause }
 
     pub fault-blocked : (io : IoNo)

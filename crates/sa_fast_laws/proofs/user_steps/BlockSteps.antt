@@ -28,7 +28,7 @@ use Rattle.sa_laws.specs.Readings.{Readings, life_of, running_of, ready_of}
 use Rattle.sa_laws.specs.Record.{after_record, with_life}
 use Rattle.sa_laws.specs.Turns.{is_of_locks, CanFault}
 use Rattle.sa_laws.proofs.Records.{passage-plain, alone-plain}
-use Rattle.sa_user_laws.specs.Scene.{begun_at}
+use Rattle.sa_user_laws.specs.Scene.{event_begun_at}
 use Rattle.sa_user_laws.specs.Steps.{event_with}
 use Rattle.sa_fast_laws.proofs.relation.EventEnds.{set-marked}
 use Rattle.sa_fast_laws.proofs.relation.Stages.{others-stay}
@@ -70,7 +70,7 @@ module _ (set : Setting) (e : ℕ) (u : Package) (cs : Contexts Context) (w : Wo
 
   -- what the rules ask of a fault
   pub record MayFault : Type 0 where
-    pub fault : CanFault (begun_at w seen.event p r) life (first_lock life)
+    pub fault : CanFault (event_begun_at w seen.event p r) life (first_lock life)
     pub free : (io : IoNo) → IsFree w r life (records.Block set.space (carried_by c.state) a io)
 
   module _ {page : ℕ} (z : IsFault set e u cs w r p a life c seen y.scene page) (t : MayFault) where
@@ -90,7 +90,7 @@ module _ (set : Setting) (e : ℕ) (u : Package) (cs : Contexts Context) (w : Wo
             record { steps = follows.steps; demand = follows.demand; locks = follows.locks; order = follows.order };
         after = λ io behind last spaces.
             let x = records.Block set.space (carried_by c.state) a io in
-            blocked-fits (placed_in u (carried_by c.state) kept.Blocked) (after_record w seen.event p (begun_at w seen.event p r) x) x behind
+            blocked-fits (placed_in u (carried_by c.state) kept.Blocked) (after_record w seen.event p (event_begun_at w seen.event p r) x) x behind
             (event_with seen.event p (x ∷ []) behind) last refl refl refl
             (fault-blocked set e u cs w r p a life c seen i z io) (record { many = y.lists.many; ranks = y.lists.ranks; numbers = y.lists.numbers }) spaces;
       };

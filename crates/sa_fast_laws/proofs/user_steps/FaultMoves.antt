@@ -40,7 +40,7 @@ use Rattle.sa_laws.specs.Record.{locks_one, page_touched, page_in}
 use Rattle.sa_laws.specs.State.{space_at, next_instr, instr_of as law_instr}
 use Rattle.sa_laws.specs.Step.{IsMissed}
 use Rattle.sa_laws.specs.Turns.{CanFault}
-use Rattle.sa_user_laws.specs.Scene.{begun_at}
+use Rattle.sa_user_laws.specs.Scene.{event_begun_at}
 use Rattle.sa_fast_laws.proofs.relation.InCode.{push_at, pop_at}
 use Rattle.sa_fast_laws.proofs.relation.InsideMarks.{has-left}
 use Rattle.sa_fast_laws.proofs.relation.ThreadsBeside.{life-here}
@@ -112,7 +112,7 @@ module _ (set : Setting) (e : ℕ) (u : Package) (cs : Contexts Context) (w : Wo
     locked : locks_one (life_of r a) ≡ true
     locked = ap locks_one i.on.is ∙ ap some_lock locks_are
 
-    missing : is_resident (begun_at w seen.event p r) set.space PACKAGE_PAGE ≡ false
+    missing : is_resident (event_begun_at w seen.event p r) set.space PACKAGE_PAGE ≡ false
     missing = ap (λ m. is_page_resident m PACKAGE_PAGE) (sym i.sees.pages) ∙ absent
 
     pub code-fault : IsFault set e u cs w r p a life (record { state = Code f; sections = fs; work = wk }) seen i PACKAGE_PAGE
@@ -127,9 +127,9 @@ module _ (set : Setting) (e : ℕ) (u : Package) (cs : Contexts Context) (w : Wo
     }
 
     -- its first lock is unused, so it may fault there, whatever it owes
-    pub code-may_fault : CanFault (begun_at w seen.event p r) life (first_lock life)
-    code-may_fault = subst (CanFault (begun_at w seen.event p r) life) (sym (ap (λ ls. slice_get ls 0) locks_are)) (
-      ap (λ o. is_resident (begun_at w seen.event p r) o PACKAGE_PAGE) i.on.space
+    pub code-may_fault : CanFault (event_begun_at w seen.event p r) life (first_lock life)
+    code-may_fault = subst (CanFault (event_begun_at w seen.event p r) life) (sym (ap (λ ls. slice_get ls 0) locks_are)) (
+      ap (λ o. is_resident (event_begun_at w seen.event p r) o PACKAGE_PAGE) i.on.space
           ∙ missing,
       record { used = stands.unused; cont = λ inherits. here.cont ∙ inherits },
     )
@@ -165,7 +165,7 @@ module _ (set : Setting) (e : ℕ) (u : Package) (cs : Contexts Context) (w : Wo
               used_by (with_shared u o.shared) seen (record { state = User t; sections = []; work = o.work }) t o.answer
               (if y then records.Ins u.shared.state.space t b.pc ∷ [] else [])) absent;
           for = ap (λ y. if y then PACKAGE_PAGE else page_touched w r set.space (Some t)) none ∙ ap page_in next;
-          cause = inr (inl (subst (IsMissed (begun_at w seen.event p r) set.space) (sym next) (ap (λ m. is_page_resident m page) (sym i.sees.pages) ∙ absent)));
+          cause = inr (inl (subst (IsMissed (event_begun_at w seen.event p r) set.space) (sym next) (ap (λ m. is_page_resident m page) (sym i.sees.pages) ∙ absent)));
           yields = refl;
           looks = refl;
           busy = refl;
@@ -175,8 +175,8 @@ module _ (set : Setting) (e : ℕ) (u : Package) (cs : Contexts Context) (w : Wo
         }
 
     -- it has no lock
-    pub touch-may_fault : CanFault (begun_at w seen.event p r) life (first_lock life)
-    touch-may_fault = subst (CanFault (begun_at w seen.event p r) life) (sym (ap (λ ls. slice_get ls 0) own.locks)) tt
+    pub touch-may_fault : CanFault (event_begun_at w seen.event p r) life (first_lock life)
+    touch-may_fault = subst (CanFault (event_begun_at w seen.event p r) life) (sym (ap (λ ls. slice_get ls 0) own.locks)) tt
 
     abbrev pub Blocked : Option ℕ → Instr → Type 0
     Blocked page k = ((m : ℕ) × ((k ≡ Touch m) × (is_page_resident seen.pages m ≡ false))) ⊎ ((m : ℕ) × (k ≡ Io m))

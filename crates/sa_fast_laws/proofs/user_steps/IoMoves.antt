@@ -34,7 +34,7 @@ use Rattle.sa_package_model.specs.declared.context.Context.{Context}
 use Rattle.sa_package_model.specs.declared.context.ContextState.TheVariants.{User}
 use Rattle.sa_package_model.specs.declared.package.Package.{Package}
 use Rattle.sa_laws.specs.Effect.{Effect, effect, effect_of, next}
-use Rattle.sa_laws.specs.History.{is_inside, goes_on as stays_on}
+use Rattle.sa_laws.specs.History.{is_inside, is_running_or_blocked}
 use Rattle.sa_laws.specs.Life.{Life, held_with, with_hand}
 use Rattle.sa_laws.specs.Machine.{next_effect}
 use Rattle.sa_laws.specs.Readings.{Readings, life_of}
@@ -43,7 +43,7 @@ use Rattle.sa_laws.specs.State.{runner_on, runner_of, space_at, Thread, thread_a
 use Rattle.sa_laws.specs.Step.{IsTouched, AreSteps, Needs}
 use Rattle.sa_laws.specs.declared.place.Place.TheVariants as place
 use Rattle.sa_user_laws.proofs.Runners.{own-elsewhere, runner-is}
-use Rattle.sa_user_laws.specs.Scene.{begun_at}
+use Rattle.sa_user_laws.specs.Scene.{event_begun_at}
 use Rattle.sa_fast_laws.proofs.relation.EventEnds.{begun-holds}
 use Rattle.sa_fast_laws.proofs.relation.InPlace.{IsInPlace, in-place}
 use Rattle.sa_fast_laws.proofs.relation.InsideMarks.{has-left}
@@ -69,7 +69,7 @@ module _ (set : Setting) (e : ℕ) (u : Package) (cs : Contexts Context) (w : Wo
   s = set.space
 
   abbrev r0 : Readings
-  r0 = begun_at w seen.event p r
+  r0 = event_begun_at w seen.event p r
 
   abbrev n : ℕ
   n = seen.event
@@ -98,7 +98,7 @@ module _ (set : Setting) (e : ℕ) (u : Package) (cs : Contexts Context) (w : Wo
   abbrev qb : Readings
   qb = after_record w n p r0 (records.Block set.space (Some t) a io)
 
-  k0 : Holds set.space (begun_at w seen.event p r) u cs
+  k0 : Holds set.space (event_begun_at w seen.event p r) u cs
   k0 = begun-holds set.space r u cs w (record { number = seen.event; proc = p; records = [] }) i.holds
 
   known : set.space.0 < length r.state.spaces
@@ -229,7 +229,7 @@ module _ (set : Setting) (e : ℕ) (u : Package) (cs : Contexts Context) (w : Wo
   x = records.Ins set.space t (block_at u.shared.threads t.0).pc
 
   abbrev pub q : Readings
-  q = after_record w seen.event p (begun_at w seen.event p r) (records.Ins set.space t (block_at u.shared.threads t.0).pc)
+  q = after_record w seen.event p (event_begun_at w seen.event p r) (records.Ins set.space t (block_at u.shared.threads t.0).pc)
 
   abbrev pub with_io : Package
   with_io = with_shared u (with_thread u.shared t (moved_to (next_of (block_at u.shared.threads t.0)) kept.Blocked))
@@ -314,25 +314,25 @@ module _ (set : Setting) (e : ℕ) (u : Package) (cs : Contexts Context) (w : Wo
       (subst (λ (y : Stepped Package Context). IsStanding set seen.event y.user (put cs a.0 (Some y.ctx))) step_is
       (scene.steps set e u cs w r p a life d seen i).value)
 
-  pub io-steps : AreSteps w seen.event p (begun_at w seen.event p r) (records.Ins set.space t (block_at u.shared.threads t.0).pc ∷ [])
+  pub io-steps : AreSteps w seen.event p (event_begun_at w seen.event p r) (records.Ins set.space t (block_at u.shared.threads t.0).pc ∷ [])
   io-steps = (
     record {
       owned = i.on.owner;
       runs = ran;
-      place = (thread_fits set e u cs w r p a life seen t i).pc;
-      within = let at = (i.stands.parts.at t.0 (t_made set e u cs w r p a life seen t i)).place in
+      pc = (thread_fits set e u cs w r p a life seen t i).pc;
+      within = let at = (i.stands.parts.at t.0 (t_made set e u cs w r p a life seen t i)).pc in
           let long : program_len w r.state set.space t ≡ _ =
           ap (λ k. length (slice_index_or (space_def w set.space).programs k [])) (thread_fits set e u cs w r p a life seen t i).program
           ∙ ap (λ (y : SpaceView). length (slice_index_or y.programs (block_at u.shared.threads t.0).program []))
           (scene.def set e u cs w r p a life d seen i) in
           omega arith;
-      page = subst (IsTouched (begun_at w seen.event p r) set.space) (sym (instr_is set e u cs w r p a life seen t i ∙ is)) tt;
+      page = subst (IsTouched (event_begun_at w seen.event p r) set.space) (sym (instr_is set e u cs w r p a life seen t i ∙ is)) tt;
     },
     tt,
   )
 
   pub io-needs : (io : IoNo)
-      → Needs w p (after_record w seen.event p (begun_at w seen.event p r) (records.Ins set.space t (block_at u.shared.threads t.0).pc))
+      → Needs w p (after_record w seen.event p (event_begun_at w seen.event p r) (records.Ins set.space t (block_at u.shared.threads t.0).pc))
       (records.Block set.space (Some t) a io)
   io-needs io = record { owned = i.on.owner; runs = io-runner; cause = inl (ap is_some io-length) }
 
@@ -348,18 +348,18 @@ module _ (set : Setting) (e : ℕ) (u : Package) (cs : Contexts Context) (w : Wo
       ∙ ap (λ o. put r.lives a.0 (option_map (held_with (Some t)) o)) i.on.is in
       let there : life_of end a ≡ Some now = ap (λ (f : ℕ → Option Life). f a.0) lives_are ∙ put-same r.lives a.0 (Some now) in
       let stays_so : is_gone (stage_of end set.space a now) ≡ false =
-      block-stays set e u cs i.stands set.space (begun_at w seen.event p r)
+      block-stays set e u cs i.stands set.space (event_begun_at w seen.event p r)
       (k0 set e u cs w r p a life seen t i m is io) a d i.on.mine w seen.event p life i.on.runs i.on.is i.on.space
       (scene.known set e u cs w r p a life d seen i) (scene.heard set e u cs w r p a life d seen i) (scene.procs set e u cs w r p a life d seen i) io in
       record {
         holds = holds;
         lives = lives_are;
         stage =
-            blocks.stage_a set e u cs i.stands set.space (begun_at w seen.event p r)
+            blocks.stage_a set e u cs i.stands set.space (event_begun_at w seen.event p r)
             (k0 set e u cs w r p a life seen t i m is io) a d i.on.mine w seen.event p life i.on.runs i.on.is i.on.space
             (scene.known set e u cs w r p a life d seen i) (scene.heard set e u cs w r p a life d seen i) (scene.procs set e u cs w r p a life d seen i) io;
         others =
-            λ y l ne. blocks.stage_x set e u cs i.stands set.space (begun_at w seen.event p r)
+            λ y l ne. blocks.stage_x set e u cs i.stands set.space (event_begun_at w seen.event p r)
             (k0 set e u cs w r p a life seen t i m is io) a d i.on.mine w seen.event p life i.on.runs i.on.is i.on.space
             (scene.known set e u cs w r p a life d seen i) (scene.heard set e u cs w r p a life d seen i)
             (scene.procs set e u cs w r p a life d seen i) io y l.proc ne;
@@ -369,7 +369,7 @@ module _ (set : Setting) (e : ℕ) (u : Package) (cs : Contexts Context) (w : Wo
             ap (λ ys. (thread_in (slice_index_or ys set.space.0 no_threads) t).place) spaces
             ∙ ap (λ (y : Thread). y.place) (own_is set e u cs w r p a life seen t i m is io) in
             record {
-              inside = ap (λ y. is_inside w r ev last (not (stays_on y)) now) placed_so
+              inside = ap (λ y. is_inside w r ev last (not (is_running_or_blocked y)) now) placed_so
                   ∙ inside-at w r ev end last now spaces
                   ∙ has-left set seen.event with_io cs stands_now set.space end holds a (User t) [] None i.on.mine now there stays_so refl refl;
               back = and_right life.cont false refl;

@@ -25,7 +25,7 @@ use Rattle.sa_laws.specs.Readings.{Readings}
 use Rattle.sa_laws.specs.Record.{after_record, blocking_for}
 use Rattle.sa_laws.specs.Turns.{IsInsOf, is_of_locks}
 use Rattle.sa_laws.proofs.Records.{passage-plain, alone-plain}
-use Rattle.sa_user_laws.specs.Scene.{begun_at}
+use Rattle.sa_user_laws.specs.Scene.{event_begun_at}
 use Rattle.sa_user_laws.specs.Steps.{event_with}
 use Rattle.sa_fast_laws.proofs.steps.Events.{IsLegal}
 use Rattle.sa_fast_laws.proofs.steps.Scenes.{IsScene, IsFastScene}
@@ -45,7 +45,7 @@ module _ (set : Setting) (e : ℕ) (u : Package) (cs : Contexts Context) (w : Wo
   x = records.Ins set.space t (block_at u.shared.threads t.0).pc
 
   abbrev q : Readings
-  q = after_record w seen.event p (begun_at w seen.event p r) (records.Ins set.space t (block_at u.shared.threads t.0).pc)
+  q = after_record w seen.event p (event_begun_at w seen.event p r) (records.Ins set.space t (block_at u.shared.threads t.0).pc)
 
   abbrev v : Package
   v = with_shared u (with_thread u.shared t (moved_to (next_of (block_at u.shared.threads t.0)) kept.Blocked))

@@ -16,7 +16,7 @@ use Rattle.sa_base.specs.declared.record.Record.{Record}
 use Rattle.sa_base.specs.declared.record.Record.TheVariants as records
 use Rattle.sa_lemmas.proofs.FunctionUpdates.{put-same, put-other, put-self}
 use Rattle.sa_lemmas.specs.Function.{put}
-use Rattle.sa_instr.specs.Local.{place_after, regs_after, local_answer}
+use Rattle.sa_instr.specs.Local.{pc_after, regs_after, local_answer}
 use Rattle.sa_instr.specs.declared.answer.Local.TheVariants.{Went}
 use Rattle.sa_instr.specs.declared.instr.Instr.{Instr}
 use Rattle.sa_instr.specs.declared.instr.Instr.TheVariants.{Compute, Set, Add, Sub, Jnz, Load, Store, Out, Fork, Join, Lock, Unlock, Wait, Signal, Io, Touch, End}
@@ -44,7 +44,7 @@ use Rattle.sa_laws.specs.Record.{after_record, with_life}
 use Rattle.sa_laws.specs.State.{SpaceState, Thread, space_at, thread_at, thread_in, with_thread as law_thread, instr_of as law_instr}
 use Rattle.sa_user_laws.proofs.Runners.{own-elsewhere, runner-behind}
 use Rattle.sa_user_laws.specs.Moments.{IsMoment, Alike, HasLifeOn, Sees}
-use Rattle.sa_user_laws.specs.Scene.{begun_at}
+use Rattle.sa_user_laws.specs.Scene.{event_begun_at}
 use Rattle.sa_user_laws.specs.Steps.{event_with}
 use Rattle.sa_fast_laws.proofs.relation.EventEnds.{ended-lives, ended-holds}
 use Rattle.sa_fast_laws.proofs.relation.Places.{space-here, thread-here, thread-there}
@@ -89,7 +89,7 @@ module _ (u : Package) (seen : Seen) (t : ThreadNo) where
   behind k =
       with_shared u
       (with_thread u.shared t
-      (gone_to (block_at u.shared.threads t.0) (place_after k (block_at u.shared.threads t.0).pc (block_at u.shared.threads t.0).regs)
+      (gone_to (block_at u.shared.threads t.0) (pc_after k (block_at u.shared.threads t.0).pc (block_at u.shared.threads t.0).regs)
       (regs_after k (block_at u.shared.threads t.0).regs)))
 
   pub record IsLocalStep (k : Instr) : Type 0 where
@@ -126,10 +126,10 @@ with-life-there f o a lives y at apart = ap (λ n. with_life f n lives y) at ∙
 -- what is known after the records of the event, where this is the step
 pub record IsLocalBehind (set : Setting) (cs : Contexts Context) (w : WorkloadView) (r : Readings) (p : ProcNo) (a : ActNo) (n : ℕ) (x : Record)
     (st : Stepped Package Context) : Type 0 where
-  pub holds : Holds set.space (after_records w n p (begun_at w n p r) st.says) st.user (put cs a.0 (Some st.ctx))
+  pub holds : Holds set.space (after_records w n p (event_begun_at w n p r) st.says) st.user (put cs a.0 (Some st.ctx))
   pub its : Life
-  pub there : life_of (after_records w n p (begun_at w n p r) st.says) a ≡ Some its
-  pub marks : (ev : Event) (last : Readings) → Alike (after_records w n p (begun_at w n p r) st.says) last
+  pub there : life_of (after_records w n p (event_begun_at w n p r) st.says) a ≡ Some its
+  pub marks : (ev : Event) (last : Readings) → Alike (after_records w n p (event_begun_at w n p r) st.says) last
       → IsMarked (view st.ctx) (ends is_inside w r ev last x its)
 
 module _ (set : Setting) (e : ℕ) (u : Package) (cs : Contexts Context) (w : WorkloadView) (r : Readings) (p : ProcNo) (a : ActNo) (life : Life)
@@ -149,7 +149,7 @@ module _ (set : Setting) (e : ℕ) (u : Package) (cs : Contexts Context) (w : Wo
   v = behind u seen t (instr_of u.def (block_at u.shared.threads t.0))
 
   abbrev q : Readings
-  q = after_record w seen.event p (begun_at w seen.event p r) (records.Ins set.space t (block_at u.shared.threads t.0).pc)
+  q = after_record w seen.event p (event_begun_at w seen.event p r) (records.Ins set.space t (block_at u.shared.threads t.0).pc)
 
   space : u.shared.state.space ≡ set.space
   space = scene.space set e u cs w r p a life c0 seen i
@@ -188,7 +188,7 @@ module _ (set : Setting) (e : ℕ) (u : Package) (cs : Contexts Context) (w : Wo
   z = thread_at r.state set.space t
 
   abbrev now : Thread
-  now = record z { pc = place_after j z.pc z.regs; regs = regs_after j z.regs }
+  now = record z { pc = pc_after j z.pc z.regs; regs = regs_after j z.regs }
 
   space-is : space_at q.state set.space ≡ law_thread (space_at r.state set.space) t now
   space-is =
@@ -281,9 +281,9 @@ module _ (set : Setting) (e : ℕ) (u : Package) (cs : Contexts Context) (w : Wo
 
     -- what is seen in the next event
     abbrev pub seen1 : Seen
-    seen1 = record seen { event = seen.event + 1; pages = slice_index (begun_at w (seen.event + 1) p r1).pages set.space.0 }
+    seen1 = record seen { event = seen.event + 1; pages = slice_index (event_begun_at w (seen.event + 1) p r1).pages set.space.0 }
 
-    sees1 : Sees set.space (begun_at w (seen.event + 1) p r1) p (seen.event + 1) seen1
+    sees1 : Sees set.space (event_begun_at w (seen.event + 1) p r1) p (seen.event + 1) seen1
     sees1 = record {
       proc = i.sees.proc;
       event = refl;
@@ -295,7 +295,7 @@ module _ (set : Setting) (e : ℕ) (u : Package) (cs : Contexts Context) (w : Wo
           (sym (set-set r.lines p.0 None None)) (i.sees.low y);
       lives = λ y owner. by (i.sees.lives y owner);
     } where
-      by : {y : ProcNo} → HasLifeOn set.space (begun_at w seen.event p r) y → HasLifeOn set.space (begun_at w (seen.event + 1) p r1) y
+      by : {y : ProcNo} → HasLifeOn set.space (event_begun_at w seen.event p r) y → HasLifeOn set.space (event_begun_at w (seen.event + 1) p r1) y
       by l = elim (cases_eq l.act.0 a.0) [
         | inl same ↦ record { act = l.act; life = its1; runs = l.runs; is = ap r1.lives same ∙ its1-is; space = of1 }
         | inr apart ↦ record { act = l.act; life = l.life; runs = l.runs; is = lives-there l.act.0 apart ∙ l.is; space = l.space }

@@ -37,7 +37,7 @@ use Rattle.sa_package_model.specs.declared.context.ContextState.{ContextState}
 use Rattle.sa_package_model.specs.declared.context.ContextState.TheVariants.{Work, User}
 use Rattle.sa_package_model.specs.declared.package.Package.{Package}
 use Rattle.sa_laws.specs.Event.{Event}
-use Rattle.sa_laws.specs.History.{is_inside, stepped as ends, after_records, goes_on as stays_on, is_up}
+use Rattle.sa_laws.specs.History.{is_inside, stepped as ends, after_records, is_running_or_blocked, is_up}
 use Rattle.sa_laws.specs.Life.{Life}
 use Rattle.sa_laws.specs.Locks.{StandsAlone}
 use Rattle.sa_laws.specs.Readings.{Readings}
@@ -46,7 +46,7 @@ use Rattle.sa_laws.specs.State.{thread_at, space_def, program_len, instr_of as l
 use Rattle.sa_laws.specs.Step.{AreSteps, IsTouched, IsValueOf}
 use Rattle.sa_laws.specs.Turns.{IsInsOf, is_of_locks}
 use Rattle.sa_laws.specs.declared.place.Place.TheVariants as place
-use Rattle.sa_user_laws.specs.Scene.{begun_at}
+use Rattle.sa_user_laws.specs.Scene.{event_begun_at}
 use Rattle.sa_fast_laws.proofs.relation.EventEnds.{begun-holds}
 use Rattle.sa_fast_laws.proofs.relation.InsideMarks.{settled-copy, unsettled-inside}
 use Rattle.sa_fast_laws.proofs.relation.OneLife.{IsHeld}
@@ -185,7 +185,7 @@ module _ (set : Setting) (e : ℕ) (u : Package) (cs : Contexts Context) (w : Wo
   s = set.space
 
   abbrev r0 : Readings
-  r0 = begun_at w seen.event p r
+  r0 = event_begun_at w seen.event p r
 
   abbrev n : ℕ
   n = seen.event
@@ -207,7 +207,7 @@ module _ (set : Setting) (e : ℕ) (u : Package) (cs : Contexts Context) (w : Wo
       IsMove set u cs w r p a life (record { state = User t; sections = []; work = None }) seen (records.Ins set.space t (block_at u.shared.threads t.0).pc)
       (outs set.space t (out_of (block_at u.shared.threads t.0) (instr_of u.def (block_at u.shared.threads t.0))))
 
-  pub k0 : Holds set.space (begun_at w seen.event p r) u cs
+  pub k0 : Holds set.space (event_begun_at w seen.event p r) u cs
   k0 = begun-holds set.space r u cs w (record { number = seen.event; proc = p; records = [] }) i.holds
 
   pub known : set.space.0 < length r.state.spaces
@@ -273,9 +273,9 @@ module _ (set : Setting) (e : ℕ) (u : Package) (cs : Contexts Context) (w : Wo
       by (Touch page) is = is_plain.there page is
       by End is = tt
 
-    pub touched_is : IsTouched (begun_at w seen.event p r) set.space (law_instr w r.state set.space t (block_at u.shared.threads t.0).pc)
-    touched_is = subst (IsTouched (begun_at w seen.event p r) set.space) (sym instr_is) (by j refl) where
-      by : (k : Instr) → j ≡ k → IsTouched (begun_at w seen.event p r) set.space k
+    pub touched_is : IsTouched (event_begun_at w seen.event p r) set.space (law_instr w r.state set.space t (block_at u.shared.threads t.0).pc)
+    touched_is = subst (IsTouched (event_begun_at w seen.event p r) set.space) (sym instr_is) (by j refl) where
+      by : (k : Instr) → j ≡ k → IsTouched (event_begun_at w seen.event p r) set.space k
       by Compute is = tt
       by (Set reg m) is = tt
       by (Add reg other) is = tt
@@ -365,8 +365,8 @@ module _ (set : Setting) (e : ℕ) (u : Package) (cs : Contexts Context) (w : Wo
               record {
                 owned = i.on.owner;
                 runs = runs_there;
-                place = thread_fits.pc;
-                within = let at = (i.stands.parts.at t.0 t_made).place in
+                pc = thread_fits.pc;
+                within = let at = (i.stands.parts.at t.0 t_made).pc in
                     let long : program_len w r.state set.space t ≡ _ =
                     ap (λ m. length (slice_index_or (space_def w set.space).programs m [])) thread_fits.program
                     ∙ ap (λ (d : SpaceView). length (slice_index_or d.programs b.program [])) def in omega arith;
@@ -408,7 +408,7 @@ module _ (set : Setting) (e : ℕ) (u : Package) (cs : Contexts Context) (w : Wo
       goes-move = user-move (goes_state t o.work) g.out g.no_copy (inl (goes, g.carries)) goes-step (λ ev last now state z.
           let ran = (ins (goes_state t o.work) g.out g.no_copy (inl (goes, g.carries)) goes-step).goes goes in
           record {
-            inside = ap (λ y. is_inside w r ev last (not (stays_on y)) now) (ap (λ y. (thread_at y set.space t).place) state ∙ ran)
+            inside = ap (λ y. is_inside w r ev last (not (is_running_or_blocked y)) now) (ap (λ y. (thread_at y set.space t).place) state ∙ ran)
                 ∙ unsettled-inside set seen.event with_ins (put cs a.0 (Some behind_goes)) z.stands set.space last z.holds a
                 (goes_state t o.work) [] o.work z.mine now z.there (ap is_gone z.stage) g.out g.no_copy w r ev
                 ∙ g.inside;
@@ -444,7 +444,7 @@ module _ (set : Setting) (e : ℕ) (u : Package) (cs : Contexts Context) (w : Wo
           settled-marked set seen.event with_ins (put cs a.0 (Some behind_leaves)) z.stands set.space last z.holds a None seen [] o.work now z.there
           (ap is_gone z.stage) w r ev (records.Ins set.space t b.pc)
           z.mine z.demand z.taken (scene.processors set e u cs w r p a life c seen i) (z.carries ∙ between.carries)
-          (ap not (ap (λ y. stays_on (thread_at y set.space t).place) same ∙ gone)) refl (λ some. refl))
+          (ap not (ap (λ y. is_running_or_blocked (thread_at y set.space t).place) same ∙ gone)) refl (λ some. refl))
 
       pub leaves-lists : (with_ins.shared.state.lists.lists ≡ u.shared.state.lists.lists) × ((after_records w n p r0
           (records.Ins set.space t b.pc ∷ outs set.space t (out_of b j))).ready ≡ r.ready)

@@ -23,7 +23,7 @@ use Rattle.sa_package_model.specs.declared.package.Package.{Package}
 use Rattle.sa_laws.specs.History.{after_records}
 use Rattle.sa_laws.specs.Life.{Life}
 use Rattle.sa_laws.specs.Readings.{Readings, ready_of}
-use Rattle.sa_user_laws.specs.Scene.{begun_at}
+use Rattle.sa_user_laws.specs.Scene.{event_begun_at}
 use Rattle.sa_fast_laws.specs.FastFits.{numbers_in, FitsLists}
 use Rattle.sa_fast_laws.proofs.instructions.Ranks.{ranks-stay}
 use Rattle.sa_fast_laws.proofs.steps.Events.{IsLegal}
@@ -56,7 +56,7 @@ module _ (set : Setting) (e : ℕ) (u : Package) (cs : Contexts Context) (w : Wo
   i = y.scene
 
   abbrev q : Readings
-  q = after_records w seen.event p (begun_at w seen.event p r) (records.Ins set.space t b.pc ∷ outs set.space t (out_of b j))
+  q = after_records w seen.event p (event_begun_at w seen.event p r) (records.Ins set.space t b.pc ∷ outs set.space t (out_of b j))
 
   -- FastThreads' lists stay, and its threads have one rank
   lists-stay : v.shared.state.lists.lists ≡ u.shared.state.lists.lists → q.ready ≡ r.ready → FitsLists v (ready_of q set.space)

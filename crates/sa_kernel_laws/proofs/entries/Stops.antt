@@ -62,8 +62,8 @@ noted-some us s n within is = push-some (get_or us s []) n (sym (get_or-set_same
 abbrev blocked_with : ℕ → ProcNo → SpaceNo → ActNo → Blocking → Overview → Overview
 blocked_with e p s a b v =
     record (set_aside p s (Blocked a) v) {
-      begun = v.begun + 1;
-      under_way = v.under_way ++ record { number = v.begun; ends = e + b.length; kind = b.kind } ∷ [];
+      io_count = v.io_count + 1;
+      under_way = v.under_way ++ record { number = v.io_count; ends = e + b.length; kind = b.kind } ∷ [];
     }
 
 no-fetch : (s : SpaceNo) (a : ActNo) (page : Option ℕ) (number ends : ℕ) (ios : List Io)
@@ -261,15 +261,15 @@ module _ {C : Type 0} where
       → Walk w e p r x (told_or_left e p s fresh (can_upcall x.state s) (block_begun e p s a held len page x)) (λ all. BeginsAsInterrupt all → ⊥) IsBlock
   block-walk w e p r x s a fresh held len page can aside owner for =
       let k = x.state in
-      let io : IoNo = record { 0 = k.begun } in
+      let io : IoNo = record { 0 = k.io_count } in
       let block = Block s held.thread a io in
       let next = after_record w e p r block in
       let y = block_begun e p s a held len page x in
       let what : Blocking = record { kind = io_for s a page; length = len } in
-      let begun = with_io (io_for s a page) (e + len) k in
+      let with_new_io = with_io (io_for s a page) (e + len) k in
       let reads : overview next ≡ read_off y.state =
       block-record w e p r s held.thread a io ∙ ap (λ b. blocked_with e p s a b (overview r)) for ∙ ap (blocked_with e p s a what) can.reads
-      ∙ aside-reads begun p s a (Blocked a) held in
+      ∙ aside-reads with_new_io p s a (Blocked a) held in
       let inside : s.0 < length y.state.untold =
       (let len_same = length-set k.untold s.0 (untold_of k s.0 ++ Blocked a ∷ []) in let before = aside.inside in omega arith) in
       let up : CanUp y.state next p s fresh false = record {
@@ -286,7 +286,7 @@ module _ {C : Type 0} where
       let ios : r.under_way ≡ k.under_way = ap (λ (v : Overview). v.under_way) can.reads in
       let left : leave_records p (owner_of y.state p) s (is_fetching y.state s.0) ≡ leave_records p (Some s) s (list_any (fetches s.0) r.under_way) =
       ap (λ o. leave_records p o s (is_fetching y.state s.0)) owner
-      ∙ ap (leave_records p (Some s) s) (no-fetch s a page k.begun (e + len) k.under_way ∙ ap (list_any (fetches s.0)) (sym ios)) in
+      ∙ ap (leave_records p (Some s) s) (no-fetch s a page k.io_count (e + len) k.under_way ∙ ap (list_any (fetches s.0)) (sym ios)) in
       let walk = behind-walk (can_upcall k s) w e p next y s fresh can.fetch up in
       record {
         records = block ∷ walk.records;
@@ -300,8 +300,8 @@ module _ {C : Type 0} where
                 named = runs-on k r p s a can.reads aside.runs;
                 all = tt;
                 gives = record {
-                  number = ap (λ (v : Overview). v.begun) (sym can.reads);
-                  goes_on = subst (λ (v : Overview). GoesOn (has_page (slice_index v.pages s.0) 0) p r s (walk.records ++ rest)) (sym can.reads) goes;
+                  number = ap (λ (v : Overview). v.io_count) (sym can.reads);
+                  follows = subst (λ (v : Overview). GoesOn (has_page (slice_index v.pages s.0) 0) p r s (walk.records ++ rest)) (sym can.reads) goes;
                 };
                 raises = tt;
               },
@@ -309,7 +309,7 @@ module _ {C : Type 0} where
             );
         fixed = walk.fixed;
         idle = λ idle. walk.idle (block-idle w e p r k s a held (io_for s a page) (e + len) io aside.stopped idle);
-        tidy = λ tidy. walk.tidy (tidy-of y.state (tidy-blocked k.untold k.under_way s a page k.begun (e + len) aside.inside (tidy-in k tidy)) tidy.taken);
+        tidy = λ tidy. walk.tidy (tidy-of y.state (tidy-blocked k.untold k.under_way s a page k.io_count (e + len) aside.inside (tidy-in k tidy)) tidy.taken);
         some = not-empty block walk.records;
         own = walk.own;
         shape = walk.shape;

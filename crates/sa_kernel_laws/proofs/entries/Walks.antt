@@ -303,7 +303,7 @@ module _ {C : Type 0} where
   fetch-reads w e p r s true x same reads = reads
   fetch-reads w e p r s false x same reads =
       let G : Overview → ℕ → Overview =
-      λ v n. record v { begun = v.begun + 1; under_way = v.under_way ++ record { number = v.begun; ends = e + n; kind = Upcall s } ∷ [] } in
+      λ v n. record v { io_count = v.io_count + 1; under_way = v.under_way ++ record { number = v.io_count; ends = e + n; kind = Upcall s } ∷ [] } in
       let back = sym same in
       λ i. G (reads i) (back i)
 
@@ -320,7 +320,7 @@ module _ {C : Type 0} where
   fetch-tidy e p s true x is tidy = tidy
   fetch-tidy e p s false x is tidy =
       tidy-of (fetch_page e p s false x).state
-      (tidy-fetch x.state.untold x.state.under_way s x.state.begun (e + x.state.fixed.fetch) is (tidy-in x.state tidy)) tidy.taken
+      (tidy-fetch x.state.untold x.state.under_way s x.state.io_count (e + x.state.fixed.fetch) is (tidy-in x.state tidy)) tidy.taken
 
   pub leave-walk : (w : WorkloadView) (e : ℕ) (p : ProcNo) (r : Readings) (x : Scene C) (s : SpaceNo) → x.state.fixed.fetch ≡ w.fetch
       → overview r ≡ read_off x.state → Walk w e p r x (leave e p s x) (λ all. leave_run all

@@ -27,7 +27,7 @@ use Rattle.sa_kernel_model.proofs.sound.Sound.{sound-opened}
 use Rattle.sa_kernel_model.proofs.sound.Held.{stays-closed}
 use Rattle.sa_laws.specs.Readings.{Readings, opening_readings, demand_of, untold_of, is_fetching}
 use Rattle.sa_laws.specs.Record.{after_record, mark_after}
-use Rattle.sa_laws.specs.History.{Test, begun, behind_all, after_records, after_event}
+use Rattle.sa_laws.specs.History.{Test, event_begun, behind_all, after_records, after_event}
 use Rattle.sa_laws.specs.Opening.{first_wants, opening_records, opening_event}
 use Rattle.sa_laws.specs.Closing.{must_want, want_one, spaces_of, wants_due, aims_due, lines_due, must_interrupt, line_due, has_untold, will_tell}
 use Rattle.sa_laws.proofs.Records.{records-append}
@@ -91,7 +91,7 @@ evicts-none spaces (e ∷ es) pages all =
     ap (λ b. evicted 0 es (cond b (gone pages e.space.0 e.page) pages)) (ne_eqb e.event 0 (λ is. let first = later.first in omega arith))
     ∙ evicts-none spaces es pages (All-tail (IsEviction spaces) e es all)
 
-pub begins-same : (w : WorkloadView) → IsWorkload w → begun w (opening_event w) (opening_readings w) ≡ opening_readings w
+pub begins-same : (w : WorkloadView) → IsWorkload w → event_begun w (opening_event w) (opening_readings w) ≡ opening_readings w
 begins-same w ok =
     let r = opening_readings w in
     let lines : slice_set r.lines 0 None ≡ r.lines = ap (slice_set r.lines 0) (sym (all-same w.processors 0 no_line)) ∙ set-get_or r.lines 0 None in

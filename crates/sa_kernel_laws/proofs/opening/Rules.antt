@@ -15,7 +15,7 @@ use Rattle.sa_kernel_model.specs.Opening.{opened}
 use Rattle.sa_kernel_model.proofs.sound.Sound.{sound-opening, sound-opened}
 use Rattle.sa_kernel_model.proofs.sound.Prompt.{prompt-closed}
 use Rattle.sa_laws.specs.Readings.{Readings, opening_readings, space_of_life}
-use Rattle.sa_laws.specs.History.{begun, behind_all, after_records, after_event}
+use Rattle.sa_laws.specs.History.{event_begun, behind_all, after_records, after_event}
 use Rattle.sa_laws.specs.Shape.{is_no_aim, lines_in, aims_in, before_aims, front_part}
 use Rattle.sa_laws.specs.Opening.{first_wants, opening_records, opening_event}
 use Rattle.sa_laws.specs.Closing.{want_one, spaces_of, aims_due, lines_due}
@@ -59,7 +59,7 @@ no-aims e lines (c ∷ cs) =
     (line_records c.proc (line_at lines c.proc) ++ records_of e (lines_with e lines c) cs) refl
 
 -- each record is lawful
-lawful-opening : (w : WorkloadView) → IsWorkload w → AreLawful w 0 zeroth (begun w (opening_event w) (opening_readings w)) (opening_records w)
+lawful-opening : (w : WorkloadView) → IsWorkload w → AreLawful w 0 zeroth (event_begun w (opening_event w) (opening_readings w)) (opening_records w)
 lawful-opening w ok =
     let m = wanting w in
     let cs = aims_due w 0 m in
@@ -69,9 +69,9 @@ lawful-opening w ok =
     (wants-lawful w 0 zeroth (opening_readings w) (spaces_of w) al last)
 
 each-opening : (w : WorkloadView) (L : RecordLaw) → IsWorkload w → ((c : Readings) (x : Record) (rest : List Record) → Lawful zeroth c x rest → L c x rest)
-    → EachRecord L w 0 zeroth (begun w (opening_event w) (opening_readings w)) (opening_records w)
+    → EachRecord L w 0 zeroth (event_begun w (opening_event w) (opening_readings w)) (opening_records w)
 each-opening w L ok weaker =
-    each-weaker (Lawful zeroth) L w 0 zeroth (begun w (opening_event w) (opening_readings w)) (opening_records w) weaker (lawful-opening w ok)
+    each-weaker (Lawful zeroth) L w 0 zeroth (event_begun w (opening_event w) (opening_readings w)) (opening_records w) weaker (lawful-opening w ok)
 
 pub told-once : HoldsAtOpening ToldOnce
 told-once test w ok = record { told = each-opening w TellsOnce ok (λ c x rest law. law.once) }
@@ -140,7 +140,7 @@ want-cause test w ok = record {
 pub line-cause : HoldsAtOpening LineCause
 line-cause test w ok =
     let m = wanting w in
-    let r = begun w (opening_event w) (opening_readings w) in
+    let r = event_begun w (opening_event w) (opening_readings w) in
     let cs = aims_due w 0 m in
     let all = opening_records w in
     let front : front_part all ≡ all = front-wants (length w.spaces) 0 m.lines cs ok.some_space in
@@ -158,7 +158,7 @@ line-cause test w ok =
 pub cover-shares : HoldsAtOpening SharesAreCovered
 cover-shares test w ok =
     let m = wanting w in
-    let r = begun w (opening_event w) (opening_readings w) in
+    let r = event_begun w (opening_event w) (opening_readings w) in
     let cs = aims_due w 0 m in
     let al = records_of 0 m.lines cs in
     let fw = first_wants w in

@@ -133,8 +133,8 @@ pub block-record : (w : WorkloadView) (e : ℕ) (p : ProcNo) (r : Readings) (s :
     ≡ (record (overview r) {
       running = slice_set r.running p.0 None;
       untold = slice_set r.untold s.0 (get_or r.untold s.0 [] ++ note.Blocked a ∷ []);
-      begun = r.begun + 1;
-      under_way = r.under_way ++ record { number = r.begun; ends = e + (blocking w r s t a).length; kind = (blocking w r s t a).kind } ∷ [];
+      io_count = r.io_count + 1;
+      under_way = r.under_way ++ record { number = r.io_count; ends = e + (blocking w r s t a).length; kind = (blocking w r s t a).kind } ∷ [];
     })
 block-record w e p r s t a io =
     seen-same _ r.state.owners _ _ (overview (after_record w e p r (Block s t a io))) (placed-owners r.state s t place.Blocked)

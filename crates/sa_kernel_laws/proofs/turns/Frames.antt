@@ -102,7 +102,7 @@ module _ {C : Type 0} where
   framed-blocked past e p fresh None l held len page x = refl
   framed-blocked past e p fresh (Some s) None held len page x = refl
   framed-blocked past e p fresh (Some s) (Some a) held len page x =
-      let io : IoNo = record { 0 = x.state.begun } in
+      let io : IoNo = record { 0 = x.state.io_count } in
       let aside : Scene C = record x { state = put_aside p s a (Blocked a) held (with_io (io_for s a page) (e + len) x.state) } in
       ap (told_or_left e p s fresh (can_upcall x.state s)) (framed-says past e p (BlockRecord s held.thread a io) aside)
       ∙ framed-told past e p s fresh (can_upcall x.state s) (block_begun e p s a held len page x)

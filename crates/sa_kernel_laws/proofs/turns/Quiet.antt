@@ -8,7 +8,7 @@ use Rattle.sa_kernel_model.specs.State.{Fixed}
 use Rattle.sa_kernel_model.specs.Entries.{evicted_at}
 use Rattle.sa_kernel_model.proofs.sound.Sound.{sound-evicted}
 use Rattle.sa_laws.specs.Event.{Event}
-use Rattle.sa_laws.specs.History.{begun, behind_all}
+use Rattle.sa_laws.specs.History.{event_begun, behind_all}
 use Rattle.sa_kernel_laws.specs.Overview.{Overview, overview, read_off}
 use Rattle.sa_kernel_laws.specs.Laws.{QuietEventsKeep}
 use Rattle.sa_kernel_laws.proofs.overview.Records.{overview-ended, users-records}
@@ -17,7 +17,7 @@ use Rattle.sa_kernel_laws.proofs.overview.Idle.{idles-ended, users-idles}
 pub quiet-keeps : (C : Type 0) → QuietEventsKeep C
 quiet-keeps C test w k r e p says kept low users =
     let ev : Event = record { number = e; proc = p; records = says } in
-    let c = begun w ev r in
+    let c = event_begun w ev r in
     let F : List Evict → List (Option ℕ) → Overview → Overview = λ es lines (v : Overview). record v {
       assign = record v.assign { lines = lines };
       pages = evicted e es v.pages;

@@ -23,7 +23,7 @@ use Rattle.sa_kernel_model.specs.Sound.{IsSound}
 use Rattle.sa_kernel_model.proofs.sound.Sound.{sound-evicted, sound-entered_as}
 use Rattle.sa_laws.specs.Readings.{Readings}
 use Rattle.sa_laws.specs.Record.{after_record, demands_after}
-use Rattle.sa_laws.specs.History.{begun, after_records}
+use Rattle.sa_laws.specs.History.{event_begun, after_records}
 use Rattle.sa_laws.specs.Shape.{is_of_closing, is_no_want}
 use Rattle.sa_laws.specs.Closing.{must_want, want_one, spaces_of, wants_due, aims_due, lines_due}
 use Rattle.sa_laws.proofs.Records.{records-append}
@@ -193,7 +193,7 @@ module _ {C : Type 0} where
 
   -- the moment at the beginning of an event
   abbrev pub reading_at : WorkloadView → Readings → Turn C → KernelState C → Readings
-  reading_at w r t k = begun w (event_of t k) r
+  reading_at w r t k = event_begun w (event_of t k) r
 
   begins : (w : WorkloadView) (k : KernelState C) (r : Readings) (t : Turn C) → IsKept w k r → CanTurn w k r t
       → Stands w (evicted_at t.number k) (reading_at w r t k) t.proc

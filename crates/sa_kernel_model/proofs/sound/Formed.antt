@@ -200,9 +200,9 @@ module _ {C : Type 0} where
         taken = sound.taken;
       }
 
-  formed-devices : (k : KernelState C) (begun : ℕ) (ios : List Io) (pages : List ℕ) → length pages ≡ length k.pages → AreIos (length k.demands) ios → IsFormed k
-      → IsFormed (record k { begun = begun; under_way = ios; pages = pages })
-  formed-devices k begun ios pages len kinds sound = record {
+  formed-devices : (k : KernelState C) (io_count : ℕ) (ios : List Io) (pages : List ℕ) → length pages ≡ length k.pages → AreIos (length k.demands) ios → IsFormed k
+      → IsFormed (record k { io_count = io_count; under_way = ios; pages = pages })
+  formed-devices k io_count ios pages len kinds sound = record {
     sizes = sizes-kept k _ (λ i. record (sizes_of k) { pages = len i }) sound.sizes;
     owners = sound.owners;
     aims = sound.aims;
@@ -213,7 +213,7 @@ module _ {C : Type 0} where
 
   formed-io : (kind : IoKind) (ends : ℕ) (k : KernelState C) → IsKind (length k.demands) kind → IsFormed k → IsFormed (with_io kind ends k)
   formed-io kind ends k fits sound =
-      formed-devices k (k.begun + 1) _ k.pages refl (All-push (λ (io : Io). IsKind (length k.demands) io.kind) k.under_way _ sound.ios fits) sound
+      formed-devices k (k.io_count + 1) _ k.pages refl (All-push (λ (io : Io). IsKind (length k.demands) io.kind) k.under_way _ sound.ios fits) sound
 
   formed-fetch : (e : ℕ) (p : ProcNo) (s : SpaceNo) (b : Bool) (x : Scene C) → s.0 < length x.state.demands → IsFormed x.state
       → IsFormed (fetch_page e p s b x).state
@@ -328,8 +328,8 @@ module _ {C : Type 0} where
       kind None h = below
       kind (Some k) h = (below, h.0, h.1)
 
-      begun : IsFormed (block_begun e p s a held len page x).state
-      begun =
+      formed_begin : IsFormed (block_begun e p s a held len page x).state
+      formed_begin =
           formed-aside p s a (Blocked a) held (with_io (io_for s a page) (e + len) x.state) (sym life)
           (formed-io (io_for s a page) (e + len) x.state (kind page fits) sound)
 
@@ -340,8 +340,8 @@ module _ {C : Type 0} where
       ]
 
       told : (can : Bool) → IsFormed (told_or_left e p s b can (block_begun e p s a held len page x)).state
-      told true = formed-upcall e p s b false (block_begun e p s a held len page x) (sym owner) free begun
-      told false = formed-leave e p s (block_begun e p s a held len page x) below (free-set x.state.lives p.0) begun
+      told true = formed-upcall e p s b false (block_begun e p s a held len page x) (sym owner) free formed_begin
+      told false = formed-leave e p s (block_begun e p s a held len page x) below (free-set x.state.lives p.0) formed_begin
 
   formed-come_back : (e : ℕ) (p : ProcNo) (s : SpaceNo) (a : ActNo) (x : Scene C) → IsFormed x.state → IsFormed (come_back e p s a x).state
   formed-come_back e p s a x sound = formed-noted s (Unblocked a) x.state sound
@@ -354,7 +354,7 @@ module _ {C : Type 0} where
   pub formed-over : (e : ℕ) (p : ProcNo) (io : IoNo) (kind : Option IoKind) (x : Scene C) → IsFormed x.state → IsFormed (over e p io kind x).state
   formed-over e p io None x sound = sound
   formed-over e p io (Some kind) x sound =
-      formed-over_for e p kind _ (formed-devices x.state x.state.begun (without io.0 x.state.under_way) (completed kind x.state.pages)
+      formed-over_for e p kind _ (formed-devices x.state x.state.io_count (without io.0 x.state.under_way) (completed kind x.state.pages)
       (length-completed kind x.state.pages)
       (All-without (λ (i : Io). IsKind (length x.state.demands) i.kind) io.0 x.state.under_way sound.ios) sound)
 
@@ -467,7 +467,7 @@ module _ {C : Type 0} where
 
   pub formed-evicted : (event : ℕ) (k : KernelState C) → IsFormed k → IsFormed (evicted_at event k)
   formed-evicted event k sound =
-      formed-devices k k.begun k.under_way (evicted event k.fixed.evictions k.pages) (length-evicted event k.fixed.evictions k.pages) sound.ios sound
+      formed-devices k k.io_count k.under_way (evicted event k.fixed.evictions k.pages) (length-evicted event k.fixed.evictions k.pages) sound.ios sound
 
   pub formed-opening : (w : WorkloadView) → IsWorkload w → IsFormed (opening_state {C = C} w)
   formed-opening w ok = record {

@@ -71,7 +71,7 @@ module _ {C : Type 0} where
   claimed-fetch e p s true x t claimed = claimed
   claimed-fetch e p s false x t claimed =
       claims-fetch x.state.under_way x.state.untold x.state.telling x.state.acts t s
-      (record { number = x.state.begun; ends = e + x.state.fixed.fetch; kind = Upcall s }) refl claimed
+      (record { number = x.state.io_count; ends = e + x.state.fixed.fetch; kind = Upcall s }) refl claimed
 
   claimed-leave : (e : ℕ) (p : ProcNo) (s : SpaceNo) (x : Scene C) (t : ℕ) → AreClaimed x.state t → AreClaimed (leave e p s x).state t
   claimed-leave e p s x t claimed = claimed-fetch e p s (is_fetching x.state s.0) _ t claimed
@@ -212,7 +212,7 @@ module _ {C : Type 0} where
         empty = empty;
         inside = (let y = length-set k.untold s.0 (untold_of k s.0 ++ Blocked a ∷ []) in omega arith);
         claimed =
-            claims-blocked k.under_way k.untold k.telling k.acts t s a held (record { number = k.begun; ends = e + len; kind = io_for s a page }) page refl
+            claims-blocked k.under_way k.untold k.telling k.acts t s a held (record { number = k.io_count; ends = e + len; kind = io_for s a page }) page refl
             inside (runs-here k p s a owner life formed) claimed;
       }
 

@@ -19,7 +19,7 @@ use Rattle.sa_laws.specs.Event.{Event}
 use Rattle.sa_laws.specs.Life.{Life, new_life, inherits, bereft}
 use Rattle.sa_laws.specs.Readings.{Readings, running_of, life_of}
 use Rattle.sa_laws.specs.Record.{after_record, with_life, handed, stopped_with}
-use Rattle.sa_laws.specs.History.{Test, begun, after_records, after_event, behind_all, with_step, stepped, arisen, is_step, is_up}
+use Rattle.sa_laws.specs.History.{Test, event_begun, after_records, after_event, behind_all, with_step, stepped, arisen, is_step, is_up}
 use Rattle.sa_laws.specs.Upcalls.{RunsWhereOwned, EachRecord, NamesTheLife}
 use Rattle.sa_laws.specs.Shape.{is_of_closing}
 use Rattle.sa_laws.proofs.Closings.{AreClosing}
@@ -256,7 +256,7 @@ module _ (test : Test) (w : WorkloadView) (r : Readings) (ev : Event) (h : IdleA
       subst (λ (ys : List Record). list_any is_stop ys ≡ false) (sym records)
       (subst (λ (ys : List Record). StepsStopNone ys) records steps steps_at) in
       let calm : IsCalmer (r.lives b.0) (Some l) =
-      subst (λ (o : Option Life). IsCalmer (r.lives b.0) o) at (calm-records w ev.number ev.proc (begun w ev r) ev.records none b.0) in
+      subst (λ (o : Option Life). IsCalmer (r.lives b.0) o) at (calm-records w ev.number ev.proc (event_begun w ev r) ev.records none b.0) in
       let old = calm quiet in
       (h b old.0 old.1 old.2).1 ev.proc runs
 
@@ -297,7 +297,7 @@ idle-event test w r ev named apart first h a life is idle =
     last_out a life at idle
   where
     b : Readings
-    b = begun w ev r
+    b = event_begun w ev r
 
     behind : (xs : List Record) → EachRecord (NamesTheLife ev.proc) w ev.number ev.proc b xs → StopsFirst xs
         → IdleAreOut (after_records w ev.number ev.proc b xs)

@@ -11,7 +11,7 @@ use Rattle.sa_devices.proofs.IosLemmas.{Member, IsDueOf, due_of-due}
 use Rattle.sa_laws.specs.Event.{Event}
 use Rattle.sa_laws.specs.Readings.{Readings}
 use Rattle.sa_laws.specs.Record.{after_record, is_io_of_other, fetches_other}
-use Rattle.sa_laws.specs.History.{after_records, after_event, begun, Test}
+use Rattle.sa_laws.specs.History.{after_records, after_event, event_begun, Test}
 
 -- The numbers begin at `lo` or later, end before `hi`, and each is greater than the one before it.
 abbrev pub AreRising : ℕ → ℕ → List Io → Type 0
@@ -35,14 +35,14 @@ rising-push lo hi [] io same is = (omega (arith, same, is), omega (arith, same))
 rising-push lo hi (x ∷ xs) io same is = (is.0, rising-push (x.number + 1) hi xs io same is.1)
 
 abbrev pub IsNumberedWell : Readings → Type 0
-IsNumberedWell r = AreRising 0 r.begun r.under_way
+IsNumberedWell r = AreRising 0 r.io_count r.under_way
 
 rising-record : (w : WorkloadView) (e : ℕ) (p : ProcNo) (r : Readings) (x : Record) → IsNumberedWell r
     → IsNumberedWell (after_record w e p r x)
-rising-record w e p r (Block s t a io) is = rising-push 0 r.begun r.under_way _ refl is
-rising-record w e p r (Fetch s) is = rising-push 0 r.begun r.under_way _ refl is
-rising-record w e p r (Unblock s t a) is = rising-filter (is_io_of_other a) 0 r.begun r.under_way is
-rising-record w e p r (Fetched s) is = rising-filter (fetches_other s) 0 r.begun r.under_way is
+rising-record w e p r (Block s t a io) is = rising-push 0 r.io_count r.under_way _ refl is
+rising-record w e p r (Fetch s) is = rising-push 0 r.io_count r.under_way _ refl is
+rising-record w e p r (Unblock s t a) is = rising-filter (is_io_of_other a) 0 r.io_count r.under_way is
+rising-record w e p r (Fetched s) is = rising-filter (fetches_other s) 0 r.io_count r.under_way is
 rising-record w e p r x is = is
 
 rising-records : (w : WorkloadView) (e : ℕ) (p : ProcNo) (r : Readings) (xs : List Record) → IsNumberedWell r
@@ -52,7 +52,7 @@ rising-records w e p r (x ∷ xs) is = rising-records w e p (after_record w e p 
 
 pub rising-event : (test : Test) (w : WorkloadView) (r : Readings) (ev : Event) → IsNumberedWell r
     → IsNumberedWell (after_event test w r ev)
-rising-event test w r ev is = rising-records w ev.number ev.proc (begun w ev r) ev.records is
+rising-event test w r ev is = rising-records w ev.number ev.proc (event_begun w ev r) ev.records is
 
 -- So the I/O that is due is the one that its number finds.
 above : (lo hi : ℕ) (d : Io) (xs : List Io) → AreRising lo hi xs → Member d xs → lo ≤ d.number

@@ -16,7 +16,7 @@ use Rattle.sa_laws.specs.Record.{after_record}
 use Rattle.sa_laws.specs.History.{after_records}
 use Rattle.sa_laws.specs.Shape.{is_of_closing}
 use Rattle.sa_user_laws.specs.Moments.{life_in, runs_in, StaysRaised, SameFor, AlikeButDemands}
-use Rattle.sa_user_laws.specs.Scene.{begun_at}
+use Rattle.sa_user_laws.specs.Scene.{event_begun_at}
 
 -- No space's threads, lives and lists change, and no line is lowered.
 pub record StaysPut (m n : Readings) : Type 0 where
@@ -124,11 +124,11 @@ same-trans s l m n a b = record {
 -- there, or where that line was low.
 pub begun-same : (w : WorkloadView) (e : ℕ) (p : ProcNo) (s : SpaceNo) (r : Readings)
     → (line_of r p ≡ None) ⊎ (runs_in s r.lives (running_of r p) ≡ None)
-    → SameFor s r (begun_at w e p r)
+    → SameFor s r (event_begun_at w e p r)
 begun-same w e p s r off =
     record { space = refl; lives = λ a. refl; running = λ q. refl; taken = refl; untold = refl; ready = refl; lines = stays }
   where
-    stays : (q : ProcNo) → IsSome (runs_in s r.lives (running_of r q)) → StaysRaised r (begun_at w e p r) q
+    stays : (q : ProcNo) → IsSome (runs_in s r.lives (running_of r q)) → StaysRaised r (event_begun_at w e p r) q
     stays q runs raised = elim (cases_eq q.0 p.0) [
       | inl same ↦ elim off [
         | inl low ↦ absurd (let z : IsSome {T = ℕ} None = subst (λ (o : Option ℕ). IsSome o)

@@ -9,7 +9,7 @@ use Rattle.sa_laws.specs.Event.{Event}
 use Rattle.sa_laws.specs.Life.{Life}
 use Rattle.sa_laws.specs.Readings.{Readings}
 use Rattle.sa_laws.specs.Record.{after_record}
-use Rattle.sa_laws.specs.History.{Test, begun, after_records, after_event}
+use Rattle.sa_laws.specs.History.{Test, event_begun, after_records, after_event}
 use Rattle.sa_histories.proofs.Sizes.{IsSized, sized-step}
 use Rattle.sa_user_laws.specs.Moments.{AreSized}
 
@@ -18,7 +18,7 @@ pub sized-records : (w : WorkloadView) (e : ℕ) (p : ProcNo) (r : Readings) (xs
 sized-records w e p r [] sized = sized
 sized-records w e p r (x ∷ xs) sized = sized-records w e p (after_record w e p r x) xs (sized-step w e p r x sized)
 
-pub sized-begun : (w : WorkloadView) (ev : Event) (r : Readings) → IsSized w r → IsSized w (begun w ev r)
+pub sized-begun : (w : WorkloadView) (ev : Event) (r : Readings) → IsSized w r → IsSized w (event_begun w ev r)
 sized-begun w ev r sized = record {
   spaces = sized.spaces;
   running = sized.running;
@@ -33,7 +33,7 @@ sized-begun w ev r sized = record {
 
 pub sized-event : (test : Test) (w : WorkloadView) (r : Readings) (ev : Event) → IsSized w r → IsSized w (after_event test w r ev)
 sized-event test w r ev sized =
-    let last = sized-records w ev.number ev.proc (begun w ev r) ev.records (sized-begun w ev r sized) in
+    let last = sized-records w ev.number ev.proc (event_begun w ev r) ev.records (sized-begun w ev r sized) in
     record {
       spaces = last.spaces;
       running = last.running;

@@ -23,7 +23,7 @@ use Rattle.sa_laws.specs.Life.{Life, new_life}
 use Rattle.sa_laws.specs.Readings.{Readings, life_of as life_at, running_of, owner_of as owner_in}
 use Rattle.sa_kernel_model.specs.State.{KernelState, life_of}
 use Rattle.sa_kernel_laws.proofs.overview.Untold.{AreOnce}
-use Rattle.sa_core_model.specs.Machine.{answered, Machine, seen_on, begun}
+use Rattle.sa_core_model.specs.Machine.{answered, Machine, seen_on, context_begun}
 use Rattle.sa_core_model.specs.Standing.{contexts_of, contexts_in, context_in, running}
 use Rattle.sa_core_model.proofs.Phases.{at-owned, Paused}
 use Rattle.sa_core_model.proofs.Calls.{called-is, mine, runs-at, Tells}
@@ -74,8 +74,8 @@ module _ {U C : Type 0} (level : UserLevel U C) where
       (acts : ℕ → Option (Act C)) (us : List (List Note)) (m : Machine U C) (k : KernelState C) (items : List Item) (r : Readings) (number : ℕ)
       (u : U) (def : SpaceView) (notes : List Note)
       → CanBegin w e g p s n lives acts us m k r → slice_get m.users s.0 ≡ Some u → slice_get w.spaces s.0 ≡ Some def
-      → Tells level.calls level.stands level.keep w e g p s notes (begun level.calls p s (record m { kernel = k; items = items }))
-      → Hearing level w e g p s n us notes (get_or us s.0 []) (begun level.calls p s (record m { kernel = k; items = items }))
+      → Tells level.calls level.stands level.keep w e g p s notes (context_begun level.calls p s (record m { kernel = k; items = items }))
+      → Hearing level w e g p s n us notes (get_or us s.0 []) (context_begun level.calls p s (record m { kernel = k; items = items }))
       (after_record w number p r (Up s n))
   hearing-begun w e g p s n lives acts us m k items r number u def notes can at of tells =
       let paused = can.paused in

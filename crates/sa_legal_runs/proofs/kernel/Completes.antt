@@ -49,7 +49,7 @@ use Rattle.sa_core_model.proofs.Calls.{held-for, kept-of}
 use Rattle.sa_core_model.proofs.Running.{IsHeld, held-no_life, context-held}
 use Rattle.sa_core_model.specs.Turn.{next_event, entered_on}
 use Rattle.sa_core_model.proofs.Effects.{SameRuns, same-closed, same-over}
-use Rattle.sa_user_laws.specs.Scene.{begun_at}
+use Rattle.sa_user_laws.specs.Scene.{event_begun_at}
 use Rattle.sa_user_laws.specs.Steps.{event_with}
 use Rattle.sa_user_laws.specs.Level.{UserLevel}
 use Rattle.sa_legal_runs.proofs.matching.Composed.{IsComposed, Goes, read}
@@ -123,7 +123,7 @@ module _ {U C : Type 0} (level : UserLevel U C) where
       let x : Machine U C = next_event m in
       let g = m.event + 1 in
       let r = read level w events in
-      let b0 = begun_at w g p r in
+      let b0 = event_begun_at w g p r in
       let b = begins-now level w events m p c in
       let k = x.kernel in
       let st = b.rest.standing in
@@ -237,7 +237,7 @@ module _ {U C : Type 0} (level : UserLevel U C) where
       let x : Machine U C = next_event m in
       let g = m.event + 1 in
       let r = read level w events in
-      let b0 = begun_at w g p r in
+      let b0 = event_begun_at w g p r in
       let k = x.kernel in
       let entry : Entry C = Complete io in
       let own = Fetched s ∷ [] in
@@ -300,8 +300,8 @@ module _ {U C : Type 0} (level : UserLevel U C) where
       r = read level w events
 
       there : io_at due_io.number m.kernel.under_way ≡ Some due_io
-      there = due-there g m.kernel.begun m.kernel.under_way due_io
-          (subst (λ (q : Overview). AreRising 0 q.begun q.under_way) c.history.kept.reads c.ios) due
+      there = due-there g m.kernel.io_count m.kernel.under_way due_io
+          (subst (λ (q : Overview). AreRising 0 q.io_count q.under_way) c.history.kept.reads c.ios) due
 
       kind_is : kind_at due_io.number m.kernel.under_way ≡ Some due_io.kind
       kind_is = ap (option_map (λ (q : Io). q.kind)) there

@@ -41,7 +41,7 @@ use Rattle.sa_legal_runs.proofs.frames.Lives.{AreMatched, matched-aside}
 use Rattle.sa_laws.specs.Event.{Event}
 use Rattle.sa_core_model.specs.Turn.{next_event}
 use Rattle.sa_histories.proofs.Sizes.{IsSized, sized-step}
-use Rattle.sa_user_laws.specs.Scene.{begun_at}
+use Rattle.sa_user_laws.specs.Scene.{event_begun_at}
 use Rattle.sa_legal_runs.proofs.matching.Composed.{IsComposed, read}
 use Rattle.sa_legal_runs.proofs.matching.OwnRecords.{mine-of}
 use Rattle.sa_legal_runs.proofs.frames.Moments.{same-trans, begun-same}
@@ -102,14 +102,14 @@ module _ {U C : Type 0} (level : UserLevel U C) where
       → (here : IsAt level.calls level.stands level.keep (next_event m) p o)
       → let held : Stopped C = record { ctx = here.ctx; thread = level.calls.thread here.user here.ctx; idle = level.calls.idle here.user here.ctx } in
       IsHalted w m.event p n (next_event m) (put_aside p o here.act (Preempted here.act) held (with_line p None (next_event m).kernel))
-      (after_record w (m.event + 1) p (begun_at w (m.event + 1) p (read level w events)) (Stop o held.thread here.act))
+      (after_record w (m.event + 1) p (event_begun_at w (m.event + 1) p (read level w events)) (Stop o held.thread here.act))
   halted-stop w events m p n o composed unused here =
       let held : Stopped C = record { ctx = here.ctx; thread = level.calls.thread here.user here.ctx; idle = level.calls.idle here.user here.ctx } in
       let e = m.event in
       let g = m.event + 1 in
       let x : Machine U C = next_event m in
       let r = read level w events in
-      let c = begun_at w g p r in
+      let c = event_begun_at w g p r in
       let k = x.kernel in
       let a = here.act in
       let b = begins-now level w events m p composed in
@@ -168,11 +168,11 @@ module _ {U C : Type 0} (level : UserLevel U C) where
   pub halted-off : (w : WorkloadView) (events : List Event) (m : Machine U C) (p : ProcNo) (n : ActNo)
       → IsComposed level w events m → m.kernel.acts n.0 ≡ None
       → p.0 < length m.kernel.lives → owner_of m.kernel p ≡ None
-      → IsHalted w m.event p n (next_event m) (with_line p None (next_event m).kernel) (begun_at w (m.event + 1) p (read level w events))
+      → IsHalted w m.event p n (next_event m) (with_line p None (next_event m).kernel) (event_begun_at w (m.event + 1) p (read level w events))
   halted-off w events m p n composed unused within off =
       let e = m.event in
       let x : Machine U C = next_event m in
-      let c = begun_at w (m.event + 1) p (read level w events) in
+      let c = event_begun_at w (m.event + 1) p (read level w events) in
       let b = begins-now level w events m p composed in
       let tidy = tidy-now level w events m composed in
       let k = x.kernel in

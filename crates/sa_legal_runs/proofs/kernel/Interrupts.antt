@@ -44,7 +44,7 @@ use Rattle.sa_core_model.specs.Standing.{IsBetween}
 use Rattle.sa_core_model.proofs.Turns.{Welcomed}
 use Rattle.sa_user_laws.specs.Steps.{begins_step, event_with}
 use Rattle.sa_user_laws.specs.Moments.{AlikeButEnds}
-use Rattle.sa_user_laws.specs.Scene.{begun_at}
+use Rattle.sa_user_laws.specs.Scene.{event_begun_at}
 use Rattle.sa_user_laws.specs.Level.{UserLevel}
 use Rattle.sa_legal_runs.proofs.matching.Shown.{lawful-by}
 use Rattle.sa_legal_runs.proofs.frames.Idle.{is_stop, StopsFirst, no-stops, stops-first_both}
@@ -121,7 +121,7 @@ module _ {U C : Type 0} (level : UserLevel U C) where
       → let g = m.event + 1 in
       let x : Machine U C = next_event m in
       let r = read level w events in
-      let b = begun_at w g p r in
+      let b = event_begun_at w g p r in
       let entry : Entry C = Interrupt held in
       let t : Turn C = record { number = g; proc = p; says = []; fresh = n; entry = Some entry } in
       let after : Machine U C = entered_on level.calls p n entry (without_context p x) in
@@ -139,7 +139,7 @@ module _ {U C : Type 0} (level : UserLevel U C) where
       let g = m.event + 1 in
       let x : Machine U C = next_event m in
       let r = read level w events in
-      let b = begun_at w g p r in
+      let b = event_begun_at w g p r in
       let entry : Entry C = Interrupt held in
       let t : Turn C = record { number = g; proc = p; says = []; fresh = n; entry = Some entry } in
       let notes = notes_told (not owned) p (untold_of y s.0) in

@@ -42,7 +42,7 @@ use Rattle.sa_core_model.specs.Standing.{contexts_of, contexts_in, IsBetween}
 use Rattle.sa_core_model.specs.Turn.{next_event, entered_on, kernel_entered, welcomed_if}
 use Rattle.sa_core_model.proofs.Effects.{same-closed, same-again, same-leave}
 use Rattle.sa_core_model.proofs.Phases.{contexts-same}
-use Rattle.sa_user_laws.specs.Scene.{begun_at}
+use Rattle.sa_user_laws.specs.Scene.{event_begun_at}
 use Rattle.sa_user_laws.specs.Steps.{begins_step, event_with}
 use Rattle.sa_user_laws.specs.Level.{UserLevel}
 use Rattle.sa_legal_runs.proofs.matching.Composed.{strict-raised, IsComposed, Goes, read}
@@ -120,7 +120,7 @@ module _ {U C : Type 0} (level : UserLevel U C) where
       → let g = m.event + 1 in
       let x : Machine U C = next_event m in
       let r = read level w events in
-      let b = begun_at w g p r in
+      let b = event_begun_at w g p r in
       let entry : Entry C = Interrupt held in
       let t : Turn C = record { number = g; proc = p; says = []; fresh = n; entry = Some entry } in
       let after : Machine U C = entered_on level.calls p n entry (without_context p x) in
@@ -135,7 +135,7 @@ module _ {U C : Type 0} (level : UserLevel U C) where
       let g = m.event + 1 in
       let x : Machine U C = next_event m in
       let r = read level w events in
-      let b = begun_at w g p r in
+      let b = event_begun_at w g p r in
       let entry : Entry C = Interrupt held in
       let t : Turn C = record { number = g; proc = p; says = []; fresh = n; entry = Some entry } in
       let o = owner_of y p in

@@ -28,7 +28,7 @@ use Rattle.sa_kernel_laws.specs.Overview.{overview, read_off, space_of}
 use Rattle.sa_kernel_laws.proofs.histories.Histories.{history-fetched}
 use Rattle.sa_kernel_laws.proofs.overview.Untold.{copies}
 use Rattle.sa_kernel_laws.proofs.overview.Records.{overview-ended}
-use Rattle.sa_core_model.specs.Machine.{Machine, user_of, context_on, seen_on, begun, answered, called_by, scene_of}
+use Rattle.sa_core_model.specs.Machine.{Machine, user_of, context_on, seen_on, context_begun, answered, called_by, scene_of}
 use Rattle.sa_core_model.specs.Turn.{told_one, told_all}
 use Rattle.sa_core_model.specs.Standing.{contexts_of}
 use Rattle.sa_core_model.proofs.Calls.{Tells, tells-next}
@@ -85,18 +85,18 @@ module _ {U C : Type 0} (level : UserLevel U C) where
       (u : U) (def : SpaceView) (added : Bool) (notes : List Note)
       → CanBegin level w e g p s n lives acts us m k r → slice_get m.users s.0 ≡ Some u → slice_get w.spaces s.0 ≡ Some def
       → notes ≡ notes_told added p (get_or us s.0 []) → copies (Add p) us ≡ 0
-      → Tells level.calls level.stands level.keep w e g p s notes (begun level.calls p s (record m { kernel = k; items = items }))
+      → Tells level.calls level.stands level.keep w e g p s notes (context_begun level.calls p s (record m { kernel = k; items = items }))
       → Hearing level w e g p s n us [] []
-      (told_all level.calls p s notes (begun level.calls p s (record m { kernel = k; items = items })))
+      (told_all level.calls p s notes (context_begun level.calls p s (record m { kernel = k; items = items })))
       (after_records w number p r (Up s n ∷ map Told notes))
   passage-up w e g p s n lives acts us m k items r number u def false notes can at of is none tells =
-      let x = begun level.calls p s (record m { kernel = k; items = items }) in
+      let x = context_begun level.calls p s (record m { kernel = k; items = items }) in
       let first = hearing-begun level w e g p s n lives acts us m k items r number u def notes can at of tells in
       subst (λ (ns : List Note). Hearing level w e g p s n us ns (get_or us s.0 []) x (after_record w number p r (Up s n))
       → Hearing level w e g p s n us [] [] (told_all level.calls p s ns x) (after_records w number p r (Up s n ∷ map Told ns))) (sym is)
       (λ h. hearing-all level w e g p s n us (get_or us s.0 []) x (after_record w number p r (Up s n)) number can.ok h) first
   passage-up w e g p s n lives acts us m k items r number u def true notes can at of is none tells =
-      let x = begun level.calls p s (record m { kernel = k; items = items }) in
+      let x = context_begun level.calls p s (record m { kernel = k; items = items }) in
       let first = hearing-begun level w e g p s n lives acts us m k items r number u def notes can at of tells in
       subst (λ (ns : List Note). Hearing level w e g p s n us ns (get_or us s.0 []) x (after_record w number p r (Up s n))
       → Hearing level w e g p s n us [] [] (told_all level.calls p s ns x) (after_records w number p r (Up s n ∷ map Told ns))) (sym is)

@@ -27,7 +27,7 @@ use Rattle.sa_kernel_model.specs.Parts.{moved, upcall}
 use Rattle.sa_kernel_model.specs.Closing.{closed}
 use Rattle.sa_kernel_laws.specs.Histories.{IsHistory, read_from}
 use Rattle.sa_kernel_model.proofs.sound.Held.{stays-closed}
-use Rattle.sa_core_model.specs.Machine.{Machine, without_context, begun, answered}
+use Rattle.sa_core_model.specs.Machine.{Machine, without_context, context_begun, answered}
 use Rattle.sa_core_model.specs.Turn.{told_all, welcomed_in}
 use Rattle.sa_core_model.specs.Standing.{contexts_in}
 use Rattle.sa_core_model.proofs.Calls.{Tells}
@@ -125,10 +125,10 @@ module _ {U C : Type 0} (level : UserLevel U C) where
       let owner : owner_of k.state p ≡ Some s = ap (λ (os : List (Option SpaceNo)). get_or os p.0 None) stays.owners ∙ upped.owner in
       let same : new.space ≡ s = same_Some new.space s (sym new.owner ∙ owner) in
       let telling : k.state.telling ≡ notes = stays.telling ∙ upped.telling in
-      let tells : Tells level.calls level.stands level.keep w e g p s notes (begun level.calls p s m) =
-      subst (λ (ns : List Note). Tells level.calls level.stands level.keep w e g p s ns (begun level.calls p s m)) telling
+      let tells : Tells level.calls level.stands level.keep w e g p s notes (context_begun level.calls p s m) =
+      subst (λ (ns : List Note). Tells level.calls level.stands level.keep w e g p s ns (context_begun level.calls p s m)) telling
       (subst (λ (t : SpaceNo). Tells level.calls level.stands level.keep w e g p t m.kernel.telling
-      (begun level.calls p t m)) same new.begins) in
+      (context_begun level.calls p t m)) same new.begins) in
       let at : slice_get m.users s.0 ≡ Some new.user = subst (λ (t : SpaceNo). slice_get m.users t.0 ≡ Some new.user) same new.is_user in
       let mid = after_records w g p front mv in
       let mids = mid-is w g p s owned (owner_of y.state p) front h.owner own (omega (arith, place, owners)) in
@@ -165,4 +165,4 @@ module _ {U C : Type 0} (level : UserLevel U C) where
       (subst (λ (c : Readings). c.lives ≡ with_step level.rules.inside w r ev last ev.records last.lives) both stepped) in
       subst (λ (t : Option SpaceNo). Upcalled level w events (welcomed_in level.calls p t m) ev) (sym owner)
       (subst (λ (ns : List Note). Upcalled level w events
-      (answered level.calls p s (told_all level.calls p s ns (begun level.calls p s m))) ev) (sym telling) done)
+      (answered level.calls p s (told_all level.calls p s ns (context_begun level.calls p s m))) ev) (sym telling) done)

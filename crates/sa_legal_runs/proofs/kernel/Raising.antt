@@ -30,7 +30,7 @@ use Rattle.sa_core_model.specs.Standing.{contexts_of, Stands}
 use Rattle.sa_core_model.proofs.Turns.{Welcomed, Rests, can-interrupt, welcomed-upcall, rests-turned, between-rests, stopped-is, CanEnter}
 use Rattle.sa_core_model.proofs.Phases.{IsAt, at-owned, some-is}
 use Rattle.sa_core_model.specs.Run.{setting}
-use Rattle.sa_user_laws.specs.Scene.{begun_at}
+use Rattle.sa_user_laws.specs.Scene.{event_begun_at}
 use Rattle.sa_user_laws.specs.Level.{UserLevel}
 use Rattle.sa_legal_runs.proofs.matching.Composed.{IsComposed, Goes, read}
 use Rattle.sa_legal_runs.proofs.kernel.Halted.{halted-stop, halted-off, IsHalted}
@@ -64,7 +64,7 @@ module _ {U C : Type 0} (level : UserLevel U C) (w : WorkloadView) (events : Lis
   g = m.event + 1
 
   abbrev b0 : Readings
-  b0 = begun_at w g p (read level w events)
+  b0 = event_begun_at w g p (read level w events)
 
   standing : Stands level.stands m.event x
   standing = (begins-now level w events m p c).rest.standing

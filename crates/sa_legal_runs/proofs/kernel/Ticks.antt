@@ -28,7 +28,7 @@ use Rattle.sa_core_model.specs.Machine.{Machine, scene_of}
 use Rattle.sa_core_model.specs.Standing.{contexts_of, contexts_in, IsBetween}
 use Rattle.sa_core_model.specs.Turn.{next_event, sliced, ticked}
 use Rattle.sa_user_laws.specs.Moments.{AlikeButDemands}
-use Rattle.sa_user_laws.specs.Scene.{begun_at}
+use Rattle.sa_user_laws.specs.Scene.{event_begun_at}
 use Rattle.sa_user_laws.specs.Steps.{begins_step, IsClosed, event_with, AreKernels}
 use Rattle.sa_user_laws.specs.Level.{UserLevel}
 use Rattle.sa_legal_runs.proofs.matching.Composed.{traced-of, IsComposed, Goes, read, moment}
@@ -65,7 +65,7 @@ module _ {U C : Type 0} (level : UserLevel U C) where
       → (c : IsComposed level w events m)
       → let g = m.event + 1 in
       let r = read level w events in
-      let b = begun_at w g p r in
+      let b = event_begun_at w g p r in
       let first = after_records w g p b own in
       p.0 < length m.kernel.lives → own ≢ [] → begins_step own ≡ false → begins_line own ≡ false → list_any is_up own ≡ false
       → StopsFirst own
@@ -78,7 +78,7 @@ module _ {U C : Type 0} (level : UserLevel U C) where
   kernel-goes w events m after p own cl c within some step line up stops parts closes history steps are turn strict matched fit between workload event =
       let g = m.event + 1 in
       let r = read level w events in
-      let b = begun_at w g p r in
+      let b = event_begun_at w g p r in
       let first = after_records w g p b own in
       let ev : Event = event_with g p own cl in
       let last = after_records w g p b (own ++ cl) in
@@ -129,7 +129,7 @@ module _ {U C : Type 0} (level : UserLevel U C) where
   tick-goes w events m p c low due off within between =
       let g = m.event + 1 in
       let r = read level w events in
-      let b0 = begun_at w g p r in
+      let b0 = event_begun_at w g p r in
       let own = Tick ∷ [] in
       let slice = sliced-goes level w events m p own m.users m.contexts (traced-of level w events m c) low within
       (not-empty Tick []) refl in

@@ -26,7 +26,7 @@ use Rattle.sa_kernel_laws.specs.Histories.{IsHistory, read_from}
 use Rattle.sa_kernel_laws.specs.Overview.{Overview, overview, read_off}
 use Rattle.sa_kernel_laws.proofs.overview.Untold.{copies}
 use Rattle.sa_kernel_laws.proofs.overview.Records.{overview-ended}
-use Rattle.sa_core_model.specs.Machine.{Machine, begun, answered, user_of, context_on, seen_on, scene_of}
+use Rattle.sa_core_model.specs.Machine.{Machine, context_begun, answered, user_of, context_on, seen_on, scene_of}
 use Rattle.sa_core_model.proofs.Turns.{begun-is}
 use Rattle.sa_core_model.specs.Turn.{told_all}
 use Rattle.sa_core_model.specs.Run.{setting}
@@ -87,7 +87,7 @@ module _ {U C : Type 0} (level : UserLevel U C) where
       (u : U) (def : SpaceView) (added : Bool) (notes : List Note) (cl : List Record) (ev : Event)
       → (can : CanBegin level w e g p s n lives acts us m k front) → slice_get m.users s.0 ≡ Some u → slice_get w.spaces s.0 ≡ Some def
       → notes ≡ notes_told added p (get_or us s.0 []) → copies (Add p) us ≡ 0
-      → Tells level.calls level.stands level.keep w e g p s notes (begun level.calls p s (record m { kernel = k; items = items }))
+      → Tells level.calls level.stands level.keep w e g p s notes (context_begun level.calls p s (record m { kernel = k; items = items }))
       → let r = read_from level.rules.inside w events in
       let last = behind_all w ev r in
       let close = after_records w g p front ((UpRecord s n ∷ map Told notes) ++ cl) in
@@ -95,9 +95,9 @@ module _ {U C : Type 0} (level : UserLevel U C) where
       → ev.number ≡ g → ev.proc ≡ p → Contains ev.records (UpRecord s n) → AreClosing cl
       → AlikeButEnds last close → close.lives ≡ with_step level.rules.inside w r ev last ev.records last.lives
       → Upcalled w events (answered level.calls p s
-      (told_all level.calls p s notes (begun level.calls p s (record m { kernel = k; items = items })))) ev
+      (told_all level.calls p s notes (context_begun level.calls p s (record m { kernel = k; items = items })))) ev
   up-ends w events e g p s n lives acts us m k items front u def added notes cl ev can at of is none tells history number proc up closes ends stepped =
-      let x : Machine U C = begun level.calls p s (record m { kernel = k; items = items }) in
+      let x : Machine U C = context_begun level.calls p s (record m { kernel = k; items = items }) in
       let y : Machine U C = told_all level.calls p s notes x in
       let r = read_from level.rules.inside w events in
       let last = behind_all w ev r in

@@ -11,7 +11,7 @@ use Rattle.sa_laws.specs.Shape.{own_part}
 use Rattle.sa_laws.specs.Readings.{line_of, Readings, opening_readings, running_of}
 use Rattle.sa_laws.specs.Closing.{must_want}
 use Rattle.sa_laws.specs.Event.{Event}
-use Rattle.sa_laws.specs.History.{after_event, begun}
+use Rattle.sa_laws.specs.History.{after_event, event_begun}
 use Rattle.sa_laws.specs.Opening.{opening_event}
 use Rattle.sa_laws.specs.Rules.{IsLawful}
 use Rattle.sa_laws.proofs.Records.{number-kept}
@@ -144,7 +144,7 @@ module _ {U C : Type 0} (level : UserLevel U C) where
         history = history;
         lawful = lawful-append level.rules w (opening_readings w) (opening_event w ∷ events) (ev ∷ []) c.lawful (lawful, tt);
         number = ap (λ (r : Readings). r.number) is
-            ∙ ap (λ (n : ℕ). n + 1) (number-kept w ev.number ev.proc (begun w ev (read w events)) ev.records ∙ c.number ∙ sym event);
+            ∙ ap (λ (n : ℕ). n + 1) (number-kept w ev.number ev.proc (event_begun w ev (read w events)) ev.records ∙ c.number ∙ sym event);
         last = ap (λ (e : Event). e.number) (last_of-push (opening_event w) events ev) ∙ numbered ∙ sym event;
         sized = subst (λ (r : Readings). IsSized w r) (sym is) (sized-event level.rules.inside w (read w events) ev c.sized);
         calm = subst (λ (r : Readings). (s : SpaceNo) → must_want r s ≡ false) (sym is) holds.want_cause.none;

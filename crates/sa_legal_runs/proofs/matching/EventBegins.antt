@@ -25,7 +25,7 @@ use Rattle.sa_core_model.proofs.Phases.{IsAt}
 use Rattle.sa_core_model.proofs.Calls.{mine}
 use Rattle.sa_core_model.proofs.Turns.{Rests, rests-next, rests-between}
 use Rattle.sa_user_laws.specs.Moments.{IsMoment, Sees, runs_in}
-use Rattle.sa_user_laws.specs.Scene.{IsOn, IsActing, begun_at}
+use Rattle.sa_user_laws.specs.Scene.{IsOn, IsActing, event_begun_at}
 use Rattle.sa_user_laws.specs.Steps.{IsLegalStep}
 use Rattle.sa_user_laws.specs.Level.{UserLevel}
 use Rattle.sa_user_laws.proofs.Runners.{runner-is, acting}
@@ -54,7 +54,7 @@ module _ {U C : Type 0} (level : UserLevel U C) where
     pub untold : c.untold ≡ x.kernel.untold
 
   pub begins-now : (w : WorkloadView) (events : List Event) (m : Machine U C) (p : ProcNo) → IsComposed level w events m
-      → IsBegun w m.event (m.event + 1) p (next_event m) (begun_at w (m.event + 1) p (read level w events))
+      → IsBegun w m.event (m.event + 1) p (next_event m) (event_begun_at w (m.event + 1) p (read level w events))
   begins-now w events m p c =
       let r = read level w events in
       let at = moment level w events m c in
@@ -85,10 +85,10 @@ module _ {U C : Type 0} (level : UserLevel U C) where
   -- Where the line was low, or nobody owns the processor, each space fits then as before.
   pub fit-begun : (w : WorkloadView) (events : List Event) (m : Machine U C) (p : ProcNo) → IsComposed level w events m
       → (line_of m.kernel p ≡ None) ⊎ (owner_of m.kernel p ≡ None)
-      → AreFit level.fits w (begun_at w (m.event + 1) p (read level w events)) m.users (contexts_of m)
+      → AreFit level.fits w (event_begun_at w (m.event + 1) p (read level w events)) m.users (contexts_of m)
   fit-begun w events m p c off =
       let r = read level w events in
-      fit-same level w r (begun_at w (m.event + 1) p r) m.users (contexts_of m) c.history.ok
+      fit-same level w r (event_begun_at w (m.event + 1) p r) m.users (contexts_of m) c.history.ok
       (λ t. begun-same w (m.event + 1) p (space_no t) r (elim off [
         | inl low ↦ inl (low-now w events m p c low)
         | inr free ↦ inr (ap (λ (o : Option ActNo). runs_in (space_no t) r.lives o)
@@ -139,10 +139,10 @@ module _ {U C : Type 0} (level : UserLevel U C) where
   -- What it sees in the event is what is read, where the line was low.
   pub sees-now : (w : WorkloadView) (events : List Event) (m : Machine U C) (p : ProcNo) (s : SpaceNo)
       → IsComposed level w events m → line_of m.kernel p ≡ None → owner_of m.kernel p ≡ Some s
-      → Sees s (begun_at w (m.event + 1) p (read level w events)) p (m.event + 1) (seen_on (next_event m) p s)
+      → Sees s (event_begun_at w (m.event + 1) p (read level w events)) p (m.event + 1) (seen_on (next_event m) p s)
   sees-now w events m p s c low owner =
       let b = begins-now w events m p c in
-      sees-of (next_event m).kernel (begun_at w (m.event + 1) p (read level w events)) p s (m.event + 1) b.rest.standing.sound
+      sees-of (next_event m).kernel (event_begun_at w (m.event + 1) p (read level w events)) p s (m.event + 1) b.rest.standing.sound
       (begun-reads w m.kernel (read level w events) (m.event + 1) p c.history.kept low) b.rest.fetched
       (b.rest.standing.sound.formed.owners p.0 s owner)
 

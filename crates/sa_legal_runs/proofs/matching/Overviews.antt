@@ -29,7 +29,7 @@ use Rattle.sa_kernel_laws.proofs.rules.Upcalls.{owner-is}
 use Rattle.sa_kernel_model.proofs.parts.Seen.{low-bit}
 use Rattle.sa_kernel_laws.proofs.entries.Walks.{has-life}
 use Rattle.sa_user_laws.specs.Moments.{IsMoment, ThreadsRun, HasLifeOn, Sees, life_in, runs_in as runs_at}
-use Rattle.sa_user_laws.specs.Scene.{begun_at}
+use Rattle.sa_user_laws.specs.Scene.{event_begun_at}
 
 -- A life that runs in the space is there, and is one of the space.
 runs-some : (s : SpaceNo) (lives : ℕ → Option Life) (o : Option ActNo) → IsSome (runs_at s lives o)
@@ -132,7 +132,7 @@ module _ {C : Type 0} where
 
   -- Where the line is low, an event begins with what the kernel has.
   pub begun-reads : (w : WorkloadView) (k : KernelState C) (r : Readings) (e : ℕ) (p : ProcNo) → IsKept w k r → line_of k p ≡ None
-      → overview (begun_at w e p r) ≡ read_off (evicted_at e k)
+      → overview (event_begun_at w e p r) ≡ read_off (evicted_at e k)
   begun-reads w k r e p kept low =
       let F : List Evict → List (Option ℕ) → Overview → Overview = λ es lines (v : Overview). record v {
         assign = record v.assign { lines = lines };

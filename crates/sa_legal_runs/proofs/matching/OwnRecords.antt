@@ -28,7 +28,7 @@ use Rattle.sa_kernel_laws.specs.Overview.{Overview, overview, space_of}
 use Rattle.sa_kernel_laws.proofs.entries.Walks.{has-life}
 use Rattle.sa_user_laws.specs.Moments.{AlikeButDemands, life_in, SameFor}
 use Rattle.sa_user_laws.specs.Steps.{event_with}
-use Rattle.sa_user_laws.specs.Scene.{IsOn, begun_at}
+use Rattle.sa_user_laws.specs.Scene.{IsOn, event_begun_at}
 use Rattle.sa_legal_runs.proofs.frames.Moments.{begun-same, same-refl, same-for, same-trans, alike-stays, closing-alike}
 use Rattle.sa_legal_runs.proofs.frames.Foreign.{IsOfSpace, AreLivesOf, foreign, lives-foreign, runs-alike}
 use Rattle.sa_legal_runs.proofs.frames.Lives.{leaves_lives}
@@ -162,11 +162,11 @@ mine-of s r p a life cs c on b is l has =
 -- The event of a step of the space, at a processor whose line was low, leaves the other spaces.
 pub step-event_foreign : (rules : UserRules) (w : WorkloadView) (r : Readings) (g : ℕ) (p : ProcNo) (s t : SpaceNo)
     (own cl : List Record) → line_in r p ≡ None → AreClosing cl
-    → list_any is_up (own ++ cl) ≡ false → AreLivesOf s (after_records w g p (begun_at w g p r) own).lives (running_of r p)
-    → t.0 ≢ s.0 → SameFor t (begun_at w g p r) (after_records w g p (begun_at w g p r) own)
+    → list_any is_up (own ++ cl) ≡ false → AreLivesOf s (after_records w g p (event_begun_at w g p r) own).lives (running_of r p)
+    → t.0 ≢ s.0 → SameFor t (event_begun_at w g p r) (after_records w g p (event_begun_at w g p r) own)
     → SameFor t r (after_event rules.inside w r (event_with g p own cl))
 step-event_foreign rules w r g p s t own cl low closes no_up mine apart same =
-    let b = begun_at w g p r in
+    let b = event_begun_at w g p r in
     let ev : Event = event_with g p own cl in
     let first = after_records w g p b own in
     let last = after_records w g p b (own ++ cl) in

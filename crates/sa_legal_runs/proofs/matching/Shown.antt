@@ -16,7 +16,7 @@ use Rattle.sa_kernel_model.specs.State.{line_of}
 use Rattle.sa_kernel_laws.specs.Overview.{Overview}
 use Rattle.sa_core_model.specs.Machine.{Machine, scene_of}
 use Rattle.sa_user_laws.specs.Steps.{IsClosed, event_with}
-use Rattle.sa_user_laws.specs.Scene.{begun_at}
+use Rattle.sa_user_laws.specs.Scene.{event_begun_at}
 use Rattle.sa_user_laws.specs.Level.{UserLevel}
 use Rattle.sa_legal_runs.proofs.matching.Composed.{strict-none, strict-over, read, IsTraced}
 use Rattle.sa_legal_runs.proofs.matching.EventLaws.{event-lawful, own-steps}
@@ -68,10 +68,10 @@ module _ {U C : Type 0} (level : UserLevel U C) where
     pub some : own ≢ []
     pub parts : IsClosed own cl
     pub closes : AreClosing cl
-    pub steps : AreSteps w (m.event + 1) p (begun_at w (m.event + 1) p (read level w events)) own
+    pub steps : AreSteps w (m.event + 1) p (event_begun_at w (m.event + 1) p (read level w events)) own
     pub first : FirstLineIsAsked level.rules.Lines w (read level w events) p (own ++ cl)
     pub turn : IsTurn level.rules.Steps (is_some (line_in (read level w events) p)) (m.event + 1) w
-        (begun_at w (m.event + 1) p (read level w events)) p own
+        (event_begun_at w (m.event + 1) p (read level w events)) p own
     pub rules : RulesPass level.rules w (read level w events) (event_with (m.event + 1) p own cl)
 
   -- So the event is lawful.
@@ -82,7 +82,7 @@ module _ {U C : Type 0} (level : UserLevel U C) where
   lawful-by w events m x p own cl c history shown =
       let g = m.event + 1 in
       let r = read level w events in
-      let b = begun_at w g p r in
+      let b = event_begun_at w g p r in
       event-lawful level.rules w r (event_with g p own cl) (last-holds level.rules.inside w events (event_with g p own cl) x history)
       (record {
         number = sym c.number;
@@ -108,11 +108,11 @@ module _ {U C : Type 0} (level : UserLevel U C) where
   pub step-turns : (w : WorkloadView) (events : List Event) (m : Machine U C) (p : ProcNo) (s : SpaceNo) (own : List Record)
       → IsHistory level.rules.inside w events (scene_of m)
       → line_of m.kernel p ≡ None → due_of (m.event + 1) m.kernel.under_way ≡ None → owner_of m.kernel p ≡ Some s
-      → level.rules.Steps w (begun_at w (m.event + 1) p (read level w events)) p own
+      → level.rules.Steps w (event_begun_at w (m.event + 1) p (read level w events)) p own
       → IsTurn level.rules.Steps (is_some (line_in (read level w events) p)) (m.event + 1) w
-      (begun_at w (m.event + 1) p (read level w events)) p own
+      (event_begun_at w (m.event + 1) p (read level w events)) p own
   step-turns w events m p s own h low due owner steps =
-      turn-step level.rules w (read level w events) (begun_at w (m.event + 1) p (read level w events)) p (m.event + 1) s own
+      turn-step level.rules w (read level w events) (event_begun_at w (m.event + 1) p (read level w events)) p (m.event + 1) s own
       (line-reads w events m p h ∙ low)
       (due-reads w events m (m.event + 1) h ∙ due) (owner-reads w events m p h ∙ owner) steps
 
@@ -127,10 +127,10 @@ module _ {U C : Type 0} (level : UserLevel U C) where
       → IsHistory level.rules.inside w events (scene_of m)
       → line_of m.kernel p ≡ None → due_of (m.event + 1) m.kernel.under_way ≡ Some io → IsOver io.kind own
       → IsTurn level.rules.Steps (is_some (line_in (read level w events) p)) (m.event + 1) w
-      (begun_at w (m.event + 1) p (read level w events)) p own
+      (event_begun_at w (m.event + 1) p (read level w events)) p own
   over-turns w events m p io own h low due over =
       let g = m.event + 1 in
-      let b = begun_at w g p (read level w events) in
+      let b = event_begun_at w g p (read level w events) in
       subst (λ (l : Option ℕ). IsTurn level.rules.Steps (is_some l) g w b p own) (sym (line-reads w events m p h ∙ low))
       (subst (λ (o : Option Io). IsTurnWhileDue level.rules.Steps o w b p own) (sym (due-reads w events m g h ∙ due)) (inl over))
 

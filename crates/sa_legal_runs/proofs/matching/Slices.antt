@@ -30,7 +30,7 @@ use Rattle.sa_kernel_laws.proofs.entries.OwnPart.{users-are_own, own-others}
 use Rattle.sa_core_model.specs.Machine.{Machine, scene_of}
 use Rattle.sa_core_model.specs.Turn.{next_event, sliced, sliced_if, ends_slice}
 use Rattle.sa_core_model.proofs.Effects.{SameRuns, same-closed}
-use Rattle.sa_user_laws.specs.Scene.{begun_at}
+use Rattle.sa_user_laws.specs.Scene.{event_begun_at}
 use Rattle.sa_user_laws.specs.Steps.{IsClosed, event_with}
 use Rattle.sa_user_laws.specs.Level.{UserLevel}
 use Rattle.sa_legal_runs.proofs.matching.Composed.{IsTraced, read}
@@ -96,7 +96,7 @@ module _ {U C : Type 0} (level : UserLevel U C) where
     pub parts : IsClosed says closing
     pub closes : AreClosing closing
     pub none : ends_slice (next_event m) ≡ false → closing ≡ []
-    pub demands : let c = begun_at w (m.event + 1) p (read level w events) in
+    pub demands : let c = event_begun_at w (m.event + 1) p (read level w events) in
         (after_records w (m.event + 1) p c (says ++ closing)).demands ≡ (after_records w (m.event + 1) p c says).demands
     pub same : SameRuns m.kernel (sliced p (said m p says users contexts)).kernel
     pub users_are : (sliced p (said m p says users contexts)).users ≡ users
@@ -159,7 +159,7 @@ module _ {U C : Type 0} (level : UserLevel U C) where
             parts = record { closes = tt; is_own = own };
             closes = refl;
             none = λ same. refl;
-            demands = ap (λ (xs : List Record). (after_records w (m.event + 1) p (begun_at w (m.event + 1) p r) xs).demands)
+            demands = ap (λ (xs : List Record). (after_records w (m.event + 1) p (event_begun_at w (m.event + 1) p r) xs).demands)
                 (append-nil says);
             same = subst (λ (z : Machine U C). SameRuns m.kernel z.kernel) (sym none)
                 (record { lives = refl; acts = refl; telling = refl; demands = refl });
@@ -174,7 +174,7 @@ module _ {U C : Type 0} (level : UserLevel U C) where
           let history = subst (λ (e : Event). IsHistory level.rules.inside w (events ++ e ∷ [])
           (closed (m.event + 1) p x)) part.is (history-turn level.rules.inside w events m.kernel m.items turn_of c.history can) in
           let kept = last-kept level.rules.inside w events ev (closed (m.event + 1) p x) history in
-          let b = begun_at w (m.event + 1) p r in
+          let b = event_begun_at w (m.event + 1) p r in
           let reads : overview (after_records w (m.event + 1) p b says) ≡ read_off (evicted_at (m.event + 1) m.kernel) =
           users-records w (m.event + 1) p b says are ∙ begun-reads w m.kernel r (m.event + 1) p c.history.kept low in
           let last : overview (after_records w (m.event + 1) p b (says ++ part.closing)) ≡ read_off (closed (m.event + 1) p x).state =

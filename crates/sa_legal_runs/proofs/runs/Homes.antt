@@ -29,7 +29,7 @@ use Rattle.sa_kernel_model.specs.Entering.{upcalls}
 use Rattle.sa_kernel_model.specs.Sound.{AreSpaces}
 use Rattle.sa_core_model.specs.Run.Move.{turn, commit}
 use Rattle.sa_core_model.specs.Run.{Move, IsMove}
-use Rattle.sa_core_model.specs.Machine.{begun, begun_by, stepped, stepped_by, gone_by, Machine, without_context, seen_on, scene_of, user_of, called_by, context_on, stopped_in}
+use Rattle.sa_core_model.specs.Machine.{context_begun, context_begun_by, stepped, stepped_by, gone_by, Machine, without_context, seen_on, scene_of, user_of, called_by, context_on, stopped_in}
 use Rattle.sa_core_model.specs.Turn.{next_event, entered_on, kernel_entered, welcomed_in, welcomed_if, told_all, hinted, answered_in, turned_raised, told_one, ticked, asked, turned_due, turned_owned, sliced_if, ends_slice, more_events, gone_in, committed, blocked_by as blocks_by}
 use Rattle.sa_core_model.proofs.Effects.{same-closed, same-over, same-leave, same-more, same-idled}
 
@@ -145,7 +145,7 @@ module _ {U C : Type 0} (f : Calls U C) where
   home-called n call p s (Some u) (Some c) m h = h
 
   home-begun : (n : ℕ) (p : ProcNo) (s : SpaceNo) (seen : Rattle.sa_base.specs.declared.context.Seen.Seen) (u : Option U)
-      (m : Machine U C) → IsHomed n m → IsHomed n (begun_by f p s seen u m)
+      (m : Machine U C) → IsHomed n m → IsHomed n (context_begun_by f p s seen u m)
   home-begun n p s seen None m h = h
   home-begun n p s seen (Some u) m h = h
 
@@ -165,8 +165,8 @@ module _ {U C : Type 0} (f : Calls U C) where
   home-welcomed : (n : ℕ) (p : ProcNo) (o : Option SpaceNo) (m : Machine U C) → IsHomed n m → IsHomed n (welcomed_in f p o m)
   home-welcomed n p None m h = h
   home-welcomed n p (Some s) m h =
-      home-answered n p (Some s) (told_all f p s m.kernel.telling (begun f p s m))
-      (home-told_all n p s m.kernel.telling (begun f p s m) (home-begun n p s (seen_on m p s) (user_of m s) m h))
+      home-answered n p (Some s) (told_all f p s m.kernel.telling (context_begun f p s m))
+      (home-told_all n p s m.kernel.telling (context_begun f p s m) (home-begun n p s (seen_on m p s) (user_of m s) m h))
 
   home-if : (n : ℕ) (p : ProcNo) (b : Bool) (m : Machine U C) → IsHomed n m → IsHomed n (welcomed_if f p b m)
   home-if n p false m h = h

@@ -157,6 +157,6 @@ module _ {U C : Type 0} (f : Calls U C) (stands : Standing U C) (keep : Keeps f 
             ∙ ap (λ (xs : List Item). xs ++ items_at (m.event + suc n) p end.closing) items
             ∙ append_assoc m.items (items_from (m.event + 1) p (instructions_from m.workload (suc n) (local_on f m p)))
             (items_at (m.event + suc n) p end.closing);
-        none = λ goes_on. end.none (ap (λ (w : WorkloadView). not (w.slice == 0) && (last.event % w.slice == 0)) workload
-            ∙ ap (λ (k : ℕ). not (m.workload.slice == 0) && (k % m.workload.slice == 0)) event ∙ goes_on);
+        none = λ not_ended. end.none (ap (λ (w : WorkloadView). not (w.slice == 0) && (last.event % w.slice == 0)) workload
+            ∙ ap (λ (k : ℕ). not (m.workload.slice == 0) && (k % m.workload.slice == 0)) event ∙ not_ended);
       }

@@ -30,7 +30,7 @@ use Rattle.sa_laws.specs.Event.{Event}
 use Rattle.sa_laws.specs.Life.{Life}
 use Rattle.sa_laws.specs.State.{opening_space}
 use Rattle.sa_laws.specs.Record.{with_life}
-use Rattle.sa_laws.specs.History.{Test, after_records, after_event, begun, with_step, stepped, is_step}
+use Rattle.sa_laws.specs.History.{Test, after_records, after_event, event_begun, with_step, stepped, is_step}
 use Rattle.sa_laws.specs.Opening.{opening_event, opening_records, first_wants}
 use Rattle.sa_laws.specs.Closing.{spaces_of, aims_due, want_one}
 use Rattle.sa_laws.specs.Upcalls.{FirstLineIsAsked}
@@ -105,21 +105,21 @@ module _ {U C : Type 0} (level : UserLevel U C) where
       let ev = opening_event w in
       let history = history-opens {C = C} level.rules.inside w ok in
       let holds = history.lawful.0 in
-      let last = after_records w 0 (proc_no 0) (begun w ev r) (opening_records w) in
+      let last = after_records w 0 (proc_no 0) (event_begun w ev r) (opening_records w) in
       let final = after_event level.rules.inside w r ev in
       let closes = closing-opening w in
-      let alike = closing-alike w 0 (proc_no 0) (begun w ev r) (opening_records w) closes in
+      let alike = closing-alike w 0 (proc_no 0) (event_begun w ev r) (opening_records w) closes in
       let lives : final.lives ≡ last.lives =
       ended-step level.rules.inside w r ev last (closing-no_up (opening_records w) closes)
       ∙ no-runner level.rules.inside w r ev last (opening_records w) last.lives (all-same w.processors 0 None) in
       let x : Scene C = record { state = opening_state w; items = items_at 0 (proc_no 0) (kernel.first_wants 0 (length w.spaces)) } in
       let same = same-closed 0 (proc_no 0) x in
-      let low : (q : ProcNo) → StaysRaised r (begun w ev r) q =
+      let low : (q : ProcNo) → StaysRaised r (event_begun w ev r) q =
       λ q raised. absurd (let z : IsSome {T = ℕ} None = subst (λ (o : Option ℕ). IsSome o) (none-read w.processors q.0) raised in cc) in
       let put : StaysPut r final = put-again r last final
-      (put-again r (begun w ev r) last
+      (put-again r (event_begun w ev r) last
       (record { spaces = refl; lives = refl; running = refl; taken = refl; untold = refl; ready = refl; lines = low })
-      (alike-stays (begun w ev r) last alike))
+      (alike-stays (event_begun w ev r) last alike))
       (record { spaces = refl; lives = lives; running = refl; taken = refl; untold = refl; ready = refl; lines = λ q raised. raised }) in
       let none : ℕ → Option (Act C) = λ a. None in
       record {
@@ -130,15 +130,15 @@ module _ {U C : Type 0} (level : UserLevel U C) where
           event-lawful level.rules w r ev holds
               (record { number = refl; proc = ok.some_processor; some = opening-some w ok; opening = λ is. refl })
               (record {
-                steps = subst (λ (xs : List Record). AreSteps w 0 (proc_no 0) (begun w ev r) xs) refl
-                    (own-steps w 0 (proc_no 0) (begun w ev r) [] (opening_records w) tt closes);
+                steps = subst (λ (xs : List Record). AreSteps w 0 (proc_no 0) (event_begun w ev r) xs) refl
+                    (own-steps w 0 (proc_no 0) (event_begun w ev r) [] (opening_records w) tt closes);
               })
               (opening-first level.rules w r (proc_no 0) (spaces_of w) _ _)
               (record { turn = λ later. absurd (omega (arith, later)); closing = λ later. absurd (omega (arith, later)) })
               (level.laws.opening w ok),
           tt,
         );
-        number = ap (λ (n : ℕ). n + 1) (number-kept w 0 (proc_no 0) (begun w ev r) (opening_records w));
+        number = ap (λ (n : ℕ). n + 1) (number-kept w 0 (proc_no 0) (event_begun w ev r) (opening_records w));
         last = refl;
         sized = sized-event level.rules.inside w r ev (sized-opening w);
         calm = holds.want_cause.none;

@@ -51,7 +51,7 @@ use Rattle.sa_core_model.proofs.Calls.{runs-at}
 use Rattle.sa_core_model.proofs.Running.{contexts-put, contexts-put_kept}
 use Rattle.sa_core_model.specs.Turn.{next_event, kernel_entered, hinted, answered_in}
 use Rattle.sa_user_laws.specs.Moments.{SameFor, AlikeButDemands, Sees}
-use Rattle.sa_user_laws.specs.Scene.{begun_at}
+use Rattle.sa_user_laws.specs.Scene.{event_begun_at}
 use Rattle.sa_user_laws.specs.Steps.{event_with, IsLegalAsk, records_asked}
 use Rattle.sa_user_laws.specs.Level.{UserLevel}
 use Rattle.sa_legal_runs.proofs.matching.Overviews.{sees-of}
@@ -79,14 +79,14 @@ module _ {U C : Type 0} (level : UserLevel U C) where
     pub are : AreOwn (others_of own)
     pub no_up : list_any is_up own ≡ false
     pub no_stop : list_any is_stop own ≡ false
-    pub steps : AreSteps w g p (begun_at w g p r) own
+    pub steps : AreSteps w g p (event_begun_at w g p r) own
     pub owner : (items : List Item) → owner_of (entered_as g p n entry (record { state = k; items = items })).state p ≡ Some s
     pub telling : (items : List Item) → (entered_as g p n entry (record { state = k; items = items })).state.telling ≡ k.telling
-    pub others : (t : SpaceNo) → t.0 ≢ s.0 → SameFor t (begun_at w g p r) (after_records w g p (begun_at w g p r) own)
-    pub spaces : AreLivesOf s (after_records w g p (begun_at w g p r) own).lives (running_of r p)
+    pub others : (t : SpaceNo) → t.0 ≢ s.0 → SameFor t (event_begun_at w g p r) (after_records w g p (event_begun_at w g p r) own)
+    pub spaces : AreLivesOf s (after_records w g p (event_begun_at w g p r) own).lives (running_of r p)
     pub matched : (items : List Item)
         → AreMatched (entered_as g p n entry (record { state = k; items = items })).state.acts
-        (after_records w g p (begun_at w g p r) own).lives
+        (after_records w g p (event_begun_at w g p r) own).lives
     pub contexts : (items : List Item) (cs : List (Option C)) (t i : ℕ)
         → contexts_in k.lives k.acts cs t i ≡ contexts_in
         (entered_as g p n entry (record { state = k; items = items })).state.lives
@@ -112,7 +112,7 @@ module _ {U C : Type 0} (level : UserLevel U C) where
       let x : Machine U C = next_event m in
       let g = m.event + 1 in
       let r = read level w events in
-      let b0 = begun_at w g p r in
+      let b0 = event_begun_at w g p r in
       let b = begins-now level w events m p c in
       let at = acts-at level w events m p s c here in
       let st = level.calls.stepped here.user (seen_on x p s) here.ctx in

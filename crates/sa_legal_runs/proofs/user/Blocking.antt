@@ -64,7 +64,7 @@ use Rattle.sa_core_model.specs.Standing.{contexts_of, IsBetween, contexts_in}
 use Rattle.sa_core_model.proofs.Turns.{step-law, Welcomed, rests-stepped, welcomed-upcall, stopped-is, can-block, own-page}
 use Rattle.sa_core_model.specs.Turn.{next_event, entered_on, kernel_entered, welcomed_in, welcomed_if, blocked, blocked_by as blocked_on}
 use Rattle.sa_user_laws.specs.Moments.{AlikeButEnds, unended}
-use Rattle.sa_user_laws.specs.Scene.{begun_at}
+use Rattle.sa_user_laws.specs.Scene.{event_begun_at}
 use Rattle.sa_user_laws.specs.Steps.{begins_step, event_with, IsLegalAnswer, IsLegalBlock, io_of, IsLegalStep, IsClosed}
 use Rattle.sa_user_laws.specs.Level.{UserLevel}
 use Rattle.sa_legal_runs.proofs.matching.Composed.{IsComposed, Goes, read, traced-of}
@@ -186,7 +186,7 @@ module _ {U C : Type 0} (level : UserLevel U C) (w : WorkloadView) (events : Lis
   r = read level w events
 
   abbrev b0 : Readings
-  b0 = begun_at w g p r
+  b0 = event_begun_at w g p r
 
   -- the step, what is set aside, the block's record, and the moment after it
   abbrev st : Stepped U C
@@ -208,7 +208,7 @@ module _ {U C : Type 0} (level : UserLevel U C) (w : WorkloadView) (events : Lis
   y = without_context p z
 
   abbrev io : IoNo
-  io = record { 0 = k.begun }
+  io = record { 0 = k.io_count }
 
   abbrev block : Record
   block = Block s held.thread here.act io

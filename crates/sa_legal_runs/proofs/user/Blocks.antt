@@ -4,7 +4,7 @@ use Rattle.sa_laws.specs.Event.{Event}
 use Rattle.sa_core_model.proofs.Commits.{get-set}
 use Rattle.sa_core_model.specs.Turn.{next_event}
 use Rattle.sa_kernel_model.specs.State.{line_of}
-use Rattle.sa_user_laws.specs.Scene.{begun_at}
+use Rattle.sa_user_laws.specs.Scene.{event_begun_at}
 use Rattle.sa_legal_runs.proofs.frames.Sizes.{sized-records, sized-lives}
 use Rattle.sa_legal_runs.proofs.matching.Composed.{IsComposed, read}
 use Rattle.std.proofs.Common.{inl, slice_set, get_or, ◌≡◌, ◌≢◌, ℕ, ◌+◌, ◌<◌, ◌≤◌, arith, sym, ◌∙◌, ap, subst, refl, Option, Some, None, List, [], ◌∷◌, ◌++◌, length}
@@ -86,9 +86,9 @@ module _ {U C : Type 0} (level : UserLevel U C) where
       let g = m.event + 1 in
       let st = level.calls.stepped here.user (seen_on x p s) here.ctx in
       let held : Stopped C = record { ctx = st.ctx; thread = level.calls.thread st.user st.ctx; idle = level.calls.idle st.user st.ctx } in
-      let io : IoNo = record { 0 = x.kernel.begun } in
+      let io : IoNo = record { 0 = x.kernel.io_count } in
       let front = early h here.act
-      (after_records w g p (begun_at w g p (read level w events)) (st.says ++ Block s held.thread here.act io ∷ [])) in
+      (after_records w g p (event_begun_at w g p (read level w events)) (st.says ++ Block s held.thread here.act io ∷ [])) in
       level.fits w (setting w s.0 here.def) front st.user (put (contexts_of m s.0) here.act.0 (Some st.ctx))
       → IsHalted level w g p n (step_to level.calls p s st x)
       (put_aside p s here.act (Blocked here.act) held (with_io (io_for s here.act page) (g + len) x.kernel)) front
@@ -97,12 +97,12 @@ module _ {U C : Type 0} (level : UserLevel U C) where
       let g = m.event + 1 in
       let x : Machine U C = next_event m in
       let r = read level w events in
-      let c = begun_at w g p r in
+      let c = event_begun_at w g p r in
       let b = begins-now level w events m p composed in
       let tidy = tidy-now level w events m composed in
       let st = level.calls.stepped here.user (seen_on x p s) here.ctx in
       let held : Stopped C = record { ctx = st.ctx; thread = level.calls.thread st.user st.ctx; idle = level.calls.idle st.user st.ctx } in
-      let io : IoNo = record { 0 = x.kernel.begun } in
+      let io : IoNo = record { 0 = x.kernel.io_count } in
       let a = here.act in
       let k = x.kernel in
       let y : Machine U C = step_to level.calls p s st x in

@@ -53,7 +53,7 @@ use Rattle.sa_core_model.proofs.Turns.{between-rests}
 use Rattle.sa_core_model.proofs.Effects.{SameRuns}
 use Rattle.sa_core_model.proofs.Runs.{gone-is, local-is, gone-law, rests-committed, can-go}
 use Rattle.sa_user_laws.specs.Moments.{AlikeButDemands, SameFor, Alike}
-use Rattle.sa_user_laws.specs.Scene.{begun_at}
+use Rattle.sa_user_laws.specs.Scene.{event_begun_at}
 use Rattle.sa_user_laws.specs.Steps.{IsClosed, event_with, AreLegalIns, IsLegalIns}
 use Rattle.sa_user_laws.specs.Level.{UserLevel}
 use Rattle.sa_legal_runs.proofs.user.GoingOn.{GoOn, go-on-cons, running-goes-on}
@@ -119,7 +119,7 @@ module _ {U C : Type 0} (level : UserLevel U C) where
     closing : List Record
     parts : IsClosed (x ∷ []) closing
     none : ends_slice (next_event m) ≡ false → closing ≡ []
-    alike : let b = begun_at w (m.event + 1) p (read level w events) in
+    alike : let b = event_begun_at w (m.event + 1) p (read level w events) in
         Alike (after_records w (m.event + 1) p b (x ∷ [])) (after_records w (m.event + 1) p b (x ∷ closing))
     traced : IsTraced level w (events ++ event_with (m.event + 1) p (x ∷ []) closing ∷ []) (sliced p (with_record p x m))
     others : (t : SpaceNo) → t.0 ≢ s.0
@@ -135,7 +135,7 @@ module _ {U C : Type 0} (level : UserLevel U C) where
   one-gone w events m p s a x c here good =
       let g = m.event + 1 in
       let r = read level w events in
-      let b0 = begun_at w g p r in
+      let b0 = event_begun_at w g p r in
       let k = m.kernel in
       let says = x ∷ [] in
       let owner : owner_in b0 p ≡ Some s = ap (λ (v : Overview). get_or v.assign.owners p.0 None) c.history.kept.reads ∙ here.owner in
@@ -214,7 +214,7 @@ module _ {U C : Type 0} (level : UserLevel U C) where
       → Rattle.sa_laws.specs.Ends.GoesOn r
   goes-on-at w p e r y good = by y good.is_local good.needs
     where
-      by : (y : Record) → IsLocalIns w (begun_at w e p r) (y ∷ []) → Needs w p (begun_at w e p r) y → Rattle.sa_laws.specs.Ends.GoesOn r
+      by : (y : Record) → IsLocalIns w (event_begun_at w e p r) (y ∷ []) → Needs w p (event_begun_at w e p r) y → Rattle.sa_laws.specs.Ends.GoesOn r
       by (Ins s t i) is needs = running-goes-on r p s t needs.runs
       by y is needs = absurd is
 
@@ -304,7 +304,7 @@ module _ {U C : Type 0} (level : UserLevel U C) where
       let x : Machine U C = next_event m in
       let g = m.event + 1 in
       let r = read level w events in
-      let b0 = begun_at w g p r in
+      let b0 = event_begun_at w g p r in
       let b = begins-now level w events m p c in
       let go = can-go level.calls level.stands level.keep m.event (suc n) m p c.between.standing can.go in
       let s = go.space in

@@ -33,7 +33,7 @@ use Rattle.sa_core_model.proofs.Running.{contexts-put, contexts-put_kept}
 use Rattle.sa_core_model.proofs.Turns.{step-law}
 use Rattle.sa_user_laws.specs.Moments.{AlikeButDemands, SameFor, Alike}
 use Rattle.sa_user_laws.specs.Steps.{IsLegalDid, IsLegalAnswer, event_with}
-use Rattle.sa_user_laws.specs.Scene.{begun_at}
+use Rattle.sa_user_laws.specs.Scene.{event_begun_at}
 use Rattle.sa_user_laws.specs.Level.{UserLevel}
 use Rattle.sa_legal_runs.proofs.matching.Composed.{traced-of, IsComposed, Goes, read}
 use Rattle.sa_legal_runs.proofs.frames.Moments.{closing-alike}
@@ -61,7 +61,7 @@ module _ {U C : Type 0} (level : UserLevel U C) where
       let x : Machine U C = next_event m in
       let g = m.event + 1 in
       let r = read level w events in
-      let b0 = begun_at w g p r in
+      let b0 = event_begun_at w g p r in
       let b = begins-now level w events m p c in
       let at = acts-at level w events m p s c here in
       let set = setting w s.0 here.def in

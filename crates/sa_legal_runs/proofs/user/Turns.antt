@@ -55,7 +55,7 @@ use Rattle.sa_core_model.specs.Standing.{contexts_of, contexts_in, IsBetween}
 use Rattle.sa_core_model.specs.Turn.{next_event, entered_on, sliced, turned, turned_raised, ticked, asked, turned_due, turned_owned}
 use Rattle.sa_core_model.proofs.Effects.{SameRuns, same-more, same-idled, same-own}
 use Rattle.sa_user_laws.specs.Moments.{SameFor}
-use Rattle.sa_user_laws.specs.Scene.{begun_at}
+use Rattle.sa_user_laws.specs.Scene.{event_begun_at}
 use Rattle.sa_user_laws.specs.Steps.{IsLegalAnswer, IsLegalStep, IsLegalAsk, records_asked}
 use Rattle.sa_user_laws.specs.Level.{UserLevel}
 use Rattle.sa_legal_runs.proofs.matching.Overviews.{taken-reads}
@@ -137,7 +137,7 @@ module _ {U C : Type 0} (level : UserLevel U C) where
       → let k = (next_event m).kernel in
       let g = m.event + 1 in
       let r = read level w events in
-      Needs w p (begun_at w g p r) x
+      Needs w p (event_begun_at w g p r) x
       → ((items : List Item) → (entered_as g p n entry (record { state = k; items = items })).items ≡ items ++ items_at g p (x ∷ []))
       → ((items : List Item) → SameRuns k (entered_as g p n entry (record { state = k; items = items })).state)
       → ((items : List Item) → owner_of (entered_as g p n entry (record { state = k; items = items })).state p ≡ owner_of k p)
@@ -146,7 +146,7 @@ module _ {U C : Type 0} (level : UserLevel U C) where
       let k = (next_event m).kernel in
       let g = m.event + 1 in
       let r = read level w events in
-      let b0 = begun_at w g p r in
+      let b0 = event_begun_at w g p r in
       let at = acts-at level w events m p s c here in
       let put = plain-stays w g p b0 x plain in
       let first = after_record w g p b0 x in
@@ -193,7 +193,7 @@ module _ {U C : Type 0} (level : UserLevel U C) where
       r = read level w events
 
       b0 : Readings
-      b0 = begun_at w g p r
+      b0 = event_begun_at w g p r
 
       b : IsBegun level w m.event g p x b0
       b = begins-now level w events m p c

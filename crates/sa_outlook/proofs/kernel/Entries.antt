@@ -288,8 +288,8 @@ module _ {C D : Type 0} (look : ℕ → C → D) where
       let first : nameless_io look e (held_by k) a ≡ nameless_io look g (held_by l) b = cc in
       let rest : map (nameless_io look e (held_by k)) xs ≡ map (nameless_io look g (held_by l)) ys = cc in
       let same : nameless_kind look (held_by k) a.kind ≡ nameless_kind look (held_by l) b.kind = ap (λ (z : NamelessIo D). z.kind) first in
-      let ka : kind_at a.number k.under_way ≡ Some a.kind = ap (option_map (λ (io : Io). io.kind)) (first-at 0 k.begun k.under_way xs a num_x is_a) in
-      let lb : kind_at b.number l.under_way ≡ Some b.kind = ap (option_map (λ (io : Io). io.kind)) (first-at 0 l.begun l.under_way ys b num_y is_b) in
+      let ka : kind_at a.number k.under_way ≡ Some a.kind = ap (option_map (λ (io : Io). io.kind)) (first-at 0 k.io_count k.under_way xs a num_x is_a) in
+      let lb : kind_at b.number l.under_way ≡ Some b.kind = ap (option_map (λ (io : Io). io.kind)) (first-at 0 l.io_count l.under_way ys b num_y is_b) in
       let left : AlikeScenes look e g (record x { state = record k { under_way = without a.number k.under_way; pages = completed a.kind k.pages } })
       (record y { state = record l { under_way = without b.number l.under_way; pages = completed b.kind l.pages } }) = record {
         fixed = was.fixed;
@@ -305,8 +305,8 @@ module _ {C D : Type 0} (look : ℕ → C → D) where
         demands = was.demands;
         untold = was.untold;
         spaces = was.spaces;
-        ios = ap (map (nameless_io look e (held_by k))) (order-over 0 k.begun k.under_way xs a num_x is_a) ∙ rest
-            ∙ sym (ap (map (nameless_io look g (held_by l))) (order-over 0 l.begun l.under_way ys b num_y is_b));
+        ios = ap (map (nameless_io look e (held_by k))) (order-over 0 k.io_count k.under_way xs a num_x is_a) ∙ rest
+            ∙ sym (ap (map (nameless_io look g (held_by l))) (order-over 0 l.io_count l.under_way ys b num_y is_b));
         pages = pages-over (held_by k) a.kind k.pages ∙ ap (λ (z : NamelessKind D). kind_completed z k.pages) same
             ∙ ap (kind_completed (nameless_kind look (held_by l) b.kind)) was.pages ∙ sym (pages-over (held_by l) b.kind l.pages);
         first = was.first;

@@ -229,7 +229,7 @@ module _ {C D : Type 0} (look : ℕ → C → D) where
   ios-begun : (e n : ℕ) (k : KernelState C) (kind : IoKind)
       → nameless_ios look e (with_io kind (e + n) k) ≡ put_nameless (record { left = n; kind = nameless_kind look (held_by k) kind }) (nameless_ios look e k)
   ios-begun e n k kind =
-      let io : Io = record { number = k.begun; ends = e + n; kind = kind } in
+      let io : Io = record { number = k.io_count; ends = e + n; kind = kind } in
       let left : e + n - e ≡ n = omega arith in
       ap (map (nameless_io look e (held_by k))) (order-begun io k.under_way)
       ∙ ios-put look e (held_by k) io (in_order k.under_way) (omega arith)

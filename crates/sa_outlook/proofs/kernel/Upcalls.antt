@@ -174,17 +174,17 @@ module _ {C D : Type 0} (look : ℕ → C → D) where
       let bt = stop_y s d refl refl in
       let new_x : Scene C = block_begun e p s c h n page x in
       let new_y : Scene C = block_begun g p s d i n page y in
-      let begun : AlikeScenes look e g new_x new_y = block-alike look e g p s c d h i n page x y at bt (held s refl) was in
+      let begun_alike : AlikeScenes look e g new_x new_y = block-alike look e g p s c d h i n page x y at bt (held s refl) was in
       let free_x = unused-begun e p s c a h n page x at.runs none_a in
       let free_y = unused-begun g p s d b i n page y bt.runs none_b in
       let can = can_upcall-alike look e g x.state y.state was s in (
         subst (λ (z : Bool). AlikeScenes look e g (told_or_left e p s a (can_upcall x.state s) new_x) (told_or_left g p s b z new_y)) can
-            (told_or_left-alike look e g p s a b (can_upcall x.state s) new_x new_y free_x free_y begun),
+            (told_or_left-alike look e g p s a b (can_upcall x.state s) new_x new_y free_x free_y begun_alike),
         λ up is. subst (λ (z : Bool). ToldAlike p (told_or_left e p s a z new_x).state (told_or_left g p s b (can_upcall y.state s) new_y).state) (sym up)
             (subst (λ (z : Bool). ToldAlike p (told_or_left e p s a true new_x).state (told_or_left g p s b z new_y).state) (sym (sym can ∙ up))
             (λ t owner. subst (λ (u : SpaceNo). told_notes look (told_or_left e p s a true new_x).state u.0
             ≡ told_notes look (told_or_left g p s b true new_y).state u.0)
-            (same_Some s t (is ∙ owner)) (upcall-told look e g p s a b false new_x new_y free_x free_y begun))),
+            (same_Some s t (is ∙ owner)) (upcall-told look e g p s a b false new_x new_y free_x free_y begun_alike))),
       )
 
   pub blocked-alike : (e g : ℕ) (p : ProcNo) (a b : ActNo) (h i : Stopped C) (n : ℕ) (page : Option ℕ) (x y : Scene C) → IsReady x.state p a

@@ -18,7 +18,7 @@ use Rattle.sa_abstract.specs.declared.answer.Step.{Step}
 use Rattle.sa_kernel_model.specs.State.{owner_of, demand_of, taken_of}
 use Rattle.sa_kernel_model.specs.Closing.{has_low_line}
 use Rattle.sa_kernel_model.specs.Seen.{bits_where, low_of}
-use Rattle.sa_core_model.specs.Machine.{Machine, user_of, context_on, seen_on, with_pair, called_by, called, begun_by, begun, answered, told, stopped_by, stopped_in, step_to, stepped_by, stepped}
+use Rattle.sa_core_model.specs.Machine.{Machine, user_of, context_on, seen_on, with_pair, called_by, called, context_begun_by, context_begun, answered, told, stopped_by, stopped_in, step_to, stepped_by, stepped}
 use Rattle.sa_outlook.specs.Nameless.{PlainStopped, plain_held}
 use Rattle.sa_outlook.specs.UserLevels.{at_event, SamePair, SameNote, IgnoresNumbers}
 use Rattle.sa_outlook.specs.Outlook.{look_in, see}
@@ -127,7 +127,7 @@ module _ {U C D : Type 0} (f : Calls U C) (plain : Option SpaceView → C → D)
       (sym (seen-alike m n p s was.alike)) (laws.answered (slice_get m.workload.spaces s.0) u (seen_on m p s) n.event c d made same)) was
 
   begun-by : (p : ProcNo) (s : SpaceNo) (m n : Machine U C) (o : Option U) → ((u : U) → o ≡ Some u → IsMade (slice_get m.workload.spaces s.0) u)
-      → owner_of m.kernel p ≡ Some s → BothAlike m n → BothAlike (begun_by f p s (seen_on m p s) o m) (begun_by f p s (at_event n.event (seen_on m p s)) o n)
+      → owner_of m.kernel p ≡ Some s → BothAlike m n → BothAlike (context_begun_by f p s (seen_on m p s) o m) (context_begun_by f p s (at_event n.event (seen_on m p s)) o n)
   begun-by p s m n None made owner was = was
   begun-by p s m n (Some u) made owner was =
       let r = laws.begun (slice_get m.workload.spaces s.0) u (seen_on m p s) n.event (made u refl) in record {
@@ -135,10 +135,10 @@ module _ {U C D : Type 0} (f : Calls U C) (plain : Option SpaceView → C → D)
         made = made-set m s.0 (f.begun u (seen_on m p s)).0 r.made was.made;
       }
 
-  pub begun-alike : (p : ProcNo) (s : SpaceNo) (m n : Machine U C) → owner_of m.kernel p ≡ Some s → BothAlike m n → BothAlike (begun f p s m) (begun f p s n)
+  pub begun-alike : (p : ProcNo) (s : SpaceNo) (m n : Machine U C) → owner_of m.kernel p ≡ Some s → BothAlike m n → BothAlike (context_begun f p s m) (context_begun f p s n)
   begun-alike p s m n owner was =
-      subst (λ (z : Seen). BothAlike (begun f p s m) (begun_by f p s z (user_of n s) n)) (sym (seen-alike m n p s was.alike))
-      (subst (λ (us : List U). BothAlike (begun f p s m) (begun_by f p s (at_event n.event (seen_on m p s)) (slice_get us s.0) n)) was.alike.users
+      subst (λ (z : Seen). BothAlike (context_begun f p s m) (context_begun_by f p s z (user_of n s) n)) (sym (seen-alike m n p s was.alike))
+      (subst (λ (us : List U). BothAlike (context_begun f p s m) (context_begun_by f p s (at_event n.event (seen_on m p s)) (slice_get us s.0) n)) was.alike.users
       (begun-by p s m n (user_of m s) (λ u at. was.made s.0 u at) owner was))
 
   pub told-alike : (p : ProcNo) (s : SpaceNo) (note other : Note) (held i : Option (Stopped C)) (m n : Machine U C) → owner_of m.kernel p ≡ Some s

@@ -135,10 +135,10 @@ module _ {C D : Type 0} (look : ℕ → C → D) where
   due-both e g k l num_k num_l was = go (in_order k.under_way) (in_order l.under_way) refl refl was.ios
     where
       due_k : due_of e k.under_way ≡ first_due e (in_order k.under_way)
-      due_k = due-first e 0 k.begun k.under_way num_k
+      due_k = due-first e 0 k.io_count k.under_way num_k
 
       due_l : due_of g l.under_way ≡ first_due g (in_order l.under_way)
-      due_l = due-first g 0 l.begun l.under_way num_l
+      due_l = due-first g 0 l.io_count l.under_way num_l
 
       go : (xs ys : List Io) → in_order k.under_way ≡ xs → in_order l.under_way ≡ ys
           → map (nameless_io look e (held_by k)) (in_order k.under_way) ≡ map (nameless_io look g (held_by l)) (in_order l.under_way)

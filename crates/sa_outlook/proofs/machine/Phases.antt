@@ -21,7 +21,7 @@ use Rattle.sa_kernel_model.specs.Closing.{closed}
 use Rattle.sa_kernel_model.specs.Entries.{entered_as, fetched, held_for, handed_by}
 use Rattle.sa_kernel_model.specs.Sound.{AreClaimed}
 use Rattle.sa_kernel_model.proofs.sound.Held.{stays-closed}
-use Rattle.sa_core_model.specs.Machine.{Machine, user_of, context_on, scene_of, without_context, called_by, begun_by, begun, told, seen_on}
+use Rattle.sa_core_model.specs.Machine.{Machine, user_of, context_on, scene_of, without_context, called_by, context_begun_by, context_begun, told, seen_on}
 use Rattle.sa_core_model.specs.Turn.{ticked, ends_slice, sliced_if, sliced, kernel_entered, told_one, told_all, welcomed_in, answered_in, hinted}
 use Rattle.sa_core_model.proofs.Calls.{Tells, tells-next, tells-all}
 use Rattle.sa_core_model.proofs.Turns.{Welcomed}
@@ -185,11 +185,11 @@ module _ {U C D : Type 0} (f : Calls U C) (plain : Option SpaceView → C → D)
   called-workload call p s (Some u) None m = refl
   called-workload call p s (Some u) (Some c) m = refl
 
-  begun-kernel : (p : ProcNo) (s : SpaceNo) (seen : Seen) (o : Option U) (m : Machine U C) → (begun_by f p s seen o m).kernel ≡ m.kernel
+  begun-kernel : (p : ProcNo) (s : SpaceNo) (seen : Seen) (o : Option U) (m : Machine U C) → (context_begun_by f p s seen o m).kernel ≡ m.kernel
   begun-kernel p s seen None m = refl
   begun-kernel p s seen (Some u) m = refl
 
-  begun-workload : (p : ProcNo) (s : SpaceNo) (seen : Seen) (o : Option U) (m : Machine U C) → (begun_by f p s seen o m).workload ≡ m.workload
+  begun-workload : (p : ProcNo) (s : SpaceNo) (seen : Seen) (o : Option U) (m : Machine U C) → (context_begun_by f p s seen o m).workload ≡ m.workload
   begun-workload p s seen None m = refl
   begun-workload p s seen (Some u) m = refl
 
@@ -302,21 +302,21 @@ module _ {U C D : Type 0} (f : Calls U C) (plain : Option SpaceView → C → D)
         let s = wm.space in
         let own_n : owner_of n.kernel p ≡ Some s = sym (owners-both m n p was) ∙ wm.owner in
         let same : wn.space ≡ s = same_Some wn.space s (sym wn.owner ∙ own_n) in
-        let tn : Tells f stands keep v i j p s n.kernel.telling (begun f p s n) =
-        subst (λ (t : SpaceNo). Tells f stands keep v i j p t n.kernel.telling (begun f p t n)) same wn.begins in
+        let tn : Tells f stands keep v i j p s n.kernel.telling (context_begun f p s n) =
+        subst (λ (t : SpaceNo). Tells f stands keep v i j p t n.kernel.telling (context_begun f p t n)) same wn.begins in
         let bm = begun-kernel p s (seen_on m p s) (user_of m s) m in
         let bn = begun-kernel p s (seen_on n p s) (user_of n s) n in
         let bw = begun-workload p s (seen_on m p s) (user_of m s) m in
-        let first : BothTold s (begun f p s m) (begun f p s n) = record {
+        let first : BothTold s (context_begun f p s m) (context_begun f p s n) = record {
           both = begun-alike f plain IsMade laws p s m n wm.owner was;
-          told = ap (λ (x : WorkloadView). told_notes (look_in plain x) (begun f p s m).kernel s.0) bw
+          told = ap (λ (x : WorkloadView). told_notes (look_in plain x) (context_begun f p s m).kernel s.0) bw
               ∙ ap (λ (z : KernelState C). told_notes (look_of m) z s.0) bm ∙ told s wm.owner
-              ∙ sym (ap (λ (x : WorkloadView). told_notes (look_in plain x) (begun f p s n).kernel s.0) bw
+              ∙ sym (ap (λ (x : WorkloadView). told_notes (look_in plain x) (context_begun f p s n).kernel s.0) bw
               ∙ ap (λ (z : KernelState C). told_notes (look_of m) z s.0) bn);
         } in
-        let all = told-many w v e g i j p s m.kernel.telling n.kernel.telling (begun f p s m) (begun f p s n) wm.begins tn first in
+        let all = told-many w v e g i j p s m.kernel.telling n.kernel.telling (context_begun f p s m) (context_begun f p s n) wm.begins tn first in
         let done : Both (welcomed_in f p (Some s) m) (welcomed_in f p (Some s) n) =
-        answered-alike f plain IsMade laws p s (told_all f p s m.kernel.telling (begun f p s m)) (told_all f p s n.kernel.telling (begun f p s n))
-        (all-owner w e g p s m.kernel.telling (begun f p s m) wm.begins) all in
+        answered-alike f plain IsMade laws p s (told_all f p s m.kernel.telling (context_begun f p s m)) (told_all f p s n.kernel.telling (context_begun f p s n))
+        (all-owner w e g p s m.kernel.telling (context_begun f p s m) wm.begins) all in
         subst (λ (o : Option SpaceNo). Both (welcomed_in f p o m) (welcomed_in f p (owner_of n.kernel p) n)) (sym wm.owner)
         (subst (λ (o : Option SpaceNo). Both (welcomed_in f p (Some s) m) (welcomed_in f p o n)) (sym own_n) done)

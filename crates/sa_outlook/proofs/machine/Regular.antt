@@ -27,7 +27,7 @@ use Rattle.sa_kernel_model.specs.Entries.{stopped, go_to_aim, told_or_left, bloc
 use Rattle.sa_kernel_model.specs.Entering.{upcalls}
 use Rattle.sa_kernel_model.proofs.parts.Placed.{for_spaces-keeps}
 use Rattle.sa_assign.specs.Aims.{least_below}
-use Rattle.sa_core_model.specs.Machine.{Machine, user_of, context_on, seen_on, scene_of, without_context, stopped_in, called_by, begun_by, begun, answered, stepped_by, stepped}
+use Rattle.sa_core_model.specs.Machine.{Machine, user_of, context_on, seen_on, scene_of, without_context, stopped_in, called_by, context_begun_by, context_begun, answered, stepped_by, stepped}
 use Rattle.sa_core_model.specs.Turn.{next_event, ticked, sliced_if, ends_slice, kernel_entered, told_one, told_all, welcomed_in, welcomed_if, entered_on, answered_in, hinted, blocked_by, asked, turned_owned, turned_due, turned_raised, turned}
 use Rattle.sa_core_model.specs.Standing.{IsBetween}
 use Rattle.sa_core_model.proofs.Turns.{rests-turned}
@@ -42,7 +42,7 @@ module _ {C : Type 0} (w : Fixed) where
   IsInOrder k = (k.fixed ≡ w) × IsNumbered k
 
   begun-io : (kind : IoKind) (ends : ℕ) (k : KernelState C) → IsInOrder k → IsInOrder (with_io kind ends k)
-  begun-io kind ends k h = (h.0, numbered-begun 0 (record { number = k.begun; ends = ends; kind = kind }) k.under_way h.1)
+  begun-io kind ends k h = (h.0, numbered-begun 0 (record { number = k.io_count; ends = ends; kind = kind }) k.under_way h.1)
 
   fetch : (e : ℕ) (p : ProcNo) (s : SpaceNo) (b : Bool) (x : Scene C) → IsInOrder x.state → IsInOrder (fetch_page e p s b x).state
   fetch e p s true x h = h
@@ -86,7 +86,7 @@ module _ {C : Type 0} (w : Fixed) where
 
   overs : (e : ℕ) (p : ProcNo) (io : IoNo) (kind : Option IoKind) (x : Scene C) → IsInOrder x.state → IsInOrder (over e p io kind x).state
   overs e p io None x h = h
-  overs e p io (Some kind) x h = overs_for e p kind _ (h.0, numbered-over io.0 0 x.state.begun x.state.under_way h.1)
+  overs e p io (Some kind) x h = overs_for e p kind _ (h.0, numbered-over io.0 0 x.state.io_count x.state.under_way h.1)
 
   mores : (e : ℕ) (p : ProcNo) (n : ℕ) (o : Option SpaceNo) (x : Scene C) → IsInOrder x.state → IsInOrder (more e p n o x).state
   mores e p n None x h = h
@@ -151,7 +151,7 @@ module _ {U C : Type 0} (f : Calls U C) (w : Fixed) where
   calls call p s (Some u) None m h = h
   calls call p s (Some u) (Some c) m h = h
 
-  begins : (p : ProcNo) (s : SpaceNo) (seen : Seen) (o : Option U) (m : Machine U C) → Ordered m → Ordered (begun_by f p s seen o m)
+  begins : (p : ProcNo) (s : SpaceNo) (seen : Seen) (o : Option U) (m : Machine U C) → Ordered m → Ordered (context_begun_by f p s seen o m)
   begins p s seen None m h = h
   begins p s seen (Some u) m h = h
 
@@ -168,8 +168,8 @@ module _ {U C : Type 0} (f : Calls U C) (w : Fixed) where
   welcomes_in : (p : ProcNo) (o : Option SpaceNo) (m : Machine U C) → Ordered m → Ordered (welcomed_in f p o m)
   welcomes_in p None m h = h
   welcomes_in p (Some s) m h =
-      answers p s (told_all f p s m.kernel.telling (begun f p s m))
-      (tells_all p s m.kernel.telling (begun f p s m) (begins p s (seen_on m p s) (user_of m s) m h))
+      answers p s (told_all f p s m.kernel.telling (context_begun f p s m))
+      (tells_all p s m.kernel.telling (context_begun f p s m) (begins p s (seen_on m p s) (user_of m s) m h))
 
   welcomes : (p : ProcNo) (b : Bool) (m : Machine U C) → Ordered m → Ordered (welcomed_if f p b m)
   welcomes p false m h = h

@@ -8,7 +8,7 @@ use Rattle.sa_spaces.specs.Workload.{WorkloadView, IsWorkload}
 use Rattle.sa_assign.specs.Aims.{space_no}
 use Rattle.sa_laws.specs.Closing.{want_one}
 use Rattle.sa_laws.specs.Demand.{BeginsFreely, StepIsFreeIf}
-use Rattle.sa_laws.specs.History.{begun, is_step}
+use Rattle.sa_laws.specs.History.{event_begun, is_step}
 use Rattle.sa_laws.specs.Opening.{opening_event}
 use Rattle.sa_laws.specs.Readings.{Readings, life_on, opening_readings}
 use Rattle.sa_laws.specs.Turns.{is_of_locks}
@@ -49,7 +49,7 @@ pub prio-kernels : (w : WorkloadView) (r : Readings) (e : ℕ) (p : ProcNo) (own
     → RulesPass prio_threads w r (event_with e p own closing)
 prio-kernels w r e p own closing ok moment are closed =
     let k = kernels-are own are in
-    let b = begun w (event_with e p own closing) r in
+    let b = event_begun w (event_with e p own closing) r in
     record {
       demand = record {
         demand_announced =

@@ -22,7 +22,7 @@ use Rattle.sa_laws.specs.Readings.{Readings, running_of, life_of, untold_of, own
 use Rattle.sa_laws.specs.Record.{after_record}
 use Rattle.sa_laws.specs.Step.{StandsIn}
 use Rattle.sa_laws.specs.declared.place.Place.TheVariants as place
-use Rattle.sa_user_laws.specs.Scene.{begun_at, IsActing, Holds as HoldsNow, HoldsIn, IsOn}
+use Rattle.sa_user_laws.specs.Scene.{event_begun_at, IsActing, Holds as HoldsNow, HoldsIn, IsOn}
 use Rattle.sa_fast_laws.proofs.lives.Ceases.{stop-fits, return-fits, return-stands}
 use Rattle.sa_fast_laws.proofs.lives.Upcalls.{up-hears}
 use Rattle.sa_fast_laws.specs.Rests.{LivesHear}
@@ -63,7 +63,7 @@ pub prio-stops : (w : WorkloadView) (s : Setting) (e : ℕ) (r : Readings) (v : 
     (life : Life) (c : PrioContext) (number : ℕ)
     → IsActing prio_calls prio_stands prio_fits w s e r v cs p a life c
     → ((stands_idle c.base.state && not c.urge) ≡ (not life.inside && is_none (carried_by c.base.state)))
-    × prio_fits w s (after_record w number p (begun_at w number p r) (records.Stop s.space (carried_by c.base.state) a)) v cs
+    × prio_fits w s (after_record w number p (event_begun_at w number p r) (records.Stop s.space (carried_by c.base.state) a)) v cs
 prio-stops w s e r v cs p a life c number i = (
   idle-is c.base.state c.urge ∙ ap (λ b. not b && is_none (carried_by c.base.state)) (sym (i.fit.lives.rest a c life i.on.mine i.on.is).marks.inside),
   record {

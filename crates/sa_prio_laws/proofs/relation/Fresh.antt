@@ -9,7 +9,7 @@ use Rattle.sa_package_model.specs.declared.context.ContextState.TheVariants.{Cod
 use Rattle.sa_laws.specs.History.{settles, scans_after}
 use Rattle.sa_laws.specs.Readings.{Readings}
 use Rattle.sa_fast_laws.specs.View.{looks_of}
-use Rattle.sa_prio_model.specs.Urge.{came_out, goes_on}
+use Rattle.sa_prio_model.specs.Urge.{came_out, remains_out}
 use Rattle.sa_prio_laws.specs.PrioFits.{is_fresh}
 
 pub fresh-when : (urge : Bool) (looks : ℕ) → (urge ≡ true → looks ≡ 0) → is_fresh urge looks ≡ true
@@ -52,7 +52,7 @@ settles-scans r last records.Tick n e = refl
 
 -- what came out is out
 pub came-outside : (before after : ContextState) → came_out before after ≡ true → stands_inside after ≡ false
-came-outside before after e = by (stands_inside after) (goes_on before after) e where
+came-outside before after e = by (stands_inside after) (remains_out before after) e where
   by : (a b : Bool) → (not a && not b) ≡ true → a ≡ false
   by false b e = refl
   by true b e = absurd cc

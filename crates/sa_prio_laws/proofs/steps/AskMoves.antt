@@ -25,7 +25,7 @@ use Rattle.sa_package_model.specs.declared.context.ContextState.{ContextState}
 use Rattle.sa_laws.specs.History.{is_inside, after_records, settles, stepped as ends}
 use Rattle.sa_laws.specs.Life.{Life}
 use Rattle.sa_laws.specs.Readings.{Readings}
-use Rattle.sa_user_laws.specs.Scene.{begun_at}
+use Rattle.sa_user_laws.specs.Scene.{event_begun_at}
 use Rattle.sa_user_laws.specs.Steps.{IsLegalAsk}
 use Rattle.sa_fast_laws.specs.FastFits.{Holds}
 use Rattle.sa_fast_laws.specs.Life.{IsMarked}
@@ -73,14 +73,14 @@ module _ (set : Setting) (e : ℕ) (v : Prio) (cs : Contexts PrioContext) (w : W
   -- what the rules ask beside the move
   pub record IsAllowedAsk : Type 0 where
     pub entry : has_entry (x ∷ xs) ≡ true
-    pub ruled : IsRuled w r (begun_at w seen.event p r) p a life x xs
-    pub unmoved : (after_records w seen.event p (begun_at w seen.event p r) (x ∷ xs)).state ≡ r.state
+    pub ruled : IsRuled w r (event_begun_at w seen.event p r) p a life x xs
+    pub unmoved : (after_records w seen.event p (event_begun_at w seen.event p r) (x ∷ xs)).state ≡ r.state
     pub urged : (last : Readings) (later : Seen)
         → (stands_inside (new later).base.state || (settles r last x && prio_pair now later)) ≡ (stands_inside (new later).base.state || (new later).urge)
 
   module _ (m : IsAsking set e v.base (bases cs) w r p a life c seen answer x xs) (t : IsAllowedAsk) where
     abbrev q : Readings
-    q = after_records w seen.event p (begun_at w seen.event p r) (x ∷ xs)
+    q = after_records w seen.event p (event_begun_at w seen.event p r) (x ∷ xs)
 
     same : (later : Seen) → (new later).base ≡ (fast.answered v.base later c).1
     same later = base-if (stands_between state) (settles_by now later c) old

@@ -29,7 +29,7 @@ use Rattle.sa_laws.specs.Shape.{own_part}
 use Rattle.sa_laws.specs.State.{State, space_at}
 use Rattle.sa_user_laws.proofs.Runners.{runner-behind}
 use Rattle.sa_user_laws.specs.Moments.{AlikeButDemands, Sees}
-use Rattle.sa_user_laws.specs.Scene.{begun_at}
+use Rattle.sa_user_laws.specs.Scene.{event_begun_at}
 use Rattle.sa_user_laws.specs.Steps.{event_with, IsClosed, IsLegalAsk, RulesHold, records_asked}
 use Rattle.sa_fast_laws.proofs.relation.EventEnds.{closing-ups}
 use Rattle.sa_fast_laws.proofs.relation.Runners.{alone-runs}
@@ -73,25 +73,25 @@ module _ (set : Setting) (e : ℕ) (v : Prio) (cs : Contexts PrioContext) (w : W
     pub many : length now.on ≡ length v.on
     pub no_up : list_any is_up (x ∷ xs) ≡ false
     pub entry : has_entry (x ∷ xs) ≡ true
-    pub ruled : IsRuled w r (begun_at w seen.event p r) p a life x xs
+    pub ruled : IsRuled w r (event_begun_at w seen.event p r) p a life x xs
     -- after them its own life is what it was, and so are those of other contexts
-    pub running : (after_records w seen.event p (begun_at w seen.event p r) (x ∷ xs)).running ≡ r.running
-    pub ready : (after_records w seen.event p (begun_at w seen.event p r) (x ∷ xs)).ready ≡ r.ready
-    pub untold : (after_records w seen.event p (begun_at w seen.event p r) (x ∷ xs)).untold ≡ r.untold
-    pub state : (after_records w seen.event p (begun_at w seen.event p r) (x ∷ xs)).state ≡ r.state
+    pub running : (after_records w seen.event p (event_begun_at w seen.event p r) (x ∷ xs)).running ≡ r.running
+    pub ready : (after_records w seen.event p (event_begun_at w seen.event p r) (x ∷ xs)).ready ≡ r.ready
+    pub untold : (after_records w seen.event p (event_begun_at w seen.event p r) (x ∷ xs)).untold ≡ r.untold
+    pub state : (after_records w seen.event p (event_begun_at w seen.event p r) (x ∷ xs)).state ≡ r.state
     pub lives : (b : ActNo) (d : PrioContext) → cs b.0 ≡ Some d
-        → life_of (after_records w seen.event p (begun_at w seen.event p r) (x ∷ xs)) b ≡ life_of r b
+        → life_of (after_records w seen.event p (event_begun_at w seen.event p r) (x ∷ xs)) b ≡ life_of r b
     -- the context keeps its thread, and the package what it is on its processor
     pub carries : (later : Seen) → carried_by (going_on later).base.state ≡ carried_by c.base.state
     pub on : (y : ProcNo) → y.0 ≢ p.0 → on_at now y.0 ≡ on_at v y.0
     pub on_here : on_at now p.0 ≡ carried_by c.base.state
     pub stands : (later : Seen) → IsStanding set e v.base (put (bases cs) a.0 (Some (going_on later).base))
     pub holds : (later : Seen)
-        → Holds set.space (after_records w seen.event p (begun_at w seen.event p r) (x ∷ xs)) v.base (put (bases cs) a.0 (Some (going_on later).base))
+        → Holds set.space (after_records w seen.event p (event_begun_at w seen.event p r) (x ∷ xs)) v.base (put (bases cs) a.0 (Some (going_on later).base))
     -- FastThreads' marks; and where it is out, the mark is set exactly where a pair is seen by a life that settled
     pub marks : (ev : Event) (last : Readings) (later : Seen)
         → IsBehind set e v.base (put (bases cs) a.0 (Some (going_on later).base)) a (going_on later).base life later
-        (after_records w seen.event p (begun_at w seen.event p r) (x ∷ xs)) last
+        (after_records w seen.event p (event_begun_at w seen.event p r) (x ∷ xs)) last
         → IsMarked (view (going_on later).base) (ends is_inside w r ev last x life)
     pub urged : (last : Readings) (later : Seen)
         → (stands_inside (going_on later).base.state || (settles r last x && prio_pair now later)) ≡ (stands_inside (going_on later).base.state ||
@@ -99,7 +99,7 @@ module _ (set : Setting) (e : ℕ) (v : Prio) (cs : Contexts PrioContext) (w : W
 
   module _ (t : IsPrioAsking) where
     abbrev q : Readings
-    q = after_records w seen.event p (begun_at w seen.event p r) (x ∷ xs)
+    q = after_records w seen.event p (event_begun_at w seen.event p r) (x ∷ xs)
 
     keeps : (last : Readings) → last.running ≡ r.running → (later : Seen) → KeepsOn last now (put cs a.0 (Some (going_on later)))
     keeps last running later y b d at mine =
@@ -143,14 +143,14 @@ module _ (set : Setting) (e : ℕ) (v : Prio) (cs : Contexts PrioContext) (w : W
           subst (λ own. (closing : List Record) → IsClosed own closing → RulesHold prio_threads w r (event_with seen.event p own closing) own) (sym t.records)
           (λ closing closed. rules-of w r (event_with seen.event p (x ∷ xs) closing) a life x xs (xs ++ closing) i.on.runs i.on.is refl closed.is_own t.ruled);
       after = subst (λ own. (closing : List Record) (later : Seen) → IsClosed own closing
-          → AlikeButDemands (after_records w seen.event p (begun_at w seen.event p r) own)
-          (after_records w seen.event p (begun_at w seen.event p r) (own ++ closing))
-          → Sees set.space (after_records w seen.event p (begun_at w seen.event p r) (own ++ closing)) p seen.event later
+          → AlikeButDemands (after_records w seen.event p (event_begun_at w seen.event p r) own)
+          (after_records w seen.event p (event_begun_at w seen.event p r) (own ++ closing))
+          → Sees set.space (after_records w seen.event p (event_begun_at w seen.event p r) (own ++ closing)) p seen.event later
           → prio_fits w set (after_event is_inside_or_urged w r (event_with seen.event p own closing)) now
           (put (put cs a.0 (Some asking)) a.0 (Some (going_on later))))
           (sym t.records) (λ closing later closed same sees.
           let ev = event_with seen.event p (x ∷ xs) closing in
-          let last = after_records w seen.event p (begun_at w seen.event p r) ((x ∷ xs) ++ closing) in
+          let last = after_records w seen.event p (event_begun_at w seen.event p r) ((x ∷ xs) ++ closing) in
           let new = going_on later in
           let ds = put (bases cs) a.0 (Some new.base) in
           let es = put cs a.0 (Some new) in

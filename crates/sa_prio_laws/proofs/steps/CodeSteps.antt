@@ -27,7 +27,7 @@ use Rattle.sa_package_model.specs.declared.context.ContextState.TheVariants.{Cod
 use Rattle.sa_laws.specs.Life.{Life}
 use Rattle.sa_laws.specs.Locks.{is_back, back_is_due}
 use Rattle.sa_laws.specs.Readings.{Readings, Listed, ready_of}
-use Rattle.sa_user_laws.specs.Scene.{begun_at}
+use Rattle.sa_user_laws.specs.Scene.{event_begun_at}
 use Rattle.sa_user_laws.specs.Steps.{IsLegalStep}
 use Rattle.sa_copies.proofs.Places.{next-free}
 use Rattle.sa_fast_laws.proofs.lists.Frees.{free-keeps}
@@ -77,7 +77,7 @@ module _ (set : Setting) (e : ℕ) (v : Prio) (cs : Contexts PrioContext) (w : W
   c = record { state = Code f; sections = fs; work = wk }
 
   abbrev r0 : Readings
-  r0 = begun_at w seen.event p r
+  r0 = event_begun_at w seen.event p r
 
   pub free-legal : slice_get package_ops f.pc ≡ Some ops.Free → micro v.base.shared.state f seen.pages ≡ freed v.base.shared.state f (list_in f)
       → IsLegalStep prio_calls prio_threads prio_fits w set r p seen.event a cs (goes v seen (record { state = Code f; sections = fs; work = wk }))

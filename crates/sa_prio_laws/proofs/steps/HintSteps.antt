@@ -20,7 +20,7 @@ use Rattle.sa_laws.specs.Life.{Life}
 use Rattle.sa_laws.specs.Readings.{Readings, demand_of, taken_of}
 use Rattle.sa_laws.specs.Turns.{is_of_locks}
 use Rattle.sa_laws.proofs.Records.{alone-plain}
-use Rattle.sa_user_laws.specs.Scene.{begun_at}
+use Rattle.sa_user_laws.specs.Scene.{event_begun_at}
 use Rattle.sa_user_laws.specs.Steps.{IsLegalStep}
 use Rattle.sa_fast_laws.proofs.relation.EventEnds.{begun-holds}
 use Rattle.sa_fast_laws.specs.Stage.{stage_of, is_gone}
@@ -46,7 +46,7 @@ use Rattle.sa_prio_laws.proofs.steps.Scenes.{IsPrioScene}
 module _ (set : Setting) (e : ℕ) (v : Prio) (cs : Contexts PrioContext) (w : WorkloadView) (r : Readings) (p : ProcNo) (a : ActNo) (life : Life)
     (seen : Seen) where
   abbrev r0 : Readings
-  r0 = begun_at w seen.event p r
+  r0 = event_begun_at w seen.event p r
 
   -- THE HINT FOR MORE
   module _ (t : Option ThreadNo) (more : ℕ)
@@ -58,10 +58,10 @@ module _ (set : Setting) (e : ℕ) (v : Prio) (cs : Contexts PrioContext) (w : W
     base : IsScene set e v.base (bases cs) w r p a life (record { state = Hint t; sections = []; work = None }) seen
     base = base-scene set e v cs w r p a life d seen i
 
-    k1 : Holds set.space (begun_at w seen.event p r) v.base (bases cs)
+    k1 : Holds set.space (event_begun_at w seen.event p r) v.base (bases cs)
     k1 = begun-holds set.space r v.base (bases cs) w (record { number = seen.event; proc = p; records = [] }) i.holds
 
-    stays : is_gone (stage_of (begun_at w seen.event p r) set.space a life) ≡ false
+    stays : is_gone (stage_of (event_begun_at w seen.event p r) set.space a life) ≡ false
     stays = ap is_gone (k1.runs p a life i.on.runs i.on.is i.on.space).2
 
     pub more-legal : IsLegalStep prio_calls prio_threads prio_fits w set r p seen.event a cs
@@ -79,7 +79,7 @@ module _ (set : Setting) (e : ℕ) (v : Prio) (cs : Contexts PrioContext) (w : W
             entry = refl;
             ruled = record {
               step = refl;
-              table = (refl, sym i.on.space, subst (λ b. CanHint b w (begun_at w seen.event p r) life (demand_of r set.space + more)) (sym not_lower) raise);
+              table = (refl, sym i.on.space, subst (λ b. CanHint b w (event_begun_at w seen.event p r) life (demand_of r set.space + more)) (sym not_lower) raise);
               keeps = keeps-with w r0 p life x tt m.back;
               alone = tt;
               free = record { free = λ bound. absurd (let no_bound = sym not_lower ∙ bound in cc) };
@@ -103,10 +103,10 @@ module _ (set : Setting) (e : ℕ) (v : Prio) (cs : Contexts PrioContext) (w : W
     scene2 : IsScene set e v.base (bases cs) w r p a life (record { state = Return; sections = []; work = None }) seen
     scene2 = base-scene set e v cs w r p a life c seen i
 
-    k2 : Holds set.space (begun_at w seen.event p r) v.base (bases cs)
+    k2 : Holds set.space (event_begun_at w seen.event p r) v.base (bases cs)
     k2 = begun-holds set.space r v.base (bases cs) w (record { number = seen.event; proc = p; records = [] }) i.holds
 
-    stays_here : is_gone (stage_of (begun_at w seen.event p r) set.space a life) ≡ false
+    stays_here : is_gone (stage_of (event_begun_at w seen.event p r) set.space a life) ≡ false
     stays_here = ap is_gone (k2.runs p a life i.on.runs i.on.is i.on.space).2
 
     many : BULK_RETURN ≤ length (taken_of r life.space)

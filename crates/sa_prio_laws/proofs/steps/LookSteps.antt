@@ -18,7 +18,7 @@ use Rattle.sa_package_model.specs.declared.context.Context.{Context}
 use Rattle.sa_package_model.specs.declared.context.ContextState.TheVariants.{Look}
 use Rattle.sa_laws.specs.Life.{Life}
 use Rattle.sa_laws.specs.Readings.{Readings, HasNothing, demand_of, has_ready, ready_of, carried_by as runs_by}
-use Rattle.sa_user_laws.specs.Scene.{begun_at}
+use Rattle.sa_user_laws.specs.Scene.{event_begun_at}
 use Rattle.sa_user_laws.specs.Steps.{IsLegalStep}
 use Rattle.sa_fast_laws.specs.FastFits.{Holds}
 use Rattle.sa_fast_laws.proofs.relation.EventEnds.{begun-holds}
@@ -46,7 +46,7 @@ use Rattle.sa_prio_laws.proofs.steps.Unbound.{IsUnbound, is-free, is-unurged}
 module _ (set : Setting) (e : ℕ) (v : Prio) (cs : Contexts PrioContext) (w : WorkloadView) (r : Readings) (p : ProcNo) (a : ActNo) (life : Life)
     (seen : Seen) where
   abbrev r0 : Readings
-  r0 = begun_at w seen.event p r
+  r0 = event_begun_at w seen.event p r
 
   module _ (looks : ℕ)
       (i : IsPrioScene set e v cs w r p a life (record { base = record { state = Look looks; sections = []; work = None }; urge = false }) seen)
@@ -57,25 +57,25 @@ module _ (set : Setting) (e : ℕ) (v : Prio) (cs : Contexts PrioContext) (w : W
     base : IsScene set e v.base (bases cs) w r p a life (record { state = Look looks; sections = []; work = None }) seen
     base = base-scene set e v cs w r p a life c seen i
 
-    k0 : Holds set.space (begun_at w seen.event p r) v.base (bases cs)
+    k0 : Holds set.space (event_begun_at w seen.event p r) v.base (bases cs)
     k0 = begun-holds set.space r v.base (bases cs) w (record { number = seen.event; proc = p; records = [] }) i.holds
 
-    carries : runs_by (begun_at w seen.event p r) life ≡ None
+    carries : runs_by (event_begun_at w seen.event p r) life ≡ None
     carries = scene.carries set e v.base (bases cs) w r p a life c seen base
 
     inside : (own_list v.base seen.proc).0 < length v.base.shared.state.lists.lists
     inside = scene.list-inside set e v.base (bases cs) w r p a life c seen base
 
-    stays : is_gone (stage_of (begun_at w seen.event p r) set.space a life) ≡ false
+    stays : is_gone (stage_of (event_begun_at w seen.event p r) set.space a life) ≡ false
     stays = ap is_gone (k0.runs p a life i.on.runs i.on.is i.on.space).2
 
     patient : v.base.def.patience ≤ MAX_PATIENCE
     patient = subst (λ d. d.patience ≤ MAX_PATIENCE) (sym i.stands.base.made.def) i.stands.base.made.setting.def.patience
 
-    alike : AreReadyAlike set.space (begun_at w seen.event p r) v.base
+    alike : AreReadyAlike set.space (event_begun_at w seen.event p r) v.base
     alike = ranked-alike v.base (ready_of r set.space) i.ranked
 
-    owes : HasNothing (begun_at w seen.event p r) life
+    owes : HasNothing (event_begun_at w seen.event p r) life
     owes = nothing set e v.base (bases cs) i.stands.base set.space r0 k0 a (Look looks) base.on.mine life i.on.is stays refl refl w seen i.sees.demand
 
     -- A TAKE for a pop: what is found is the one list
@@ -133,7 +133,7 @@ module _ (set : Setting) (e : ℕ) (v : Prio) (cs : Contexts PrioContext) (w : W
         move-legal set e v cs w r p a life c seen i records.Idle [] _ _ m (record {
           ruled = record {
             step = refl;
-            table = (refl, record { finds = record { carries = carries; none = row.finds.none.locked the_list }; goes_on = row.goes_on });
+            table = (refl, record { finds = record { carries = carries; none = row.finds.none.locked the_list }; no_hint_is_due = row.no_hint_is_due });
             keeps = keeps-with w r0 p life records.Idle tt m.back;
             alone = tt;
             free = is-free w r life records.Idle unbound;
@@ -166,7 +166,7 @@ module _ (set : Setting) (e : ℕ) (v : Prio) (cs : Contexts PrioContext) (w : W
               table = (
                 refl,
                 sym i.on.space,
-                subst (λ b. CanHint b w (begun_at w seen.event p r) life (demand_of r set.space - 1)) (sym less) (record {
+                subst (λ b. CanHint b w (event_begun_at w seen.event p r) life (demand_of r set.space - 1)) (sym less) (record {
                   finds = record { carries = carries; none = row.finds.none.locked the_list };
                   patient = row.patient;
                   above = row.above;

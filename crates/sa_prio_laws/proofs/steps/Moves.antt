@@ -25,7 +25,7 @@ use Rattle.sa_laws.specs.Readings.{Readings, ready_of}
 use Rattle.sa_laws.specs.Record.{after_record}
 use Rattle.sa_laws.specs.State.{State}
 use Rattle.sa_laws.proofs.Spaces.{placed-owners}
-use Rattle.sa_user_laws.specs.Scene.{begun_at}
+use Rattle.sa_user_laws.specs.Scene.{event_begun_at}
 use Rattle.sa_user_laws.specs.Steps.{IsLegalStep}
 use Rattle.sa_fast_laws.proofs.steps.Moves.{IsMove}
 use Rattle.sa_fast_laws.proofs.steps.Scenes.{IsScene, steps}
@@ -132,9 +132,9 @@ module _ (set : Setting) (e : ℕ) (v : Prio) (cs : Contexts PrioContext) (w : W
 
   -- what the rules ask beside a move
   pub record IsAllowed (x : Record) (xs : List Record) (u : Package) (new : Context) : Type 0 where
-    pub ruled : IsRuled w r (begun_at w seen.event p r) p a life x xs
-    pub ranked : FitsRanked u (ready_of (after_records w seen.event p (begun_at w seen.event p r) (x ∷ xs)) set.space)
-    pub settled : (last : Readings) → last.state ≡ (after_records w seen.event p (begun_at w seen.event p r) (x ∷ xs)).state
+    pub ruled : IsRuled w r (event_begun_at w seen.event p r) p a life x xs
+    pub ranked : FitsRanked u (ready_of (after_records w seen.event p (event_begun_at w seen.event p r) (x ∷ xs)) set.space)
+    pub settled : (last : Readings) → last.state ≡ (after_records w seen.event p (event_begun_at w seen.event p r) (x ∷ xs)).state
         → stands_inside new.state ≡ false → settles r last x ≡ came_out c.state new.state
 
   module _ (x : Record) (xs : List Record) (u : Package) (new : Context) (m : IsMove set v.base (bases cs) w r p a life c seen x xs u new)
@@ -154,8 +154,8 @@ module _ (set : Setting) (e : ℕ) (v : Prio) (cs : Contexts PrioContext) (w : W
       ranked = t.ranked;
       demands = m.demands;
       taken = m.taken;
-      lines = all-lines w seen.event p (begun_at w seen.event p r) set.space (x ∷ xs) well.own;
-      owners = all-owners w seen.event p (begun_at w seen.event p r) set.space (x ∷ xs) well.own;
+      lines = all-lines w seen.event p (event_begun_at w seen.event p r) set.space (x ∷ xs) well.own;
+      owners = all-owners w seen.event p (event_begun_at w seen.event p r) set.space (x ∷ xs) well.own;
       marks = λ ev last b. m.marks ev last (record {
         stands = b.stands;
         holds = b.holds;

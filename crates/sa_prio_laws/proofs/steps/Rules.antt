@@ -7,7 +7,7 @@ use Rattle.sa_base.specs.declared.record.Record.{Record}
 use Rattle.sa_spaces.specs.Workload.{WorkloadView}
 use Rattle.sa_laws.specs.Demand.{IsFree, StepIsFree, StepIsFreeIf, BeginsFreely}
 use Rattle.sa_laws.specs.Event.{Event}
-use Rattle.sa_laws.specs.History.{is_step, begun}
+use Rattle.sa_laws.specs.History.{is_step, event_begun}
 use Rattle.sa_laws.specs.Life.{Life}
 use Rattle.sa_laws.specs.Locks.{StandsAlone}
 use Rattle.sa_laws.specs.Readings.{Readings, running_of, life_of, life_if, life_on}
@@ -31,10 +31,10 @@ pub record IsRuled (w : WorkloadView) (r now : Readings) (p : ProcNo) (a : ActNo
 
 pub rules-of : (w : WorkloadView) (r : Readings) (ev : Event) (a : ActNo) (life : Life) (x : Record) (xs behind : List Record)
     → running_of r ev.proc ≡ Some a → life_of r a ≡ Some life → ev.records ≡ x ∷ behind → own_part (x ∷ behind) ≡ x ∷ xs
-    → IsRuled w r (begun w ev r) ev.proc a life x xs → RulesHold prio_threads w r ev (x ∷ xs)
+    → IsRuled w r (event_begun w ev r) ev.proc a life x xs → RulesHold prio_threads w r ev (x ∷ xs)
 rules-of w r ev a life x xs behind runs there records own i =
     let on : life_on r ev.proc ≡ Some life = ap (life_if r) runs ∙ there in
-    let b = begun w ev r in
+    let b = event_begun w ev r in
     record {
       steps = subst (λ o. RankedStepIn w b ev.proc o (life_on r ev.proc) (x ∷ xs)) (sym runs)
           (subst (λ o. RankedStepIn w b ev.proc (Some a) o (x ∷ xs)) (sym on) i.table);

@@ -28,7 +28,7 @@ use Rattle.sa_package_model.specs.declared.context.Context.{Context}
 use Rattle.sa_package_model.specs.declared.context.ContextState.TheVariants.{Code}
 use Rattle.sa_laws.specs.Life.{Life}
 use Rattle.sa_laws.specs.Readings.{Readings, ready_of}
-use Rattle.sa_user_laws.specs.Scene.{begun_at}
+use Rattle.sa_user_laws.specs.Scene.{event_begun_at}
 use Rattle.sa_user_laws.specs.Steps.{IsLegalStep}
 use Rattle.sa_fast_laws.proofs.lists.Pops.{listed_made, run-keeps, run-listed}
 use Rattle.sa_fast_laws.proofs.steps.CodeMoves.{k0, known, named, page, pop-fits, pop-resident, with_run, run-move, code-cases}
@@ -59,7 +59,7 @@ module _ (set : Setting) (e : ℕ) (v : Prio) (cs : Contexts PrioContext) (w : W
   c = record { state = Code f; sections = fs; work = wk }
 
   abbrev r0 : Readings
-  r0 = begun_at w seen.event p r
+  r0 = event_begun_at w seen.event p r
 
   abbrev z : ReadyView
   z = v.base.shared.state.lists

@@ -15,7 +15,7 @@ use Rattle.sa_laws.specs.Life.{Life}
 use Rattle.sa_laws.specs.Readings.{Readings, ready_of, taken_of, line_of}
 use Rattle.sa_laws.specs.State.{Runner, space_at, runner_on, runner_of}
 use Rattle.sa_user_laws.specs.Moments.{IsMoment, AreSized, Sees}
-use Rattle.sa_user_laws.specs.Scene.{IsOfSpace, IsOn, IsActing, begun_at}
+use Rattle.sa_user_laws.specs.Scene.{IsOfSpace, IsOn, IsActing, event_begun_at}
 use Rattle.sa_fast_laws.proofs.relation.EventEnds.{begun-holds}
 use Rattle.sa_fast_laws.specs.FastFits.{Holds}
 use Rattle.sa_fast_laws.specs.View.{looks_of, is_lone}
@@ -46,7 +46,7 @@ pub record IsPrioScene (set : Setting) (e : ℕ) (v : Prio) (cs : Contexts PrioC
   pub fresh : c.urge ≡ true → looks_of c.base.state ≡ 0
   pub on : IsOn set.space r p a life cs c
   pub runner : runner_on r.state p ≡ runner_of set.space (carried_by c.base.state)
-  pub sees : Sees set.space (begun_at w seen.event p r) p seen.event seen
+  pub sees : Sees set.space (event_begun_at w seen.event p r) p seen.event seen
   pub low : line_of r p ≡ None
   -- who was taken was handed over
   pub given : (b : ActNo) → Contains (taken_of r set.space) b → cs b.0 ≡ None
@@ -57,7 +57,7 @@ pub record IsPrioScene (set : Setting) (e : ℕ) (v : Prio) (cs : Contexts PrioC
 pub the-scene : (w : WorkloadView) (s : Setting) (e : ℕ) (r : Readings) (v : Prio) (cs : Contexts PrioContext) (p : ProcNo) (a : ActNo) (life : Life)
     (c : PrioContext) (seen : Seen)
     → IsActing prio_calls prio_stands prio_fits w s e r v cs p a life c
-    → Sees s.space (begun_at w seen.event p r) p seen.event seen → line_of r p ≡ None → e < seen.event → seen.event ≤ MAX_EVENTS
+    → Sees s.space (event_begun_at w seen.event p r) p seen.event seen → line_of r p ≡ None → e < seen.event → seen.event ≤ MAX_EVENTS
     → IsPrioScene s e v cs w r p a life c seen
 the-scene w s e r v cs p a life c seen i sees low later within =
     let mark = (i.fit.lives.rest a c life i.on.mine i.on.is).marks in
@@ -91,7 +91,7 @@ the-scene w s e r v cs p a life c seen i sees low later within =
 module _ (set : Setting) (e : ℕ) (v : Prio) (cs : Contexts PrioContext) (w : WorkloadView) (r : Readings) (p : ProcNo) (a : ActNo) (life : Life)
     (c : PrioContext) (seen : Seen) (i : IsPrioScene set e v cs w r p a life c seen) where
   abbrev r0 : Readings
-  r0 = begun_at w seen.event p r
+  r0 = event_begun_at w seen.event p r
 
   -- the space is one of those that are read
   pub known : set.space.0 < length r.state.spaces

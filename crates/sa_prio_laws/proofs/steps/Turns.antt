@@ -34,7 +34,7 @@ use Rattle.sa_laws.specs.Step.{AreSteps}
 use Rattle.sa_laws.specs.Turns.{IsClosing, AreRaising}
 use Rattle.sa_user_laws.proofs.Runners.{all-elsewhere, runner-behind}
 use Rattle.sa_user_laws.specs.Moments.{Alike, IsMoment}
-use Rattle.sa_user_laws.specs.Scene.{begun_at}
+use Rattle.sa_user_laws.specs.Scene.{event_begun_at}
 use Rattle.sa_user_laws.specs.Steps.{event_with, IsLegalStep}
 use Rattle.sa_fast_laws.proofs.relation.EventEnds.{begun-holds, closing-ups}
 use Rattle.sa_fast_laws.proofs.relation.OneLife.{IsHeld, held-holds}
@@ -101,7 +101,7 @@ pub record IsBehind (set : Setting) (n : ℕ) (u : Package) (ds : Contexts Conte
 module _ (set : Setting) (e : ℕ) (v : Prio) (cs : Contexts PrioContext) (w : WorkloadView) (r : Readings) (p : ProcNo) (a : ActNo) (life : Life)
     (c : PrioContext) (seen : Seen) (i : IsPrioScene set e v cs w r p a life c seen) where
   abbrev r0 : Readings
-  r0 = begun_at w seen.event p r
+  r0 = event_begun_at w seen.event p r
 
   -- The step adds records x and xs and leaves FastThreads' package u and context new.
   pub record IsPrioTurn (x : Record) (xs : List Record) (u : Package) (new : Context) : Type 0 where
@@ -109,25 +109,25 @@ module _ (set : Setting) (e : ℕ) (v : Prio) (cs : Contexts PrioContext) (w : W
     pub own : All (IsOwn set.space) (x ∷ xs)
     pub no_up : list_any is_up (x ∷ xs) ≡ false
     pub no_entry : has_entry (x ∷ xs) ≡ false
-    pub needs : AreSteps w seen.event p (begun_at w seen.event p r) (x ∷ xs)
-    pub ruled : IsRuled w r (begun_at w seen.event p r) p a life x xs
-    pub held : IsHeld set.space (begun_at w seen.event p r) (after_records w seen.event p (begun_at w seen.event p r) (x ∷ xs)) v.base u a c.base new
-    pub ranked : FitsRanked u (ready_of (after_records w seen.event p (begun_at w seen.event p r) (x ∷ xs)) set.space)
-    pub demands : (after_records w seen.event p (begun_at w seen.event p r) (x ∷ xs)).demands ≡ r.demands
-    pub taken : (after_records w seen.event p (begun_at w seen.event p r) (x ∷ xs)).taken ≡ r.taken
-    pub lines : (after_records w seen.event p (begun_at w seen.event p r) (x ∷ xs)).lines ≡ (begun_at w seen.event p r).lines
-    pub owners : (after_records w seen.event p (begun_at w seen.event p r) (x ∷ xs)).state.owners ≡ r.state.owners
+    pub needs : AreSteps w seen.event p (event_begun_at w seen.event p r) (x ∷ xs)
+    pub ruled : IsRuled w r (event_begun_at w seen.event p r) p a life x xs
+    pub held : IsHeld set.space (event_begun_at w seen.event p r) (after_records w seen.event p (event_begun_at w seen.event p r) (x ∷ xs)) v.base u a c.base new
+    pub ranked : FitsRanked u (ready_of (after_records w seen.event p (event_begun_at w seen.event p r) (x ∷ xs)) set.space)
+    pub demands : (after_records w seen.event p (event_begun_at w seen.event p r) (x ∷ xs)).demands ≡ r.demands
+    pub taken : (after_records w seen.event p (event_begun_at w seen.event p r) (x ∷ xs)).taken ≡ r.taken
+    pub lines : (after_records w seen.event p (event_begun_at w seen.event p r) (x ∷ xs)).lines ≡ (event_begun_at w seen.event p r).lines
+    pub owners : (after_records w seen.event p (event_begun_at w seen.event p r) (x ∷ xs)).state.owners ≡ r.state.owners
     -- FastThreads' marks; and where it is out, the step settled its life exactly where it came to an instruction or a look
     pub marks : (ev : Event) (last : Readings)
         → IsBehind set seen.event u (put (bases cs) a.0 (Some new)) a new held.life seen
-        (after_records w seen.event p (begun_at w seen.event p r) (x ∷ xs)) last
+        (after_records w seen.event p (event_begun_at w seen.event p r) (x ∷ xs)) last
         → IsMarked (view new) (ends is_inside w r ev last x held.life)
-    pub settled : (last : Readings) → last.state ≡ (after_records w seen.event p (begun_at w seen.event p r) (x ∷ xs)).state
+    pub settled : (last : Readings) → last.state ≡ (after_records w seen.event p (event_begun_at w seen.event p r) (x ∷ xs)).state
         → stands_inside new.state ≡ false → settles r last x ≡ came_out c.base.state new.state
 
   module _ (x : Record) (xs : List Record) (u : Package) (new : Context) (t : IsPrioTurn x xs u new) where
     abbrev q : Readings
-    q = after_records w seen.event p (begun_at w seen.event p r) (x ∷ xs)
+    q = after_records w seen.event p (event_begun_at w seen.event p r) (x ∷ xs)
 
     abbrev ds : Contexts Context
     ds = put (bases cs) a.0 (Some new)

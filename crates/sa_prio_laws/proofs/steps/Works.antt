@@ -18,7 +18,7 @@ use Rattle.sa_package_model.specs.declared.package.Package.{Package}
 use Rattle.sa_laws.specs.Life.{Life}
 use Rattle.sa_laws.specs.Readings.{Readings, has_hand, ready_of}
 use Rattle.sa_laws.specs.Turns.{AnotherHas}
-use Rattle.sa_user_laws.specs.Scene.{begun_at}
+use Rattle.sa_user_laws.specs.Scene.{event_begun_at}
 use Rattle.sa_user_laws.specs.Steps.{IsLegalStep}
 use Rattle.sa_fast_laws.proofs.relation.EventEnds.{begun-holds}
 use Rattle.sa_fast_laws.proofs.lists.Continues.{cont-keeps}
@@ -52,7 +52,7 @@ module _ (set : Setting) (e : ℕ) (v : Prio) (cs : Contexts PrioContext) (w : W
   d = record { state = Work t; sections = []; work = Some one }
 
   abbrev r0 : Readings
-  r0 = begun_at w seen.event p r
+  r0 = event_begun_at w seen.event p r
 
   own : own_list v.base seen.proc ≡ the_list
   own = own-is-first v.base (ready_of r set.space) i.ranked seen.proc
@@ -142,7 +142,7 @@ module _ (set : Setting) (e : ℕ) (v : Prio) (cs : Contexts PrioContext) (w : W
       let base = base-scene set e v cs w r p a life c seen i in
       let k = begun-holds set.space r v.base (bases cs) w (record { number = seen.event; proc = p; records = [] }) i.holds in
       let m = cont-move set e v.base (bases cs) w r p a life seen f fs wk base in
-      let now = begun_at w seen.event p r in
+      let now = event_begun_at w seen.event p r in
       let x : Record = records.Cont set.space f.thread in
       move-legal set e v cs w r p a life c seen i x [] _ _ m (record {
         ruled = record {

@@ -18,7 +18,7 @@ use Rattle.sa_package_model.specs.declared.context.ContextState.TheVariants.{Use
 use Rattle.sa_package_model.specs.declared.package.Package.{Package}
 use Rattle.sa_laws.specs.Life.{Life}
 use Rattle.sa_laws.specs.Readings.{Readings, ready_of}
-use Rattle.sa_user_laws.specs.Scene.{begun_at}
+use Rattle.sa_user_laws.specs.Scene.{event_begun_at}
 use Rattle.sa_user_laws.specs.Steps.{IsLegalStep}
 use Rattle.sa_fast_laws.proofs.relation.SettledMarks.{settled-marked}
 use Rattle.sa_fast_laws.specs.Stage.{is_gone}
@@ -54,7 +54,7 @@ module _ (set : Setting) (e : ℕ) (v : Prio) (cs : Contexts PrioContext) (w : W
   old = record { base = record { state = User t; sections = []; work = None }; urge = true }
 
   abbrev r0 : Readings
-  r0 = begun_at w seen.event p r
+  r0 = event_begun_at w seen.event p r
 
   mine : bases cs a.0 ≡ Some c
   mine = base-is cs a.0 old i.on.mine

@@ -19,7 +19,7 @@ use Rattle.sa_package_model.specs.declared.context.ContextState.TheVariants as s
 use Rattle.sa_laws.specs.Life.{Life}
 use Rattle.sa_laws.specs.Readings.{Readings, HasNothing, life_if}
 use Rattle.sa_laws.specs.Record.{after_record}
-use Rattle.sa_user_laws.specs.Scene.{begun_at}
+use Rattle.sa_user_laws.specs.Scene.{event_begun_at}
 use Rattle.sa_user_laws.specs.Steps.{IsLegalStep}
 use Rattle.sa_fast_laws.proofs.relation.EventEnds.{same-holds}
 use Rattle.sa_fast_laws.proofs.relation.InsideMarks.{settled-copy}
@@ -73,7 +73,7 @@ module _ (set : Setting) (e : ℕ) (v : Prio) (cs : Contexts PrioContext) (w : W
   old = record { base = record { state = state; sections = []; work = None }; urge = true }
 
   abbrev r0 : Readings
-  r0 = begun_at w seen.event p r
+  r0 = event_begun_at w seen.event p r
 
   mine : bases cs a.0 ≡ Some c
   mine = base-is cs a.0 old i.on.mine
@@ -166,12 +166,12 @@ module _ (set : Setting) (e : ℕ) (v : Prio) (cs : Contexts PrioContext) (w : W
       urged =
           λ last later. sym (out-or (stands_inside (settled_to (carried_by state) false (is_some (owed v.base later)) (has_bulk later))) (prio_pair v later));
     } where
-      holds-later : (later : Seen) → Holds set.space (after_record w seen.event p (begun_at w seen.event p r) (records.Line other.proc)) v.base
+      holds-later : (later : Seen) → Holds set.space (after_record w seen.event p (event_begun_at w seen.event p r) (records.Line other.proc)) v.base
           (put (bases cs) a.0 (Some
           (record { state = settled_to (carried_by state) false (is_some (owed v.base later)) (has_bulk later); sections = []; work = None })))
       holds-later later =
           let between = settled_between (carried_by state) false (is_some (owed v.base later)) (has_bulk later) in
-          same-holds set.space r (after_record w seen.event p (begun_at w seen.event p r) (records.Line other.proc)) v.base
+          same-holds set.space r (after_record w seen.event p (event_begun_at w seen.event p r) (records.Line other.proc)) v.base
           (put (bases cs) a.0 (Some
           (record { state = settled_to (carried_by state) false (is_some (owed v.base later)) (has_bulk later); sections = []; work = None })))
           (record { space = refl; untold = refl; running = refl; lives = refl })

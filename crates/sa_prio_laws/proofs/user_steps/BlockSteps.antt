@@ -36,14 +36,14 @@ use Rattle.sa_package_model.specs.declared.context.Context.{Context}
 use Rattle.sa_package_model.specs.declared.package.Package.{Package}
 use Rattle.sa_laws.specs.Demand.{IsFree}
 use Rattle.sa_laws.specs.Event.{Event}
-use Rattle.sa_laws.specs.History.{is_step, with_step, settles, goes_on as stays_on, stepped as ends}
+use Rattle.sa_laws.specs.History.{is_step, with_step, settles, is_running_or_blocked, stepped as ends}
 use Rattle.sa_laws.specs.Life.{Life, some_lock, first_lock, held_with}
 use Rattle.sa_laws.specs.Readings.{Readings, life_of, running_of, ready_of}
 use Rattle.sa_laws.specs.Record.{after_record, with_life, blocking_for}
 use Rattle.sa_laws.specs.State.{thread_in, no_threads}
 use Rattle.sa_laws.specs.Turns.{CanFault, IsInsOf, is_of_locks}
 use Rattle.sa_laws.proofs.Records.{passage-plain, alone-plain}
-use Rattle.sa_user_laws.specs.Scene.{begun_at}
+use Rattle.sa_user_laws.specs.Scene.{event_begun_at}
 use Rattle.sa_user_laws.specs.Steps.{IsLegalStep, event_with}
 use Rattle.sa_fast_laws.proofs.relation.ThreadsBeside.{life-here}
 use Rattle.sa_fast_laws.specs.Stage.{was_idle, place_of}
@@ -84,7 +84,7 @@ module _ (set : Setting) (e : ℕ) (v : Prio) (cs : Contexts PrioContext) (w : W
   old = record { base = c; urge = false }
 
   abbrev r0 : Readings
-  r0 = begun_at w seen.event p r
+  r0 = event_begun_at w seen.event p r
 
   abbrev scene : IsScene set e v.base (bases cs) w r p a life c seen
   scene = base-scene set e v cs w r p a life c seen i
@@ -159,7 +159,7 @@ module _ (set : Setting) (e : ℕ) (v : Prio) (cs : Contexts PrioContext) (w : W
 
   -- what the rules ask of a fault, and that the context did not come out by it
   pub record MayFault : Type 0 where
-    pub fault : CanFault (begun_at w seen.event p r) life (first_lock life)
+    pub fault : CanFault (event_begun_at w seen.event p r) life (first_lock life)
     pub free : (io : IoNo) → IsFree w r life (records.Block set.space (carried_by c.state) a io)
     pub unurged : (io : IoNo) → IsUnurged w r life (records.Block set.space (carried_by c.state) a io)
     pub stays : came_out c.state c.state ≡ false
@@ -243,10 +243,10 @@ module _ (set : Setting) (e : ℕ) (v : Prio) (cs : Contexts PrioContext) (w : W
       x = records.Ins set.space t (block_at v.base.shared.threads t.0).pc
 
       abbrev start : Readings
-      start = begun_at w seen.event p r
+      start = event_begun_at w seen.event p r
 
       abbrev q : Readings
-      q = after_record w seen.event p (begun_at w seen.event p r) (records.Ins set.space t (block_at v.base.shared.threads t.0).pc)
+      q = after_record w seen.event p (event_begun_at w seen.event p r) (records.Ins set.space t (block_at v.base.shared.threads t.0).pc)
 
       abbrev u : Package
       u = with_shared v.base (with_thread v.base.shared t (moved_to (next_of (block_at v.base.shared.threads t.0)) kept.Blocked))
@@ -260,8 +260,8 @@ module _ (set : Setting) (e : ℕ) (v : Prio) (cs : Contexts PrioContext) (w : W
           let now : Life = held_with (Some t) life in
           let there : life_of here a ≡ Some now = ap (λ (f : ℕ → Option Life). f a.0) b.lives ∙ put-same r.lives a.0 (Some now) in
           let its = life-here set.space here u (bases cs) b.holds a d now (base-is cs a.0 (record { base = d; urge = false }) i.on.mine) there in
-          ap (λ ys. not (stays_on (thread_in (slice_index_or ys set.space.0 no_threads) t).place)) spaces
-          ∙ ap (λ y. not (stays_on y)) (its.place t refl ∙ ap (λ g. place_of g now.proc) b.stage)
+          ap (λ ys. not (is_running_or_blocked (thread_in (slice_index_or ys set.space.0 no_threads) t).place)) spaces
+          ∙ ap (λ y. not (is_running_or_blocked y)) (its.place t refl ∙ ap (λ g. place_of g now.proc) b.stage)
 
       pub io-legal : IsLegalStep prio_calls prio_threads prio_fits w set r p seen.event a cs
           (goes v seen (record { state = User t; sections = []; work = None }))

@@ -12,7 +12,7 @@ use Rattle.sa_base.specs.declared.record.Record.{Record}
 use Rattle.sa_base.specs.declared.record.Record.TheVariants as records
 use Rattle.sa_lemmas.proofs.FunctionUpdates.{put-self}
 use Rattle.sa_lemmas.specs.Function.{put}
-use Rattle.sa_instr.specs.Local.{place_after, regs_after, local_answer}
+use Rattle.sa_instr.specs.Local.{pc_after, regs_after, local_answer}
 use Rattle.sa_instr.specs.declared.answer.Local.TheVariants.{Went}
 use Rattle.sa_spaces.specs.Workload.{WorkloadView}
 use Rattle.sa_code.specs.declared.state.Frame.{Frame}
@@ -35,7 +35,7 @@ use Rattle.sa_laws.specs.History.{after_event}
 use Rattle.sa_laws.specs.Life.{Life}
 use Rattle.sa_laws.specs.Readings.{Readings, line_of}
 use Rattle.sa_user_laws.specs.Moments.{Sees}
-use Rattle.sa_user_laws.specs.Scene.{IsActing, begun_at}
+use Rattle.sa_user_laws.specs.Scene.{IsActing, event_begun_at}
 use Rattle.sa_user_laws.specs.Steps.{IsLegalStep, IsLegalIns, AreLegalIns, event_with}
 use Rattle.sa_fast_laws.proofs.steps.Scenes.{IsScene}
 use Rattle.sa_fast_laws.proofs.user_steps.LocalMoves.{behind, local-goes, local-is, local-stands, local-scene, its1, its1-is, seen1}
@@ -180,7 +180,7 @@ module _ (set : Setting) (cs : Contexts PrioContext) (w : WorkloadView) (p : Pro
       let program = program_at v.base.def.programs b.program in
       let scene = base-scene set e v cs w r p a life c1.base seen i in
       let now = with_base v (behind v.base seen t (instr_of v.base.def b)) in
-      let b1 = gone_to b (place_after (instr_of v.base.def b) b.pc b.regs) (regs_after (instr_of v.base.def b) b.regs) in
+      let b1 = gone_to b (pc_after (instr_of v.base.def b) b.pc b.regs) (regs_after (instr_of v.base.def b) b.regs) in
       let r1 = after_event is_inside_or_urged w r (event_with seen.event p (records.Ins set.space t b.pc ∷ []) []) in
       let there : block_at now.base.shared.threads t.0 ≡ b1 =
       get_or-set_same v.base.shared.threads t.0 b1 unmade (t_below set e v.base (bases cs) w r p a life seen t scene) in
@@ -198,7 +198,7 @@ module _ (set : Setting) (cs : Contexts PrioContext) (w : WorkloadView) (p : Pro
 pub prio-goes : (w : WorkloadView) (s : Setting) (e : ℕ) (r : Readings) (v : Prio) (cs : Contexts PrioContext) (p : ProcNo) (a : ActNo) (life : Life)
     (c : PrioContext) (seen : Seen) (n : ℕ)
     → IsActing prio_calls prio_stands prio_fits w s e r v cs p a life c
-    → Sees s.space (begun_at w seen.event p r) p seen.event seen → line_of r p ≡ None → 1 ≤ n → e < seen.event → seen.event + n ≤ MAX_EVENTS + 1
+    → Sees s.space (event_begun_at w seen.event p r) p seen.event seen → line_of r p ≡ None → 1 ≤ n → e < seen.event → seen.event + n ≤ MAX_EVENTS + 1
     → GoesOn s n (prio_calls.local v c)
     → AreLegalIns prio_threads w seen.event p r (prio_calls.went v seen c n).says
     (λ last. prio_fits w s last (prio_calls.went v seen c n).user (put cs a.0 (Some (prio_calls.went v seen c n).ctx)))

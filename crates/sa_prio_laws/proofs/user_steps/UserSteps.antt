@@ -21,12 +21,12 @@ use Rattle.sa_package_model.specs.Rules.{pair, did, owed, used_by, with_shared}
 use Rattle.sa_package_model.specs.declared.context.Context.{Context}
 use Rattle.sa_package_model.specs.declared.context.ContextState.TheVariants.{User}
 use Rattle.sa_package_model.specs.declared.package.Package.{Package}
-use Rattle.sa_laws.specs.History.{after_records, goes_on as stays_on}
+use Rattle.sa_laws.specs.History.{after_records, is_running_or_blocked}
 use Rattle.sa_laws.specs.Life.{Life}
 use Rattle.sa_laws.specs.Readings.{Readings, ready_of}
 use Rattle.sa_laws.specs.Record.{after_record}
 use Rattle.sa_laws.specs.State.{thread_at}
-use Rattle.sa_user_laws.specs.Scene.{begun_at}
+use Rattle.sa_user_laws.specs.Scene.{event_begun_at}
 use Rattle.sa_user_laws.specs.Steps.{IsLegalStep}
 use Rattle.sa_fast_laws.proofs.relation.InsideMarks.{settled-copy}
 use Rattle.sa_fast_laws.proofs.steps.Scenes.{IsScene}
@@ -70,7 +70,7 @@ module _ (set : Setting) (e : ℕ) (v : Prio) (cs : Contexts PrioContext) (w : W
   c = record { state = User t; sections = []; work = None }
 
   abbrev r0 : Readings
-  r0 = begun_at w seen.event p r
+  r0 = event_begun_at w seen.event p r
 
   abbrev b : Block
   b = block_at v.base.shared.threads t.0
@@ -124,9 +124,9 @@ module _ (set : Setting) (e : ℕ) (v : Prio) (cs : Contexts PrioContext) (w : W
           };
           ranked = ranked same.0 same.1;
           settled = λ last state outside.
-              ap (λ y. not (stays_on (thread_at y set.space t).place))
+              ap (λ y. not (is_running_or_blocked (thread_at y set.space t).place))
               (state ∙ outs-state w seen.event p (after_record w seen.event p r0 x) set.space t (out_of b j))
-              ∙ ap (λ z. not (stays_on z)) ran ∙ goes-out t o.work outside;
+              ∙ ap (λ z. not (is_running_or_blocked z)) ran ∙ goes-out t o.work outside;
         })
 
     pub leaves-legal : o.answer ≡ rans.Leaves → Legal
@@ -151,7 +151,7 @@ module _ (set : Setting) (e : ℕ) (v : Prio) (cs : Contexts PrioContext) (w : W
           };
           ranked = ranked same.0 same.1;
           settled = λ last state outside.
-              ap (λ y. not (stays_on (thread_at y set.space t).place))
+              ap (λ y. not (is_running_or_blocked (thread_at y set.space t).place))
               (state ∙ outs-state w seen.event p (after_record w seen.event p r0 x) set.space t (out_of b j))
               ∙ ap not gone ∙ leaves-out t (is_some o.work) (is_some (owed u seen)) (has_bulk seen) outside;
         })

@@ -26,7 +26,7 @@ use Rattle.sa_lemmas.proofs.Options.{none-is}
 use Rattle.sa_laws.specs.Event.{Event, events_of}
 use Rattle.sa_laws.specs.Readings.{Readings, running_of, life_on, taken_of, owner_of, aim_of, line_of, untold_of, is_fetching, opening_readings}
 use Rattle.sa_laws.specs.Record.{after_record}
-use Rattle.sa_laws.specs.History.{begun, after_records, after_event, behind, behind_all, after_events}
+use Rattle.sa_laws.specs.History.{event_begun, after_records, after_event, behind, behind_all, after_events}
 use Rattle.sa_laws.specs.Shape.{own_part, is_own, is_line, is_other_line, before_lines, front_part, last_lines, lines_in, aims_in}
 use Rattle.sa_laws.specs.Turns.{AreRaising, IsClosing, AreTold, IsFetchOrNothing, IsPassage, IsInterrupt, IsOver, IsInsOf, IsTickOrStep, IsTurnWhileDue, IsTurn}
 use Rattle.sa_laws.specs.Upcalls.{EachRecord, RaisesLine}
@@ -258,8 +258,8 @@ event-later rules meets w r e law from = one e.records refl where
   one (x ∷ xs) is =
       let turns = meets.formed w r e law in
       subst (λ ys. NoLine (drop 1 (own_part ys))) (sym is)
-      (turn-later w (begun w e r) e.proc e.number (is_some (line_of r e.proc)) x (take_while is_own xs)
-      (subst (λ ys. IsTurn IsFormed (is_some (line_of r e.proc)) e.number w (begun w e r) e.proc (own_part ys)) is (turns.turn from)))
+      (turn-later w (event_begun w e r) e.proc e.number (is_some (line_of r e.proc)) x (take_while is_own xs)
+      (subst (λ ys. IsTurn IsFormed (is_some (line_of r e.proc)) e.number w (event_begun w e r) e.proc (own_part ys)) is (turns.turn from)))
 
 -- the moment before the last lines of an event, and those lines
 pub record BeforeLast (w : WorkloadView) (r : Readings) (e : Event) : Type 0 where
@@ -287,36 +287,36 @@ before-last rules meets w r e at law =
     let owners = begins.owners in
     let aims = begins.aims in
     let start_lines = begins.lines in
-    let own_after = after_records w e.number e.proc (begun w e r) parts.own in
-    let own_procs = procs-records w e.number e.proc (begun w e r) parts.own begins in
+    let own_after = after_records w e.number e.proc (event_begun w e r) parts.own in
+    let own_procs = procs-records w e.number e.proc (event_begun w e r) parts.own begins in
     let own_lines = own_procs.lines in
     let proc = law.numbered.proc in
-    let heard = subst (EachRecord RaisesLine w e.number e.proc (begun w e r)) (sym parts.is) law.line_cause.heard in
-    let mid = after_records w e.number e.proc (begun w e r) (parts.own ++ before_lines last parts.closing) in
+    let heard = subst (EachRecord RaisesLine w e.number e.proc (event_begun w e r)) (sym parts.is) law.line_cause.heard in
+    let mid = after_records w e.number e.proc (event_begun w e r) (parts.own ++ before_lines last parts.closing) in
     record {
       mid = mid;
       lines = rest_of last parts.closing;
-      mid_is = sym (ap (after_records w e.number e.proc (begun w e r)) front);
+      mid_is = sym (ap (after_records w e.number e.proc (event_begun w e r)) front);
       lines_are = sym rest;
       after =
-          sym (records-append w e.number e.proc (begun w e r) (parts.own ++ before_lines last parts.closing) (rest_of last parts.closing))
-          ∙ ap (after_records w e.number e.proc (begun w e r))
+          sym (records-append w e.number e.proc (event_begun w e r) (parts.own ++ before_lines last parts.closing) (rest_of last parts.closing))
+          ∙ ap (after_records w e.number e.proc (event_begun w e r))
           (Rattle.std.proofs.Common.append_assoc parts.own (before_lines last parts.closing) (rest_of last parts.closing)
           ∙ ap (λ ys. parts.own ++ ys) (take-drop last parts.closing) ∙ parts.is);
       all = closing-rest last parts.closing parts.closes (ap aims_in (sym rest) ∙ law.line_cause.order);
-      long = (procs-records w e.number e.proc (begun w e r) (parts.own ++ before_lines last parts.closing) begins).lines;
+      long = (procs-records w e.number e.proc (event_begun w e r) (parts.own ++ before_lines last parts.closing) begins).lines;
       aimed = λ q within. elim (cases_eq q.0 e.proc.0) [
         | inl same ↦ (
             let is : q ≡ e.proc = ap (λ n. record { 0 = n }) same in
             subst (λ (k : ProcNo). LowAimed mid k) (sym is)
-            (subst (λ (k : Readings). LowAimed k e.proc) (sym (records-append w e.number e.proc (begun w e r) parts.own (before_lines last parts.closing)))
+            (subst (λ (k : Readings). LowAimed k e.proc) (sym (records-append w e.number e.proc (event_begun w e r) parts.own (before_lines last parts.closing)))
             (front-fine w e.number e.proc own_after e.proc last parts.closing (omega arith)
-            (each-behind RaisesLine w e.number e.proc (begun w e r) parts.own parts.closing (λ r' x rest' more h. h) heard)
+            (each-behind RaisesLine w e.number e.proc (event_begun w e r) parts.own parts.closing (λ r' x rest' more h. h) heard)
             (closing-leave e.proc e.proc parts.closing parts.closes)
-            (inl (λ low. own-final w e.number e.proc (begun w e r) parts.own (omega arith) (omega arith) parts.turned))))
+            (inl (λ low. own-final w e.number e.proc (event_begun w e r) parts.own (omega arith) (omega arith) parts.turned))))
             )
         | inr apart ↦ (
-            front-other w e.number e.proc (begun w e r) q parts.own parts.closing (omega arith) heard
+            front-other w e.number e.proc (event_begun w e r) q parts.own parts.closing (omega arith) heard
             (leave-append e.proc q parts.own parts.closing (turned-leave e.proc q (owner_of r e.proc) (aim_of r e.proc) parts.own apart parts.turned)
             (closing-leave e.proc q parts.closing parts.closes))
             (own-some e.records law.numbered.some parts.own parts.own_is) later (begun-aimed w r e q apart (at.aimed q within))
@@ -378,12 +378,6 @@ no-interrupt : (w : WorkloadView) (m a : Readings) (e : ℕ) (p : ProcNo) (lines
     → must_interrupt w a s ≡ true
     → least_below w.processors (can_be_raised a s) ≡ Some q → ⊥
 no-interrupt w m a e p lines s q raised all after aimed long due among must is = found (least_below w.processors (can_be_raised m s)) refl where
-  owner-back : (k : ℕ) → is_aim s.0 (owner_of m (proc_no k)) ≡ is_aim s.0 (owner_of a (proc_no k))
-  owner-back k = ap (λ os. is_aim s.0 (get_or os k None)) (sym raised.owners)
-
-  aim-on : (k : ℕ) → is_aim s.0 (aim_of a (proc_no k)) ≡ is_aim s.0 (aim_of m (proc_no k))
-  aim-on k = ap (λ os. is_aim s.0 (get_or os k None)) raised.aims
-
   telling : (k : ℕ) → k < w.processors → is_aim s.0 (owner_of a (proc_no k)) ≡ true → is_aim s.0 (aim_of a (proc_no k)) ≡ true
       → (line_of a (proc_no k) ≡ None → ⊥)
       → must_interrupt w a s ≡ true → ⊥

@@ -17,7 +17,7 @@ use Rattle.sa_assign.specs.Reaim.{records_of, line_at, lines_with, line_records,
 use Rattle.sa_laws.specs.Event.{Event, events_of}
 use Rattle.sa_laws.specs.Readings.{Readings, opening_readings, owner_of, aim_of, line_of}
 use Rattle.sa_laws.specs.Record.{after_record}
-use Rattle.sa_laws.specs.History.{begun, after_records, after_event, after_events, behind_all}
+use Rattle.sa_laws.specs.History.{event_begun, after_records, after_event, after_events, behind_all}
 use Rattle.sa_laws.specs.Shape.{own_part, closing_part, is_own}
 use Rattle.sa_laws.specs.Turns.{AreRaising, IsClosing}
 use Rattle.sa_laws.specs.Upcalls.{EachRecord, RaisesLine, GivesUpcallThen, StopsAndGoes}
@@ -158,7 +158,7 @@ procs-records w e p r (x ∷ xs) has = procs-records w e p (after_record w e p r
   lines = lines-length e r.lines x ∙ has.lines;
 })
 
-pub procs-begun : (w : WorkloadView) (e : Event) (r : Readings) → HasProcs w r → HasProcs w (begun w e r)
+pub procs-begun : (w : WorkloadView) (e : Event) (r : Readings) → HasProcs w r → HasProcs w (event_begun w e r)
 procs-begun w e r has = record { owners = has.owners; aims = has.aims; lines = length-set r.lines e.proc.0 None ∙ has.lines }
 
 pub record LowAt (w : WorkloadView) (r : Readings) : Type 0 where
@@ -192,16 +192,16 @@ in-parts rules meets w r e law from aimed = one e.records refl where
         closing = closing_part (x ∷ xs);
         is = whole ∙ sym is;
         own_is = sym (ap own_part is);
-        turned = turn-turned w e.number e.proc (begun w e r) (owner_of r e.proc) (aim_of r e.proc) (is_some (line_of r e.proc)) x xs
-            (λ raised. subst (StopsAndGoes e.proc (begun w e r) (owner_of r e.proc) (aim_of r e.proc)) is (law.interrupt_next.interrupt raised))
+        turned = turn-turned w e.number e.proc (event_begun w e r) (owner_of r e.proc) (aim_of r e.proc) (is_some (line_of r e.proc)) x xs
+            (λ raised. subst (StopsAndGoes e.proc (event_begun w e r) (owner_of r e.proc) (aim_of r e.proc)) is (law.interrupt_next.interrupt raised))
             (λ low_line. aimed (low-is (line_of r e.proc) low_line))
-            (subst (λ ys. Rattle.sa_laws.specs.Turns.IsTurn IsFormed (is_some (line_of r e.proc)) e.number w (begun w e r) e.proc
+            (subst (λ ys. Rattle.sa_laws.specs.Turns.IsTurn IsFormed (is_some (line_of r e.proc)) e.number w (event_begun w e r) e.proc
             (own_part ys)) is (turns.turn from))
-            (subst (EachRecord (GivesUpcallThen e.proc) w e.number e.proc (begun w e r)) is law.upcall_given.blocks);
+            (subst (EachRecord (GivesUpcallThen e.proc) w e.number e.proc (event_begun w e r)) is law.upcall_given.blocks);
         closes = subst (λ ys. IsClosing (closing_part ys)) is (turns.closing from);
       }
 
-pub begun-aimed : (w : WorkloadView) (r : Readings) (e : Event) (q : ProcNo) → q.0 ≢ e.proc.0 → LowAimed r q → LowAimed (begun w e r) q
+pub begun-aimed : (w : WorkloadView) (r : Readings) (e : Event) (q : ProcNo) → q.0 ≢ e.proc.0 → LowAimed r q → LowAimed (event_begun w e r) q
 begun-aimed w r e q apart ok = λ is. ok (sym (get_or-set_other r.lines e.proc.0 q.0 None None apart) ∙ is)
 
 aimed-event : (rules : UserRules) → HasForms rules → (w : WorkloadView) (r : Readings) (e : Event) (q : ProcNo) → LowAt w r → IsLawful rules w r e
@@ -210,7 +210,7 @@ aimed-event : (rules : UserRules) → HasForms rules → (w : WorkloadView) (r :
 aimed-event rules meets w r e q at law within = elim (cases_eq q.0 e.proc.0) [
   | inl same ↦ own (ap (λ n. record { 0 = n }) same)
   | inr apart ↦
-      all-fine w e.number e.proc (begun w e r) q None e.records (let len = (procs-begun w e r at.procs).lines in omega arith) law.line_cause.heard
+      all-fine w e.number e.proc (event_begun w e r) q None e.records (let len = (procs-begun w e r at.procs).lines in omega arith) law.line_cause.heard
       (subst (AllLeave e.proc q) parts.is
       (leave-append e.proc q parts.own parts.closing (turned-leave e.proc q _ _ parts.own apart parts.turned)
       (closing-leave e.proc q parts.closing parts.closes)))
@@ -229,24 +229,24 @@ aimed-event rules meets w r e q at law within = elim (cases_eq q.0 e.proc.0) [
       let owners = begins.owners in
       let aims = begins.aims in
       let proc = law.numbered.proc in
-      let mid = after_records w e.number e.proc (begun w e r) ps.own in
-      let mid_procs = procs-records w e.number e.proc (begun w e r) ps.own begins in
+      let mid = after_records w e.number e.proc (event_begun w e r) ps.own in
+      let mid_procs = procs-records w e.number e.proc (event_begun w e r) ps.own begins in
       let lines = mid_procs.lines in
-      let heard = subst (EachRecord RaisesLine w e.number e.proc (begun w e r)) (sym ps.is) law.line_cause.heard in
-      let final = own-final w e.number e.proc (begun w e r) ps.own (omega arith) (omega arith) ps.turned in
+      let heard = subst (EachRecord RaisesLine w e.number e.proc (event_begun w e r)) (sym ps.is) law.line_cause.heard in
+      let final = own-final w e.number e.proc (event_begun w e r) ps.own (omega arith) (omega arith) ps.turned in
       let there : LowAimed (after_records w e.number e.proc mid ps.closing) e.proc =
       all-fine w e.number e.proc mid e.proc None ps.closing (omega arith)
-      (each-behind RaisesLine w e.number e.proc (begun w e r) ps.own ps.closing (λ r' x rest more h. h) heard)
+      (each-behind RaisesLine w e.number e.proc (event_begun w e r) ps.own ps.closing (λ r' x rest more h. h) heard)
       (closing-leave e.proc e.proc ps.closing ps.closes) (inl (λ is. final)) in
       subst (λ (k : ProcNo). LowAimed (behind_all w e r) k) (sym same)
       (subst (λ (k : Readings). LowAimed k e.proc)
-      (sym (records-append w e.number e.proc (begun w e r) ps.own ps.closing) ∙ ap (after_records w e.number e.proc (begun w e r)) ps.is) there)
+      (sym (records-append w e.number e.proc (event_begun w e r) ps.own ps.closing) ∙ ap (after_records w e.number e.proc (event_begun w e r)) ps.is) there)
 
 low-next : (rules : UserRules) → HasForms rules → (w : WorkloadView) (r : Readings) (e : Event) → LowAt w r → IsLawful rules w r e
     → LowAt w (after_event rules.inside w r e)
 low-next rules meets w r e at law = record {
   procs =
-      (let has = procs-records w e.number e.proc (begun w e r) e.records (procs-begun w e r at.procs) in
+      (let has = procs-records w e.number e.proc (event_begun w e r) e.records (procs-begun w e r at.procs) in
       record { owners = has.owners; aims = has.aims; lines = has.lines });
   number = (let next = Rattle.sa_histories.proofs.Numbers.number-next rules w r e in omega arith);
   aimed = λ q within. aimed-event rules meets w r e q at law within;
@@ -263,11 +263,11 @@ low-first rules meets w e law =
     let records : e.records ≡ opening_records w = ap (λ (f : Event). f.records) (law.numbered.opening law.numbered.number) in
     record {
       procs =
-          (let has = procs-records w e.number e.proc (begun w e start) e.records (procs-begun w e start procs) in
+          (let has = procs-records w e.number e.proc (event_begun w e start) e.records (procs-begun w e start procs) in
           record { owners = has.owners; aims = has.aims; lines = has.lines });
       number = (let next = Rattle.sa_histories.proofs.Numbers.number-next rules w start e in omega arith);
       aimed = λ q within.
-          all-fine w e.number e.proc (begun w e start) q None e.records (let len = (procs-begun w e start procs).lines in omega arith) law.line_cause.heard
+          all-fine w e.number e.proc (event_begun w e start) q None e.records (let len = (procs-begun w e start procs).lines in omega arith) law.line_cause.heard
           (subst (AllLeave e.proc q) (sym records)
           (leave-append e.proc q (first_wants w) (records_of 0 wanting.lines (aims_due w 0 wanting)) (wants-leave e.proc q (spaces_of w))
           (aims-leave e.proc q 0 wanting.lines (aims_due w 0 wanting))))

@@ -244,7 +244,7 @@ io-turned w e p r owner aim xs (Block s t a io ∷ rest) low same is gives =
     ap (λ (zs : List Record). drop 1 zs) (sym (while-more is_own (Block s t a io) whole.0 refl) ∙ ap (take_while is_own) (sym whole.1) ∙ same) in
     let law : EachRecord (GivesUpcallThen p) w e p r (Block s t a io ∷ whole.0) = subst (EachRecord (GivesUpcallThen p) w e p r) whole.1 gives in
     turned-cons p owner aim (Block s t a io) rest refl
-    (passage-turned p owner aim whole.0 rest parts is (block-heads _ p r s owner aim whole.0 low law.0.goes_on))
+    (passage-turned p owner aim whole.0 rest parts is (block-heads _ p r s owner aim whole.0 low law.0.follows))
 io-turned w e p r owner aim xs zs low same is gives = absurd (is)
 
 ins-turned : (w : WorkloadView) (e : ℕ) (p : ProcNo) (r : Readings) (owner aim : Option SpaceNo) (i : Instr) (xs : List Record) → aim ≡ owner
@@ -261,7 +261,7 @@ step-turned w e p r owner aim a life (Ins s t i) xs low is gives =
     turned-cons p owner aim (Ins s t i) _ refl (ins-turned w e p (after_record w e p r (Ins s t i)) owner aim _ xs low is gives.1)
 step-turned w e p r owner aim a life (Block s t b io) xs low is gives =
     turned-cons p owner aim (Block s t b io) _ refl
-    (passage-turned p owner aim xs (take_while is_own xs) refl is (block-heads _ p r s owner aim xs low gives.0.goes_on))
+    (passage-turned p owner aim xs (take_while is_own xs) refl is (block-heads _ p r s owner aim xs low gives.0.follows))
 step-turned w e p r owner aim a life (Want s m) xs low is gives = calm-turned p owner aim _ low (calm-alone (Want s m) _ refl is.0)
 step-turned w e p r owner aim a life (GiveBack b) xs low is gives =
     calm-turned p owner aim _ low (subst AllCalm (sym is) (calm-given (taken_of r life.space)))

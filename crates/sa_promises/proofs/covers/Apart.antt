@@ -19,7 +19,7 @@ use Rattle.sa_laws.specs.Event.{Event}
 use Rattle.sa_laws.specs.Readings.{Readings, opening_readings, untold_of, space_of_life, life_of}
 use Rattle.sa_laws.specs.Life.{Life}
 use Rattle.sa_laws.specs.Record.{after_record}
-use Rattle.sa_laws.specs.History.{Test, begun, ended}
+use Rattle.sa_laws.specs.History.{Test, event_begun, ended}
 use Rattle.sa_laws.specs.Shape.{told_run}
 use Rattle.sa_laws.specs.Upcalls.{TellsAllThen, IsUntoldTo, is_moved_to}
 use Rattle.sa_promises.specs.Words.{Notes}
@@ -223,7 +223,7 @@ apart-start w = record {
   told = λ telling. absurd (cc);
 }
 
-pub apart-begun : (w : WorkloadView) (st : ℕ → Standing) (r : Readings) (e : Event) (xs : List Record) → IsApart st r [] → IsApart st (begun w e r) xs
+pub apart-begun : (w : WorkloadView) (st : ℕ → Standing) (r : Readings) (e : Event) (xs : List Record) → IsApart st r [] → IsApart st (event_begun w e r) xs
 apart-begun w st r e xs apart = record {
   agrees = agrees-begun w st e r apart.agrees;
   blocks = apart.blocks;

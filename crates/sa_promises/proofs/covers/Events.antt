@@ -17,7 +17,7 @@ use Rattle.sa_laws.specs.State.{space_at, active_threads}
 use Rattle.sa_laws.specs.Life.{Life}
 use Rattle.sa_laws.specs.Readings.{Readings, running_of, life_if, life_on, demand_of, load_of, usable, space_of_life, owner_of, taken_of, line_of}
 use Rattle.sa_laws.specs.Record.{after_record}
-use Rattle.sa_laws.specs.History.{Test, is_step, is_up, settles, with_step, with_up, begun, behind, after_records, after_event}
+use Rattle.sa_laws.specs.History.{Test, is_step, is_up, settles, with_step, with_up, event_begun, behind, after_records, after_event}
 use Rattle.sa_laws.specs.Shape.{own_part, closing_part, is_own, is_want, is_no_want, wants_in, before_wants}
 use Rattle.sa_laws.specs.Closing.{must_want, want_one, wants_due, spaces_of}
 use Rattle.sa_laws.specs.Demand.{BeginsFreely, StepIsFree, StepIsFreeIf, OwesNothing, is_bound}
@@ -43,9 +43,9 @@ pub record InForm (w : WorkloadView) (r : Readings) (e : Event) : Type 0 where
   pub own : List Record
   pub closing : List Record
   pub is : e.records ≡ first ∷ (own ++ closing)
-  pub form : Form FormedBy w (begun w e r) e.proc first own
+  pub form : Form FormedBy w (event_begun w e r) e.proc first own
   pub closes : IsClosing closing
-  pub low : LowWants (after_records w e.number e.proc (begun w e r) (first ∷ own)) closing
+  pub low : LowWants (after_records w e.number e.proc (event_begun w e r) (first ∷ own)) closing
 
 -- the wants that are due are of spaces that want nothing
 abbrev IsLow : Readings → Record → Type 0
@@ -115,9 +115,9 @@ split-wants (x ∷ xs) u n more is = one x (is_own x) refl (λ rest. split-wants
 low-wants : (rules : UserRules) → (w : WorkloadView) (r : Readings) (e : Event) (x : Record) (others cs : List Record) → IsLawful rules w r e → 1 ≤ e.number
     → e.records ≡ x ∷ others
     → drop (length (take_while is_own others)) others ≡ cs → IsClosing cs
-    → LowWants (after_records w e.number e.proc (begun w e r) (x ∷ take_while is_own others)) cs
+    → LowWants (after_records w e.number e.proc (event_begun w e r) (x ∷ take_while is_own others)) cs
 low-wants rules w r e x others (Want u n ∷ cs) law from is rest closes =
-    let mid = after_records w e.number e.proc (begun w e r) (x ∷ take_while is_own others) in
+    let mid = after_records w e.number e.proc (event_begun w e r) (x ∷ take_while is_own others) in
     let split = split-wants others u n cs rest in
     let due : wants_in others ≡ wants_due w mid =
     ap (λ xs. wants_in (drop 1 xs)) (sym is) ∙ law.want_cause.due from
@@ -126,9 +126,9 @@ low-wants rules w r e x others (Want u n ∷ cs) law from is rest closes =
     low-from mid (Want u n ∷ cs) (subst (AllLow mid) same (due-low mid (spaces_of w)))
 low-wants rules w r e x others [] law from is rest closes = tt
 low-wants rules w r e x others (Aim q (Some t) ∷ cs) law from is rest closes =
-    raising-low (after_records w e.number e.proc (begun w e r) (x ∷ take_while is_own others)) (Aim q (Some t) ∷ cs) closes
+    raising-low (after_records w e.number e.proc (event_begun w e r) (x ∷ take_while is_own others)) (Aim q (Some t) ∷ cs) closes
 low-wants rules w r e x others (Line q ∷ cs) law from is rest closes =
-    raising-low (after_records w e.number e.proc (begun w e r) (x ∷ take_while is_own others)) (Line q ∷ cs) closes
+    raising-low (after_records w e.number e.proc (event_begun w e r) (x ∷ take_while is_own others)) (Line q ∷ cs) closes
 low-wants rules w r e x others (Aim q None ∷ cs) law from is rest closes = absurd closes
 low-wants rules w r e x others (y ∷ cs) law from is rest closes = absurd closes
 
@@ -144,9 +144,9 @@ in-form rules meets w r e law from = one e.records refl where
         own = take_while is_own xs;
         closing = closing_part (x ∷ xs);
         is = is ∙ ap (λ ys. x ∷ ys) (sym (parts-take (prefix_len is_own xs) xs));
-        form = turn-form FormedBy IsFormed w (begun w e r) e.proc e.number (is_some (line_of r e.proc)) x (take_while is_own xs)
-            (step-form w (begun w e r) e.proc x (take_while is_own xs))
-            (subst (λ ys. IsTurn IsFormed (is_some (line_of r e.proc)) e.number w (begun w e r) e.proc (own_part ys)) is (turns.turn from));
+        form = turn-form FormedBy IsFormed w (event_begun w e r) e.proc e.number (is_some (line_of r e.proc)) x (take_while is_own xs)
+            (step-form w (event_begun w e r) e.proc x (take_while is_own xs))
+            (subst (λ ys. IsTurn IsFormed (is_some (line_of r e.proc)) e.number w (event_begun w e r) e.proc (own_part ys)) is (turns.turn from));
         closes = closes;
         low = low-wants rules w r e x xs (closing_part (x ∷ xs)) law from is refl closes;
       }
@@ -203,7 +203,7 @@ unsettled r c s x step quiet is = absurd (cc)
 
 -- after the records of an event, and its lives at the end
 abbrev pub After : WorkloadView → Readings → Event → List Record → Readings
-After w r e xs = after_records w e.number e.proc (begun w e r) xs
+After w r e xs = after_records w e.number e.proc (event_begun w e r) xs
 
 abbrev Final : (test : Test) → WorkloadView → Readings → Event → List Record → ℕ → Option Life
 Final test w r e xs = with_up test w r e (After w r e xs) (with_step test w r e (After w r e xs) xs (After w r e xs).lives)
@@ -212,12 +212,12 @@ abbrev FineAfter : (test : Test) → WorkloadView → Readings → Event → Lis
 FineAfter test w r e xs s = Fine w (After w r e xs) (Final test w r e xs) s
 
 abbrev pub GoesOn : WorkloadView → Readings → Event → List Record → Type 0
-GoesOn w r e xs = Goes w e.number e.proc (begun w e r) xs
+GoesOn w r e xs = Goes w e.number e.proc (event_begun w e r) xs
 
 abbrev PassesAll : WorkloadView → Readings → Event → List Record → SpaceNo → Type 0
-PassesAll w r e xs s = EachRecord (Passes s) w e.number e.proc (begun w e r) xs
+PassesAll w r e xs s = EachRecord (Passes s) w e.number e.proc (event_begun w e r) xs
 
-kept-begun : (w : WorkloadView) (r : Readings) (e : Event) (c : Readings) (s : SpaceNo) → Kept s (begun w e r) c → Kept s r c
+kept-begun : (w : WorkloadView) (r : Readings) (e : Event) (c : Readings) (s : SpaceNo) → Kept s (event_begun w e r) c → Kept s r c
 kept-begun w r e c s kept = record { active = kept.active; demand = kept.demand; lives = kept.lives; noted = kept.noted }
 
 held-fine : (rules : UserRules) → AnnouncesDemand rules → (w : WorkloadView) (r : Readings) (e : Event) (s : SpaceNo) (xs : List Record) → IsCovered w r
@@ -226,7 +226,7 @@ held-fine : (rules : UserRules) → AnnouncesDemand rules → (w : WorkloadView)
     → ((a : ℕ) (life : Life) (b : ActNo) → r.lives a ≡ Some life → life.space ≡ s → life.inside ≡ true → running_of r e.proc ≡ Some b → IsStepOf xs → a ≢ b.0)
     → FineAfter rules.inside w r e xs s
 held-fine rules meets w r e s xs known fine goes passes spared =
-    let all = kept-all w e.number e.proc known.st (begun w e r) s xs (apart-begun w known.st r e xs known.apart) goes passes (λ telling. absurd (cc)) in
+    let all = kept-all w e.number e.proc known.st (event_begun w e r) s xs (apart-begun w known.st r e xs known.apart) goes passes (λ telling. absurd (cc)) in
     keep-fine rules meets w r e (After w r e xs) s xs (kept-begun w r e (After w r e xs) s all.kept) fine spared
 
 -- a turn with a passage
@@ -247,9 +247,9 @@ turning-fine rules meets w r e s x ys cs known proc within fine goes closes pass
         | inl same ↦
             let at : space_of_life r (Some a) ≡ Some s = of ∙ ap (λ n. Some (record { 0 = n })) same in
             let untold = known.sized.untold in
-            inr (inl (blocks-untold w e.number e.proc known.st (begun w e r) s a x ys cs blocks step runs at (omega arith)
+            inr (inl (blocks-untold w e.number e.proc known.st (event_begun w e r) s a x ys cs blocks step runs at (omega arith)
             (apart-begun w known.st r e (x ∷ (ys ++ cs)) known.apart) goes
-            (passing-each w e.number e.proc s (begun w e r) (x ∷ (ys ++ cs)) passes)))
+            (passing-each w e.number e.proc s (event_begun w e r) (x ∷ (ys ++ cs)) passes)))
         | inr apart ↦
             held-fine rules meets w r e s (x ∷ (ys ++ cs)) known fine goes passes
             (λ n life b is at inside other step'. other-life r e.proc a s there.0 runs of apart n life b is at other)
@@ -264,7 +264,7 @@ up-turn-fine : (rules : UserRules) → AnnouncesDemand rules → (w : WorkloadVi
 up-turn-fine rules meets w r e s x ys cs known proc within fine is goes closes closing turning blocks = elim (turning-cases w e.number e.proc s (x ∷ ys) turning) [
   | inl up ↦
       let running = known.sized.running in
-      let runs = up-runs w e.number e.proc s (begun w e r) (x ∷ ys) cs (omega arith) turning up closes in
+      let runs = up-runs w e.number e.proc s (event_begun w e r) (x ∷ ys) cs (omega arith) turning up closes in
       arise-fine rules.inside w r e (After w r e (x ∷ (ys ++ cs))) s Each (Covers w (After w r e (x ∷ (ys ++ cs))) s)
       (with_step rules.inside w r e (After w r e (x ∷ (ys ++ cs))) (x ∷ (ys ++ cs)) (After w r e (x ∷ (ys ++ cs))).lives) runs.0
       (demand-tested rules meets w r e (After w r e (x ∷ (ys ++ cs))) s)
@@ -272,7 +272,7 @@ up-turn-fine rules meets w r e s x ys cs known proc within fine is goes closes c
       tt (ap (list_any is_up) is ∙ runs.1)
   | inr each ↦
       turning-fine rules meets w r e s x ys cs known proc within fine goes closes
-      (pass-append w e.number e.proc s (begun w e r) (x ∷ ys) cs (each (begun w e r)) closing) blocks
+      (pass-append w e.number e.proc s (event_begun w e r) (x ∷ ys) cs (each (event_begun w e r)) closing) blocks
 ]
 
 -- a completion or a tick
@@ -281,11 +281,11 @@ calm-fine : (rules : UserRules) → AnnouncesDemand rules → (w : WorkloadView)
     → GoesOn w r e (x ∷ (ys ++ cs))
     → EachRecord (Passes s) w e.number e.proc (After w r e (x ∷ ys)) cs → Calm x ys → FineAfter rules.inside w r e (x ∷ (ys ++ cs)) s
 calm-fine rules meets w r e s x ys cs known fine goes closing calm =
-    let own : EachRecord (Passes s) w e.number e.proc (begun w e r) (x ∷ ys) = (
-      calm-pass s (begun w e r) x ys calm.none calm.quiet,
-      subst (EachRecord (Passes s) w e.number e.proc (after_record w e.number e.proc (begun w e r) x)) (sym calm.alone) tt,
+    let own : EachRecord (Passes s) w e.number e.proc (event_begun w e r) (x ∷ ys) = (
+      calm-pass s (event_begun w e r) x ys calm.none calm.quiet,
+      subst (EachRecord (Passes s) w e.number e.proc (after_record w e.number e.proc (event_begun w e r) x)) (sym calm.alone) tt,
     ) in
-    held-fine rules meets w r e s (x ∷ (ys ++ cs)) known fine goes (pass-append w e.number e.proc s (begun w e r) (x ∷ ys) cs own closing)
+    held-fine rules meets w r e s (x ∷ (ys ++ cs)) known fine goes (pass-append w e.number e.proc s (event_begun w e r) (x ∷ ys) cs own closing)
     (λ a life b is of inside other step. absurd (let clash = sym calm.none ∙ step in cc))
 
 -- A step of a life of another space does not concern this one, where a giveback of the table gives back all that was taken.
@@ -295,11 +295,11 @@ GivesAll By =
     → GiveBack b ∷ ys ≡ map GiveBack (taken_of r life.space)
 
 pub step-passes : (By : StepTable) (L : RecordLaw) (w : WorkloadView) (st : ℕ → Standing) (r : Readings) (e : Event) (s : SpaceNo) (x : Record)
-    (ys : List Record) → GivesAll By → Agrees st r → OwnedByLives r → Needs w e.proc (begun w e r) x → (step : StepOf By w (begun w e r) e.proc x ys)
+    (ys : List Record) → GivesAll By → Agrees st r → OwnedByLives r → Needs w e.proc (event_begun w e r) x → (step : StepOf By w (event_begun w e r) e.proc x ys)
     → space_of_life r (Some step.act) ≡ Some step.life.space → step.life.space.0 ≢ s.0
-    → (Passing s (begun w e r) x ys → L (begun w e r) x ys)
+    → (Passing s (event_begun w e r) x ys → L (event_begun w e r) x ys)
     → ((c : Readings) (xs : List Record) → EachRecord (Passes s) w e.number e.proc c xs → EachRecord L w e.number e.proc c xs)
-    → EachRecord L w e.number e.proc (begun w e r) (x ∷ ys)
+    → EachRecord L w e.number e.proc (event_begun w e r) (x ∷ ys)
 step-passes By L w st r e s x ys gives_all agrees owned needs step of apart first rest = own step.rest where
   owner : owner_of r e.proc ≡ Some step.life.space
   owner = owner-runs r e.proc owned ∙ ap (space_of_life r) step.runs ∙ of
@@ -310,66 +310,66 @@ step-passes By L w st r e s x ys gives_all agrees owned needs step of apart firs
       (ap (λ (k : SpaceNo). k.0) (same_Some step.life.space s (sym (agrees.lives b ∙ ap space_in (agrees.taken step.life.space b has)) ∙ at)))
 
   own : AllOut ys ⊎ ((x ∷ ys ≡ map GiveBack (taken_of r step.life.space)) × ((b c : Readings) → settles b c x ≡ true))
-      → EachRecord L w e.number e.proc (begun w e r) (x ∷ ys)
+      → EachRecord L w e.number e.proc (event_begun w e r) (x ∷ ys)
   own (inl out) = (
-    first (first-passing w e.proc (begun w e r) s step.life.space x ys step.quiet.0 apart owner needs (λ b is. gives b is)),
-    rest (after_record w e.number e.proc (begun w e r) x) ys
-        (out-pass w e.number e.proc s (after_record w e.number e.proc (begun w e r) x) ys out),
+    first (first-passing w e.proc (event_begun w e r) s step.life.space x ys step.quiet.0 apart owner needs (λ b is. gives b is)),
+    rest (after_record w e.number e.proc (event_begun w e r) x) ys
+        (out-pass w e.number e.proc s (after_record w e.number e.proc (event_begun w e r) x) ys out),
   ) where
     gives : (b : ActNo) → x ≡ GiveBack b → space_of_life r (Some b) ≢ Some s
     gives b is =
-        let by : By w (begun w e r) e.proc step.act step.life (GiveBack b) ys =
-        subst (λ y. By w (begun w e r) e.proc step.act step.life y ys) is step.by in
-        taken b (head-has b ys (taken_of r step.life.space) (gives_all w (begun w e r) e.proc step.act step.life b ys by))
+        let by : By w (event_begun w e r) e.proc step.act step.life (GiveBack b) ys =
+        subst (λ y. By w (event_begun w e r) e.proc step.act step.life y ys) is step.by in
+        taken b (head-has b ys (taken_of r step.life.space) (gives_all w (event_begun w e r) e.proc step.act step.life b ys by))
       where
         head-has : (k : ActNo) (zs : List Record) (acts : List ActNo) → GiveBack k ∷ zs ≡ map GiveBack acts → Contains acts k
         head-has k zs [] same = absurd (cc)
         head-has k zs (a ∷ acts) same = (0, omega arith, (let one : a ≡ k = cc in one))
   own (inr all) =
-      subst (EachRecord L w e.number e.proc (begun w e r)) (sym all.0)
-      (rest (begun w e r) (map GiveBack (taken_of r step.life.space))
-      (given-pass w e.number e.proc s (begun w e r) (taken_of r step.life.space) taken))
+      subst (EachRecord L w e.number e.proc (event_begun w e r)) (sym all.0)
+      (rest (event_begun w e r) (map GiveBack (taken_of r step.life.space))
+      (given-pass w e.number e.proc s (event_begun w e r) (taken_of r step.life.space) taken))
 
 other-fine : (rules : UserRules) → AnnouncesDemand rules → (w : WorkloadView) (r : Readings) (e : Event) (s : SpaceNo) (x : Record) (ys cs : List Record)
     → IsCovered w r → Fine w r r.lives s
     → GoesOn w r e (x ∷ (ys ++ cs))
-    → EachRecord (Passes s) w e.number e.proc (After w r e (x ∷ ys)) cs → (step : StepOf FormedBy w (begun w e r) e.proc x ys)
+    → EachRecord (Passes s) w e.number e.proc (After w r e (x ∷ ys)) cs → (step : StepOf FormedBy w (event_begun w e r) e.proc x ys)
     → space_of_life r (Some step.act) ≡ Some step.life.space → step.life.space.0 ≢ s.0
     → FineAfter rules.inside w r e (x ∷ (ys ++ cs)) s
 other-fine rules meets w r e s x ys cs known fine goes closing step of apart =
-    held-fine rules meets w r e s (x ∷ (ys ++ cs)) known fine goes (pass-append w e.number e.proc s (begun w e r) (x ∷ ys) cs own closing)
+    held-fine rules meets w r e s (x ∷ (ys ++ cs)) known fine goes (pass-append w e.number e.proc s (event_begun w e r) (x ∷ ys) cs own closing)
     (λ n life b is at inside other step'. other-life r e.proc step.act s step.life.space step.runs of apart n life b is at other)
   where
     lowers : (u : SpaceNo) (n : ℕ) → x ≡ Want u n → u.0 ≡ s.0 → demand_of r s ≤ n
     lowers u n is same =
-        let hint : FormedBy w (begun w e r) e.proc step.act step.life (Want u n) ys =
-        subst (λ y. FormedBy w (begun w e r) e.proc step.act step.life y ys) is step.by in
+        let hint : FormedBy w (event_begun w e r) e.proc step.act step.life (Want u n) ys =
+        subst (λ y. FormedBy w (event_begun w e r) e.proc step.act step.life y ys) is step.by in
         absurd (apart (sym (ap (λ (k : SpaceNo). k.0) hint.1) ∙ same))
 
-    own : EachRecord (Passes s) w e.number e.proc (begun w e r) (x ∷ ys)
+    own : EachRecord (Passes s) w e.number e.proc (event_begun w e r) (x ∷ ys)
     own =
         step-passes FormedBy (Passes s) w known.st r e s x ys (λ w' r' p a life b zs by. by) known.apart.agrees known.owned goes.steps.0 step of apart
-        (λ passing'. passes-so s (begun w e r) x ys passing' lowers) (λ c xs each. each)
+        (λ passing'. passes-so s (event_begun w e r) x ys passing' lowers) (λ c xs each. each)
 
 -- a lowering hint stays above the load
 lower-covers : (w : WorkloadView) (r : Readings) (e : Event) (s u : SpaceNo) (n : ℕ) (cs : List Record) (life : Life) → IsCovered w r → s.0 < length w.spaces
     → u ≡ s → life.space ≡ s
-    → Lowers (begun w e r) life n → GoesOn w r e (Want u n ∷ cs) → EachRecord (Passes s) w e.number e.proc (After w r e (Want u n ∷ [])) cs
+    → Lowers (event_begun w e r) life n → GoesOn w r e (Want u n ∷ cs) → EachRecord (Passes s) w e.number e.proc (After w r e (Want u n ∷ [])) cs
     → Covers w (After w r e (Want u n ∷ cs)) s
 lower-covers w r e s u n cs life known within same of lower goes closing =
     let apart = apart-begun w known.st r e (Want u n ∷ cs) known.apart in
-    let all = kept-all w e.number e.proc (standing_after e.proc known.st (Want u n)) (after_record w e.number e.proc (begun w e r) (Want u n)) s cs
-    (apart-step w e.number e.proc known.st (begun w e r) (Want u n) cs apart tt tt tt)
+    let all = kept-all w e.number e.proc (standing_after e.proc known.st (Want u n)) (after_record w e.number e.proc (event_begun w e r) (Want u n)) s cs
+    (apart-step w e.number e.proc known.st (event_begun w e r) (Want u n) cs apart tt tt tt)
     (record { moves = goes.moves.1; tells = goes.tells.1; steps = goes.steps.1 }) closing (λ telling. absurd (cc)) in
     let long = known.sized.demands in
-    let demand : demand_of (after_record w e.number e.proc (begun w e r) (Want u n)) s ≡ n =
+    let demand : demand_of (after_record w e.number e.proc (event_begun w e r) (Want u n)) s ≡ n =
     ap (λ (k : SpaceNo). get_or (slice_set r.demands k.0 n) s.0 0) same ∙ get_or-set_same r.demands s.0 n 0 (omega arith) in
     let above : load_of r s < demand_of r s = subst (λ (k : SpaceNo). load_of r k < demand_of r k) of lower.above in
     let number : n + 1 ≡ demand_of r s = lower.number ∙ ap (demand_of r) of in
     let enough : usable w r s ≤ n = omega arith in
     let less : min w.processors (active_threads (space_at r.state s)) ≤ n =
     min-less w.processors (active_threads (space_at r.state s)) (load_of r s) n (omega arith) enough in
-    covers-more w (after_record w e.number e.proc (begun w e r) (Want u n)) (After w r e (Want u n ∷ cs)) s all.kept.active all.kept.demand
+    covers-more w (after_record w e.number e.proc (event_begun w e r) (Want u n)) (After w r e (Want u n ∷ cs)) s all.kept.active all.kept.demand
     (subst (λ k. min w.processors (active_threads (space_at r.state s)) ≤ k) (sym demand) less)
 
 -- a step of a life of the space
@@ -378,7 +378,7 @@ same-fine : (rules : UserRules) → AnnouncesDemand rules → (w : WorkloadView)
     → Fine w r r.lives s
     → BeginsFreely w r e.proc (x ∷ (ys ++ cs)) → GoesOn w r e (x ∷ (ys ++ cs)) → IsClosing cs
     → EachRecord (Passes s) w e.number e.proc (After w r e (x ∷ ys)) cs
-    → (step : StepOf FormedBy w (begun w e r) e.proc x ys) → r.lives step.act.0 ≡ Some step.life → step.life.space ≡ s
+    → (step : StepOf FormedBy w (event_begun w e r) e.proc x ys) → r.lives step.act.0 ≡ Some step.life → step.life.space ≡ s
     → FineAfter rules.inside w r e (x ∷ (ys ++ cs)) s
 same-fine rules meets w r e s x ys cs known within fine freely goes closes closing step is of = one (settles r (After w r e (x ∷ (ys ++ cs))) x) refl where
   there : space_of_life r (Some step.act) ≡ Some s
@@ -388,7 +388,7 @@ same-fine rules meets w r e s x ys cs known within fine freely goes closes closi
   settled settles_it =
       let stands = known.apart.agrees.running e.proc step.act step.runs in
       let space : stands.0 ≡ s = same_Some stands.0 s (sym (known.apart.agrees.lives step.act ∙ ap space_in stands.1) ∙ there) in
-      let quiet = quiet-runs w e.number e.proc known.st (begun w e r) s step.act (x ∷ (ys ++ cs)) (apart-begun w known.st r e (x ∷ (ys ++ cs)) known.apart) goes
+      let quiet = quiet-runs w e.number e.proc known.st (event_begun w e r) s step.act (x ∷ (ys ++ cs)) (apart-begun w known.st r e (x ∷ (ys ++ cs)) known.apart) goes
       (quiet-append (x ∷ ys) cs step.quiet (closing-quiet cs closes)) step.runs (stands.1 ∙ ap (λ k. Runs k e.proc) space) in
       let same : quiet.0.act ≡ step.act = same_Some quiet.0.act step.act (sym quiet.0.runs ∙ quiet.1) in
       settle-fine rules.inside w r e (After w r e (x ∷ (ys ++ cs))) s Each (Covers w (After w r e (x ∷ (ys ++ cs))) s) x (ys ++ cs)
@@ -404,8 +404,8 @@ same-fine rules meets w r e s x ys cs known within fine freely goes closes closi
   bound : ((rest : List Record) (k : Readings) → Passes s k x rest) → ((life : Life) → is_bound r life x ≡ true) → AllOut ys
       → FineAfter rules.inside w r e (x ∷ (ys ++ cs)) s
   bound pass binds outs =
-      let passes = pass-append w e.number e.proc s (begun w e r) (x ∷ ys) cs
-      (pass ys (begun w e r), out-pass w e.number e.proc s (after_record w e.number e.proc (begun w e r) x) ys outs) closing in
+      let passes = pass-append w e.number e.proc s (event_begun w e r) (x ∷ ys) cs
+      (pass ys (event_begun w e r), out-pass w e.number e.proc s (after_record w e.number e.proc (event_begun w e r) x) ys outs) closing in
       let free : StepIsFree w r (Some step.life) x =
       subst (λ o. StepIsFree w r o x) step.on (subst (λ k. StepIsFreeIf k w r (life_on r e.proc) x) step.step freely) in
       three passes (free.free (binds step.life))
@@ -416,7 +416,7 @@ same-fine rules meets w r e s x ys cs known within fine freely goes closes closi
           let life_is : life ≡ step.life = same_Some life step.life (sym at ∙ ap r.lives (same ∙ ap (λ (k : ActNo). k.0) act) ∙ is) in
           let clash : true ≡ false = sym inside ∙ ap (λ (k : Life). k.inside) life_is ∙ outside in cc)
       three passes (inr owes) =
-          let all = kept-all w e.number e.proc known.st (begun w e r) s (x ∷ (ys ++ cs)) (apart-begun w known.st r e (x ∷ (ys ++ cs)) known.apart) goes passes
+          let all = kept-all w e.number e.proc known.st (event_begun w e r) s (x ∷ (ys ++ cs)) (apart-begun w known.st r e (x ∷ (ys ++ cs)) known.apart) goes passes
           (λ telling. absurd (cc)) in
           inr
           (inr (covers-more w r (After w r e (x ∷ (ys ++ cs))) s all.kept.active all.kept.demand
@@ -424,9 +424,9 @@ same-fine rules meets w r e s x ys cs known within fine freely goes closes closi
 
   lowers : (u : SpaceNo) (n : ℕ) → x ≡ Want u n → nat_lt n (demand_of r u) ≡ true → FineAfter rules.inside w r e (x ∷ (ys ++ cs)) s
   lowers u n want low =
-      let by : FormedBy w (begun w e r) e.proc step.act step.life (Want u n) ys =
-      subst (λ y. FormedBy w (begun w e r) e.proc step.act step.life y ys) want step.by in
-      let can : Lowers (begun w e r) step.life n = subst (λ k. Hints k w (begun w e r) step.life n) low by.2 in
+      let by : FormedBy w (event_begun w e r) e.proc step.act step.life (Want u n) ys =
+      subst (λ y. FormedBy w (event_begun w e r) e.proc step.act step.life y ys) want step.by in
+      let can : Lowers (event_begun w e r) step.life n = subst (λ k. Hints k w (event_begun w e r) step.life n) low by.2 in
       inr (inr (subst (λ zs. Lowered x zs) (sym by.0) (subst (λ y. Lowered y []) (sym want)
       (λ goes' closing'. lower-covers w r e s u n cs step.life known within (by.1 ∙ of) of can goes' closing')) goes closing))
     where
@@ -449,13 +449,13 @@ pub event-fine : (rules : UserRules) → AnnouncesDemand rules → (w : Workload
 event-fine rules meets w r e known law from s within fine = whole (in-form rules meets w r e law from) where
   goes-at : (xs : List Record) → e.records ≡ xs → GoesOn w r e xs
   goes-at xs is = record {
-    moves = subst (EachRecord (Moves w e.proc) w e.number e.proc (begun w e r)) is (lawful-moves rules meets.forms.tells w r e law);
-    tells = subst (EachRecord (TellsAllThen e.proc) w e.number e.proc (begun w e r)) is law.all_told.told;
-    steps = subst (AreSteps w e.number e.proc (begun w e r)) is law.stepwise.steps;
+    moves = subst (EachRecord (Moves w e.proc) w e.number e.proc (event_begun w e r)) is (lawful-moves rules meets.forms.tells w r e law);
+    tells = subst (EachRecord (TellsAllThen e.proc) w e.number e.proc (event_begun w e r)) is law.all_told.told;
+    steps = subst (AreSteps w e.number e.proc (event_begun w e r)) is law.stepwise.steps;
   }
 
   formed : (x : Record) (ys cs : List Record) → e.records ≡ x ∷ (ys ++ cs) → IsClosing cs → EachRecord (Passes s) w e.number e.proc (After w r e (x ∷ ys)) cs
-      → Form FormedBy w (begun w e r) e.proc x ys
+      → Form FormedBy w (event_begun w e r) e.proc x ys
       → FineAfter rules.inside w r e (x ∷ (ys ++ cs)) s
   formed x ys cs is closes closing (inl turns) =
       up-turn-fine rules meets w r e s x ys cs known law.numbered.proc within fine is (goes-at (x ∷ (ys ++ cs)) is) closes closing turns.0 turns.1

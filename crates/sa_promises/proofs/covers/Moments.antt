@@ -19,7 +19,7 @@ use Rattle.sa_laws.specs.Event.{Event, events_of}
 use Rattle.sa_laws.specs.State.{space_at, active_threads, opening_space, no_threads}
 use Rattle.sa_laws.specs.Readings.{Readings, opening_readings, demand_of, untold_thread, load_of, usable}
 use Rattle.sa_laws.specs.Record.{after_record}
-use Rattle.sa_laws.specs.History.{begun, behind_all, after_records, after_event, after_events}
+use Rattle.sa_laws.specs.History.{event_begun, behind_all, after_records, after_event, after_events}
 use Rattle.sa_laws.specs.Closing.{want_one, aims_due, spaces_of}
 use Rattle.sa_laws.specs.Opening.{first_wants, opening_records}
 use Rattle.sa_laws.specs.Rules.{UserRules, IsLawful}
@@ -53,7 +53,7 @@ apart-all w e p st r (x ∷ xs) apart goes =
 apart-next : (rules : UserRules) → AnnouncesDemand rules → (w : WorkloadView) (r : Readings) (e : Event) → StaysApart r → IsLawful rules w r e
     → StaysApart (after_event rules.inside w r e)
 apart-next rules meets w r e known law =
-    let all = apart-all w e.number e.proc known.st (begun w e r) e.records (apart-begun w known.st r e e.records known.apart)
+    let all = apart-all w e.number e.proc known.st (event_begun w e r) e.records (apart-begun w known.st r e e.records known.apart)
     (record { moves = lawful-moves rules meets.forms.tells w r e law; tells = law.all_told.told; steps = law.stepwise.steps }) in
     record { st = all.st; apart = apart-ended rules.inside w all.st r e (behind_all w e r) all.apart }
 
@@ -139,18 +139,18 @@ first-fine : (rules : UserRules) → AnnouncesDemand rules → (w : WorkloadView
 first-fine rules meets w e law s within =
     let wanting = after_records w 0 (proc_no 0) (opening_readings w) (first_wants w) in
     let records : e.records ≡ opening_records w = ap (λ (f : Event). f.records) (law.numbered.opening law.numbered.number) in
-    let long : length (begun w e (opening_readings w)).demands ≡ length w.spaces = Rattle.std.proofs.lemmas.List.length-replicate (length w.spaces) 0 in
-    let wants = wants-demand w e.number e.proc 0 (length w.spaces) (begun w e (opening_readings w)) s (omega arith) (inl (omega arith, omega arith)) in
-    let same = aims-same w e.number e.proc (after_records w e.number e.proc (begun w e (opening_readings w)) (first_wants w))
+    let long : length (event_begun w e (opening_readings w)).demands ≡ length w.spaces = Rattle.std.proofs.lemmas.List.length-replicate (length w.spaces) 0 in
+    let wants = wants-demand w e.number e.proc 0 (length w.spaces) (event_begun w e (opening_readings w)) s (omega arith) (inl (omega arith, omega arith)) in
+    let same = aims-same w e.number e.proc (after_records w e.number e.proc (event_begun w e (opening_readings w)) (first_wants w))
     (records_of 0 wanting.lines (aims_due w 0 wanting)) (aims-of 0 wanting.lines (aims_due w 0 wanting)) in
     let whole : behind_all w e (opening_readings w) ≡ after_records w e.number e.proc
-    (after_records w e.number e.proc (begun w e (opening_readings w)) (first_wants w)) (records_of 0 wanting.lines (aims_due w 0 wanting)) =
-    ap (after_records w e.number e.proc (begun w e (opening_readings w))) records
-    ∙ records-append w e.number e.proc (begun w e (opening_readings w)) (first_wants w) (records_of 0 wanting.lines (aims_due w 0 wanting)) in
+    (after_records w e.number e.proc (event_begun w e (opening_readings w)) (first_wants w)) (records_of 0 wanting.lines (aims_due w 0 wanting)) =
+    ap (after_records w e.number e.proc (event_begun w e (opening_readings w))) records
+    ∙ records-append w e.number e.proc (event_begun w e (opening_readings w)) (first_wants w) (records_of 0 wanting.lines (aims_due w 0 wanting)) in
     let demand : 1 ≤ demand_of (behind_all w e (opening_readings w)) s =
     subst (λ (ds : List ℕ). 1 ≤ get_or ds s.0 0) (sym (ap (λ (k : Readings). k.demands) whole ∙ same.demands)) wants in
     let state : (behind_all w e (opening_readings w)).state ≡ (opening_readings w).state =
-    ap (λ (k : Readings). k.state) whole ∙ same.state ∙ wants-state w e.number e.proc (begun w e (opening_readings w)) (spaces_of w) in
+    ap (λ (k : Readings). k.state) whole ∙ same.state ∙ wants-state w e.number e.proc (event_begun w e (opening_readings w)) (spaces_of w) in
     let active : active_threads (space_at (behind_all w e (opening_readings w)).state s) ≤ 1 =
     subst (λ a. active_threads (space_at a s) ≤ 1) (sym state) (open-active w.spaces s.0) in
     inr

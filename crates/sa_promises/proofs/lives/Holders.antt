@@ -25,7 +25,7 @@ use Rattle.sa_laws.specs.Machine.{next_effect}
 use Rattle.sa_laws.specs.Life.{Life, Lock, with_hand, without_lock, with_first, with_cont, change_first, first_lock, ran, readied, held_with, inherits, inherited, bereft, new_life}
 use Rattle.sa_laws.specs.Readings.{Readings, opening_readings, life_of, life_if, life_on, running_of, space_of_life, untold_of}
 use Rattle.sa_laws.specs.Record.{with_life, handed, lives_after, after_record, stopped_with, back_with, made_ready, one_thread, locks, lock_for}
-use Rattle.sa_laws.specs.History.{Test, begun, is_step, is_up, with_step, ended, stepped, arisen}
+use Rattle.sa_laws.specs.History.{Test, event_begun, is_step, is_up, with_step, ended, stepped, arisen}
 use Rattle.sa_laws.specs.Locks.{HoldsLock, WithFirst}
 use Rattle.sa_laws.specs.Upcalls.{RecordLaw, EachRecord, IsUntoldTo}
 use Rattle.sa_laws.specs.Rules.{UserRules, IsLawful}
@@ -701,8 +701,8 @@ held-within items j s t within o =
 
 pub no-holder-is-ready : (u : UserRules) → KnowsHolders u → (w : WorkloadView) (items : List Item) → IsLegal u w items → NoHolderIsReady items
 no-holder-is-ready u needs w items legal j s t stands o =
-    let gives : (r : Readings) (e : Event) → IsLawful u w r e → EachRecord (HeldLaw w e.proc) w e.number e.proc (begun w e r) e.records =
-    λ r e law. each-both (Moves w e.proc) (HoldersKnown e.proc) w e.number e.proc (begun w e r) e.records (lawful-moves u needs.tells w r e law)
+    let gives : (r : Readings) (e : Event) → IsLawful u w r e → EachRecord (HeldLaw w e.proc) w e.number e.proc (event_begun w e r) e.records =
+    λ r e law. each-both (Moves w e.proc) (HoldersKnown e.proc) w e.number e.proc (event_begun w e r) e.records (lawful-moves u needs.tells w r e law)
     (needs.known w r e law) in
     let good = good-at u w items (HeldLaw w) AreHeld (λ e p. AreHeldIn p) ReadiesNoHolder legal (held-kept u.inside w)
     gives (held-start w) j stands.item stands.at in

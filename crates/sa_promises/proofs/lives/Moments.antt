@@ -21,7 +21,7 @@ use Rattle.sa_laws.specs.Event.{Event, items_of, events_of}
 use Rattle.sa_laws.specs.Life.{Life}
 use Rattle.sa_laws.specs.Readings.{Readings, IsLocked, opening_readings, life_of}
 use Rattle.sa_laws.specs.Record.{after_record}
-use Rattle.sa_laws.specs.History.{Test, begun, ended, after_event, readings}
+use Rattle.sa_laws.specs.History.{Test, event_begun, ended, after_event, readings}
 use Rattle.sa_laws.specs.Closing.{first_space, claims_of, shares_at}
 use Rattle.sa_laws.specs.Upcalls.{RecordLaw, EachRecord}
 use Rattle.sa_laws.specs.Rules.{UserRules, IsLawful}
@@ -97,7 +97,7 @@ sound-step w e p past r x rest s law =
           (plain-after p s.st x a was);
     }
 
-sound-begins : (w : WorkloadView) (past : List Item) (r : Readings) (e : Event) → IsSound w past r → IsSound w past (begun w e r)
+sound-begins : (w : WorkloadView) (past : List Item) (r : Readings) (e : Event) → IsSound w past r → IsSound w past (event_begun w e r)
 sound-begins w past r e s =
     record { st = s.st; agrees = agrees-begun w s.st e r s.agrees; shows = shows-begun w s.st e r s.shows; told = s.told }
 
@@ -146,7 +146,7 @@ bare-keeps w e p past r x rest inv law =
       runs = upped-step w e p s.st r x rest was moves inv.runs;
     }
 
-bare-begins : (w : WorkloadView) (past : List Item) (r : Readings) (e : Event) → IsBare w past r → IsBareIn w e.proc past (begun w e r)
+bare-begins : (w : WorkloadView) (past : List Item) (r : Readings) (e : Event) → IsBare w past r → IsBareIn w e.proc past (event_begun w e r)
 unfolding sound-begins
 bare-begins w past r e inv = record { at = record { sound = sound-begins w past r e inv.sound; bare = inv.bare }; runs = λ no_record. absurd (cc) }
 
@@ -206,23 +206,23 @@ along-take test w L r (e ∷ es) zero law = tt
 along-take test w L r (e ∷ es) (suc n) law = (law.0, along-take test w L (after_event test w r e) es n law.1)
 
 sound-each : (u : UserRules) (w : WorkloadView) (r : Readings) (e : Event) → IsLawful u w r e
-    → EachRecord (SoundLaw w e.proc) w e.number e.proc (begun w e r) e.records
-sound-each u w r e law = each-both (AnyMoves w e.proc) (OnMachine w e.proc) w e.number e.proc (begun w e r) e.records
-    (lawful-any u w r e law) (on-machine w e.proc e.number (begun w e r) e.records law.numbered.proc)
+    → EachRecord (SoundLaw w e.proc) w e.number e.proc (event_begun w e r) e.records
+sound-each u w r e law = each-both (AnyMoves w e.proc) (OnMachine w e.proc) w e.number e.proc (event_begun w e r) e.records
+    (lawful-any u w r e law) (on-machine w e.proc e.number (event_begun w e r) e.records law.numbered.proc)
 
 bare-each : (u : UserRules) → TellsBehindUps u → (w : WorkloadView) (r : Readings) (e : Event) → IsLawful u w r e
-    → EachRecord (BareLaw w e.proc) w e.number e.proc (begun w e r) e.records
-bare-each u needs w r e law = each-both (SoundLaw w e.proc) ToldBehindUps w e.number e.proc (begun w e r) e.records (sound-each u w r e law) (needs.told w r e law)
+    → EachRecord (BareLaw w e.proc) w e.number e.proc (event_begun w e r) e.records
+bare-each u needs w r e law = each-both (SoundLaw w e.proc) ToldBehindUps w e.number e.proc (event_begun w e r) e.records (sound-each u w r e law) (needs.told w r e law)
 
 once-each : (u : UserRules) → KeepsListsApart u → (w : WorkloadView) (r : Readings) (e : Event) → IsLawful u w r e
-    → EachRecord (OnceLaw w e.proc) w e.number e.proc (begun w e r) e.records
-once-each u needs w r e law = each-both (BareLaw w e.proc) (ListsApart e.proc) w e.number e.proc (begun w e r) e.records
+    → EachRecord (OnceLaw w e.proc) w e.number e.proc (event_begun w e r) e.records
+once-each u needs w r e law = each-both (BareLaw w e.proc) (ListsApart e.proc) w e.number e.proc (event_begun w e r) e.records
     (bare-each u needs.tells w r e law) (needs.apart w r e law)
 
 -- what is kept so is so after the first n events
 kept-before : (u : UserRules) (w : WorkloadView) (items : List Item) (L : ProcNo → RecordLaw) (Inv : List Item → Readings → Type 0)
     (Mid : ℕ → ProcNo → List Item → Readings → Type 0) → IsKept u.inside w L Inv Mid Any
-    → ((r : Readings) (e : Event) → IsLawful u w r e → EachRecord (L e.proc) w e.number e.proc (begun w e r) e.records)
+    → ((r : Readings) (e : Event) → IsLawful u w r e → EachRecord (L e.proc) w e.number e.proc (event_begun w e r) e.records)
     → Inv [] (opening_readings w) → IsLegal u w items → (n : ℕ) → Inv (items_of (take n (events_of items))) (before u w (events_of items) n)
 kept-before u w items L Inv Mid kept gives start legal n =
     let law = along u w L gives (opening_readings w) (events_of items) (legal-lawful u w items legal) in

@@ -18,7 +18,7 @@ use Rattle.sa_laws.specs.Event.{Event}
 use Rattle.sa_laws.specs.Life.{Life}
 use Rattle.sa_laws.specs.Readings.{Readings, opening_readings, running_of, space_of_life}
 use Rattle.sa_laws.specs.Record.{after_record, with_life}
-use Rattle.sa_laws.specs.History.{Test, begun, after_records, is_step, is_up, with_step, ended, stepped, arisen}
+use Rattle.sa_laws.specs.History.{Test, event_begun, after_records, is_step, is_up, with_step, ended, stepped, arisen}
 use Rattle.sa_laws.specs.Step.{Needs, AreSteps}
 use Rattle.sa_laws.specs.Upcalls.{EachRecord, IsUntoldTo, TellsOnce, NamesTheLife, TellsAllThen}
 use Rattle.sa_laws.specs.Closing.{spaces_of, want_one, aims_due}
@@ -82,19 +82,19 @@ calm-opening w =
 
 -- the records of a lawful event are in their places, where those of a user level's turns are
 pub event-shaped : (u : UserRules) (w : WorkloadView) (r : Readings) (e : Event)
-    → (1 ≤ e.number → u.Steps w (begun w e r) e.proc (own_part e.records) → IsShaped e.proc (begun w e r) (own_part e.records))
-    → IsLawful u w r e → IsShaped e.proc (begun w e r) e.records
+    → (1 ≤ e.number → u.Steps w (event_begun w e r) e.proc (own_part e.records) → IsShaped e.proc (event_begun w e r) (own_part e.records))
+    → IsLawful u w r e → IsShaped e.proc (event_begun w e r) e.records
 event-shaped u w r e shapes law = one e.number refl where
-  one : (n : ℕ) → e.number ≡ n → IsShaped e.proc (begun w e r) e.records
+  one : (n : ℕ) → e.number ≡ n → IsShaped e.proc (event_begun w e r) e.records
   one zero is =
       let same = ap (λ (f : Event). f.records) (law.numbered.opening is) in
       let calm : AreCalm e.records = subst AreCalm (sym same) (calm-opening w) in
-      (calm-fit None e.records calm, calm-first e.proc (begun w e r) e.records calm)
+      (calm-fit None e.records calm, calm-first e.proc (event_begun w e r) e.records calm)
   one (suc n) is =
       let later : 1 ≤ e.number = omega arith in
       let turns = law.turns_taken in
-      whole-shaped e.proc (begun w e r) e.records
-      (turn-shaped u.Steps w (begun w e r) e.proc e.number _ (own_part e.records) (shapes later) (turns.turn later)) (turns.closing later)
+      whole-shaped e.proc (event_begun w e r) e.records
+      (turn-shaped u.Steps w (event_begun w e r) e.proc e.number _ (own_part e.records) (shapes later) (turns.turn later)) (turns.closing later)
 
 -- so told records come behind ups, and each record is guarded
 pub told-each : (w : WorkloadView) (e : ℕ) (p : ProcNo) (r : Readings) (xs : List Record) (last : Option Record) → r.last ≡ last → AllFit last xs
@@ -146,9 +146,9 @@ moves-each w e p r (x ∷ xs) named tells once steps = (
 )
 
 pub lawful-any : (u : UserRules) (w : WorkloadView) (r : Readings) (e : Event) → IsLawful u w r e
-    → EachRecord (AnyMoves w e.proc) w e.number e.proc (begun w e r) e.records
+    → EachRecord (AnyMoves w e.proc) w e.number e.proc (event_begun w e r) e.records
 lawful-any u w r e law =
-    moves-each w e.number e.proc (begun w e r) e.records law.where_owned.named law.all_told.told law.told_once.told law.stepwise.steps
+    moves-each w e.number e.proc (event_begun w e r) e.records law.where_owned.named law.all_told.told law.told_once.told law.stepwise.steps
 
 -- and where told records come behind ups
 told-each-moves : (w : WorkloadView) (e : ℕ) (p : ProcNo) (r : Readings) (xs : List Record) → EachRecord (AnyMoves w p) w e p r xs
@@ -158,9 +158,9 @@ told-each-moves w e p r (x ∷ xs) moves told =
     (told-moves w p r x xs moves.0 told.0, told-each-moves w e p (after_record w e p r x) xs moves.1 told.1)
 
 pub lawful-moves : (u : UserRules) → TellsBehindUps u → (w : WorkloadView) (r : Readings) (e : Event) → IsLawful u w r e
-    → EachRecord (Moves w e.proc) w e.number e.proc (begun w e r) e.records
+    → EachRecord (Moves w e.proc) w e.number e.proc (event_begun w e r) e.records
 lawful-moves u needs w r e law =
-    told-each-moves w e.number e.proc (begun w e r) e.records (lawful-any u w r e law) (needs.told w r e law)
+    told-each-moves w e.number e.proc (event_begun w e r) e.records (lawful-any u w r e law) (needs.told w r e law)
 
 -- where the number of such a record stood
 nowhere : (x : Standing) → space_in x ≡ None → x ≡ Nowhere
@@ -228,7 +228,7 @@ agrees-ended test w st before e r agrees = record {
   taken = agrees.taken;
 }
 
-pub agrees-begun : (w : WorkloadView) (st : ℕ → Standing) (e : Event) (r : Readings) → Agrees st r → Agrees st (begun w e r)
+pub agrees-begun : (w : WorkloadView) (st : ℕ → Standing) (e : Event) (r : Readings) → Agrees st r → Agrees st (event_begun w e r)
 agrees-begun w st e r agrees = record {
   lives = agrees.lives;
   running = agrees.running;

@@ -22,7 +22,7 @@ use Rattle.sa_devices.specs.Ios.{is_fetch_of, fetches}
 use Rattle.sa_laws.specs.Event.{Event}
 use Rattle.sa_laws.specs.Readings.{Readings, opening_readings, running_of, untold_of}
 use Rattle.sa_laws.specs.Record.{after_record, running_after, under_way_after, untold_after, is_kind_of, is_io_of, is_io_of_other, fetches_other, blocking_for, length_behind}
-use Rattle.sa_laws.specs.History.{Test, begun, ended}
+use Rattle.sa_laws.specs.History.{Test, event_begun, ended}
 use Rattle.sa_laws.proofs.Lengths.{running-length}
 use Rattle.sa_laws.proofs.Numbers.{act-by_number}
 use Rattle.sa_promises.proofs.words.Reads.{filter-any, untold-stays, untold-comes}
@@ -254,7 +254,7 @@ shows-start w = record {
   returned = λ s a within is. absurd (cc);
 }
 
-pub shows-begun : (w : WorkloadView) (st : ℕ → Standing) (e : Event) (r : Readings) → Shows w st r → Shows w st (begun w e r)
+pub shows-begun : (w : WorkloadView) (st : ℕ → Standing) (e : Event) (r : Readings) → Shows w st r → Shows w st (event_begun w e r)
 shows-begun w st e r shows = record {
   running_len = shows.running_len;
   untold_len = shows.untold_len;

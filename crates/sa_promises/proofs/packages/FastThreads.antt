@@ -10,7 +10,7 @@ use Rattle.sa_base.specs.declared.record.Record.TheVariants.{Ins, Run, Block, Co
 use Rattle.sa_spaces.specs.Workload.{WorkloadView}
 use Rattle.sa_laws.specs.Life.{Life, Lock, first_lock}
 use Rattle.sa_laws.specs.Readings.{Readings, running_of, life_on, demand_of, carried_by, has_hand}
-use Rattle.sa_laws.specs.History.{begun}
+use Rattle.sa_laws.specs.History.{event_begun}
 use Rattle.sa_laws.specs.Shape.{own_part}
 use Rattle.sa_laws.specs.Rules.{fast_threads}
 use Rattle.sa_laws.specs.Locks.{HoldsLock, TakesFor, CanReady, CanRun, CanFree, WithFirst, KeepsLocks, KeepsLocksIf, KeepsLocksIn}
@@ -104,10 +104,10 @@ fast-formed : StepsAreFormed fast_threads
 fast-formed w r e law later is =
     let locks = law.locks_kept in
     let locked = locks.step later in
-    let a = running_of (begun w e r) e.proc in
-    let life = life_on (begun w e r) e.proc in (
-      in-fast w (begun w e r) e.proc a life (own_part e.records) is locked,
-      first-guarded w (begun w e r) e.proc a life (own_part e.records) refl is locked,
+    let a = running_of (event_begun w e r) e.proc in
+    let life = life_on (event_begun w e r) e.proc in (
+      in-fast w (event_begun w e r) e.proc a life (own_part e.records) is locked,
+      first-guarded w (event_begun w e r) e.proc a life (own_part e.records) refl is locked,
     )
 
 pub fast-tells : TellsBehindUps fast_threads

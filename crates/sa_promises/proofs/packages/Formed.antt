@@ -13,7 +13,7 @@ use Rattle.sa_laws.specs.Event.{Event}
 use Rattle.sa_laws.specs.Life.{Life, Lock}
 use Rattle.sa_laws.specs.Readings.{Readings, owner_of, running_of, life_on, taken_of}
 use Rattle.sa_laws.specs.Record.{after_record}
-use Rattle.sa_laws.specs.History.{begun}
+use Rattle.sa_laws.specs.History.{event_begun}
 use Rattle.sa_laws.specs.Shape.{own_part}
 use Rattle.sa_laws.specs.Upcalls.{EachRecord}
 use Rattle.sa_laws.specs.Rules.{UserRules, IsLawful}
@@ -52,34 +52,34 @@ formed-in w r p (Some a) (Some life) [] is = absurd is
 abbrev pub StepsAreFormed : UserRules → Type 0
 StepsAreFormed u =
     (w : WorkloadView) (r : Readings) (e : Event) → IsLawful u w r e → 1 ≤ e.number
-    → u.Steps w (begun w e r) e.proc (own_part e.records)
-    → IsFormed w (begun w e r) e.proc (own_part e.records) × FirstOf e.proc (begun w e r) (own_part e.records)
+    → u.Steps w (event_begun w e r) e.proc (own_part e.records)
+    → IsFormed w (event_begun w e r) e.proc (own_part e.records) × FirstOf e.proc (event_begun w e r) (own_part e.records)
 
 shaped : (u : UserRules) → StepsAreFormed u → (w : WorkloadView) (r : Readings) (e : Event) → IsLawful u w r e
-    → IsShaped e.proc (begun w e r) e.records
+    → IsShaped e.proc (event_begun w e r) e.records
 shaped u forms w r e law = event-shaped u w r e
     (λ later is.
     let step = forms w r e law later is in
-    (formed-in w (begun w e r) e.proc (running_of (begun w e r) e.proc) (life_on (begun w e r) e.proc) (own_part e.records) step.0, step.1))
+    (formed-in w (event_begun w e r) e.proc (running_of (event_begun w e r) e.proc) (life_on (event_begun w e r) e.proc) (own_part e.records) step.0, step.1))
     law
 
 pub formed-tells : (u : UserRules) → StepsAreFormed u → TellsBehindUps u
 formed-tells u forms = record {
-  told = λ w r e law. told-each w e.number e.proc (begun w e r) e.records None refl (shaped u forms w r e law).0;
+  told = λ w r e law. told-each w e.number e.proc (event_begun w e r) e.records None refl (shaped u forms w r e law).0;
 }
 
 pub formed-apart : (u : UserRules) → StepsAreFormed u → KeepsListsApart u
 formed-apart u forms = record {
   tells = formed-tells u forms;
   apart = λ w r e law.
-      let is = shaped u forms w r e law in (guards-each w e.number e.proc (begun w e r) e.records None is.0 is.1).0;
+      let is = shaped u forms w r e law in (guards-each w e.number e.proc (event_begun w e r) e.records None is.0 is.1).0;
 }
 
 pub formed-knows : (u : UserRules) → StepsAreFormed u → KnowsHolders u
 formed-knows u forms = record {
   tells = formed-tells u forms;
   known = λ w r e law.
-      let is = shaped u forms w r e law in (guards-each w e.number e.proc (begun w e r) e.records None is.0 is.1).1;
+      let is = shaped u forms w r e law in (guards-each w e.number e.proc (event_begun w e r) e.records None is.0 is.1).1;
 }
 
 -- a turn whose steps have forms is one of such steps
@@ -109,9 +109,9 @@ own-each w e p r (x ∷ xs) apart = (one x apart.0, own-each w e p (after_record
 pub formed-has : (u : UserRules) → StepsAreFormed u → HasForms u
 formed-has u forms = record {
   tells = formed-tells u forms;
-  own = λ w r e law. own-each w e.number e.proc (begun w e r) e.records (let lists = formed-apart u forms in lists.apart w r e law);
+  own = λ w r e law. own-each w e.number e.proc (event_begun w e r) e.records (let lists = formed-apart u forms in lists.apart w r e law);
   formed = λ w r e law. let turns = law.turns_taken in record {
-    turn = λ later. turn-map u.Steps IsFormed w (begun w e r) e.proc e.number _ (own_part e.records)
+    turn = λ later. turn-map u.Steps IsFormed w (event_begun w e r) e.proc e.number _ (own_part e.records)
         (λ step. (forms w r e law later step).0) (turns.turn later);
     closing = turns.closing;
   };

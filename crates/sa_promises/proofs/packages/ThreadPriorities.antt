@@ -10,7 +10,7 @@ use Rattle.sa_base.specs.declared.record.Record.TheVariants.{Ins, Run, Block, Co
 use Rattle.sa_spaces.specs.Workload.{WorkloadView}
 use Rattle.sa_laws.specs.Life.{Life}
 use Rattle.sa_laws.specs.Readings.{Readings, IsLocked, running_of, life_on, demand_of, carried_by, has_hand}
-use Rattle.sa_laws.specs.History.{begun, is_inside}
+use Rattle.sa_laws.specs.History.{event_begun, is_inside}
 use Rattle.sa_laws.specs.Shape.{own_part}
 use Rattle.sa_ranks.specs.Rules.{prio_threads}
 use Rattle.sa_ranks.specs.Steps.{RankedStepBy, RankedStepIn, CanHint}
@@ -89,10 +89,10 @@ prio-formed : StepsAreFormed prio_threads
 prio-formed w r e law later is =
     let locks = law.locks_kept in
     let locked = locks.step later in
-    let a = running_of (begun w e r) e.proc in
-    let life = life_on (begun w e r) e.proc in (
-      in-ranks w (begun w e r) e.proc a life (own_part e.records) is locked,
-      first-guarded w (begun w e r) e.proc a life (own_part e.records) refl is locked,
+    let a = running_of (event_begun w e r) e.proc in
+    let life = life_on (event_begun w e r) e.proc in (
+      in-ranks w (event_begun w e r) e.proc a life (own_part e.records) is locked,
+      first-guarded w (event_begun w e r) e.proc a life (own_part e.records) refl is locked,
     )
 
 pub prio-tells : TellsBehindUps prio_threads

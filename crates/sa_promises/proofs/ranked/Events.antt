@@ -8,7 +8,7 @@ use Rattle.sa_base.specs.declared.record.Record.TheVariants.{Stop, Up, Move}
 use Rattle.sa_spaces.specs.Workload.{WorkloadView}
 use Rattle.sa_laws.specs.Event.{Event}
 use Rattle.sa_laws.specs.Readings.{Readings, line_of}
-use Rattle.sa_laws.specs.History.{begun, is_step}
+use Rattle.sa_laws.specs.History.{event_begun, is_step}
 use Rattle.sa_laws.specs.Shape.{own_part, closing_part, is_own}
 use Rattle.sa_laws.specs.Turns.{IsClosing, IsTurn}
 use Rattle.sa_laws.specs.Rules.{IsLawful}
@@ -22,7 +22,7 @@ use Rattle.sa_ranks.specs.Steps.{RankedStepBy, IsRankedStep}
 use Rattle.sa_ranks.specs.Locks.{KeepsTheLockIn}
 use Rattle.sa_promises.proofs.ranked.Forms.{step-form}
 
-pub event-goes : (w : WorkloadView) (r : Readings) (e : Event) → IsLawful prio_threads w r e → Goes w e.number e.proc (begun w e r) e.records
+pub event-goes : (w : WorkloadView) (r : Readings) (e : Event) → IsLawful prio_threads w r e → Goes w e.number e.proc (event_begun w e r) e.records
 event-goes w r e law = record {
   moves = lawful-moves prio_threads prio-tells w r e law;
   tells = law.all_told.told;
@@ -36,7 +36,7 @@ pub record InForm (w : WorkloadView) (r : Readings) (e : Event) : Type 0 where
   pub closing : List Record
   pub is : e.records ≡ first ∷ (own ++ closing)
   pub part : own_part e.records ≡ first ∷ own
-  pub form : Form RankedStepBy w (begun w e r) e.proc first own
+  pub form : Form RankedStepBy w (event_begun w e r) e.proc first own
   pub low : is_some (line_of r e.proc) ≡ true → Turning (first ∷ own) × (is_step first ≡ false)
   pub closes : IsClosing closing
 
@@ -55,16 +55,16 @@ in-form w r e law from = one e.records refl where
   one (x ∷ xs) is =
       let turns = law.turns_taken in
       let locks = law.locks_kept in
-      let turn = subst (λ ys. IsTurn IsRankedStep (is_some (line_of r e.proc)) e.number w (begun w e r) e.proc (own_part ys)) is (turns.turn from) in
+      let turn = subst (λ ys. IsTurn IsRankedStep (is_some (line_of r e.proc)) e.number w (event_begun w e r) e.proc (own_part ys)) is (turns.turn from) in
       record {
         first = x;
         own = take_while is_own xs;
         closing = closing_part (x ∷ xs);
         is = is ∙ ap (λ ys. x ∷ ys) (sym (parts-take (prefix_len is_own xs) xs));
         part = ap own_part is;
-        form = turn-form RankedStepBy IsRankedStep w (begun w e r) e.proc e.number (is_some (line_of r e.proc)) x (take_while is_own xs)
-            (step-form w (begun w e r) e.proc x (take_while is_own xs)
-            (subst (λ ys. KeepsTheLockIn w (begun w e r) e.proc (own_part ys)) is (locks.step from))) turn;
-        low = λ raised. interrupts w (begun w e r) e.proc e.number (is_some (line_of r e.proc)) x (take_while is_own xs) turn raised;
+        form = turn-form RankedStepBy IsRankedStep w (event_begun w e r) e.proc e.number (is_some (line_of r e.proc)) x (take_while is_own xs)
+            (step-form w (event_begun w e r) e.proc x (take_while is_own xs)
+            (subst (λ ys. KeepsTheLockIn w (event_begun w e r) e.proc (own_part ys)) is (locks.step from))) turn;
+        low = λ raised. interrupts w (event_begun w e r) e.proc e.number (is_some (line_of r e.proc)) x (take_while is_own xs) turn raised;
         closes = subst (λ ys. IsClosing (closing_part ys)) is (turns.closing from);
       }

@@ -10,7 +10,7 @@ use Rattle.sa_spaces.specs.Workload.{WorkloadView}
 use Rattle.sa_laws.specs.Event.{Event}
 use Rattle.sa_laws.specs.Life.{Life}
 use Rattle.sa_laws.specs.Readings.{Readings, running_of, owner_of, line_of}
-use Rattle.sa_laws.specs.History.{is_inside, begun, with_step, with_up}
+use Rattle.sa_laws.specs.History.{is_inside, event_begun, with_step, with_up}
 use Rattle.sa_promises.proofs.lives.Standing.{Standing, kind}
 use Rattle.sa_promises.proofs.covers.Fine.{IsFine, IsTested, IsStepOf, still-fine}
 use Rattle.sa_ranks.specs.Inside.{is_inside_or_urged, settling}
@@ -46,11 +46,11 @@ urged w r e c s settles_it life of = one (has_pair w (settling w r e c) life.spa
 abbrev pub Lowly : Readings → ProcNo → SpaceNo → Type 0
 Lowly r p s = (line_of r p ≡ None) ⊎ (owner_of r p ≢ Some s)
 
-begun-low : (w : WorkloadView) (r : Readings) (e : Event) (q : ProcNo) → q.0 ≢ e.proc.0 → line_of (begun w e r) q ≡ None → line_of r q ≡ None
+begun-low : (w : WorkloadView) (r : Readings) (e : Event) (q : ProcNo) → q.0 ≢ e.proc.0 → line_of (event_begun w e r) q ≡ None → line_of r q ≡ None
 begun-low w r e q apart is = sym (get_or-set_other r.lines e.proc.0 q.0 None None apart) ∙ is
 
 pub held-none : (w : WorkloadView) (r : Readings) (e : Event) (c : Readings) (s : SpaceNo) (st now : ℕ → Standing) → IsPlaced w r.state
-    → Held s st now (begun w e r) c → Lowly r e.proc s → NoPair r s → NoPair c s
+    → Held s st now (event_begun w e r) c → Lowly r e.proc s → NoPair r s → NoPair c s
 held-none w r e c s st now placed held lowly none t u p ready runs low =
     let was_ready = held.fades t.0 place.Ready refl ready in
     let did_run = held.fades u.0 (place.Running p) refl runs in
@@ -68,7 +68,7 @@ held-none w r e c s st now placed held lowly none t u p ready runs low =
     omega (arith, before, one, two)
 
 pub keep-fine : (w : WorkloadView) (r : Readings) (e : Event) (c : Readings) (s : SpaceNo) (st now : ℕ → Standing) (xs : List Record) → IsPlaced w r.state
-    → Settles w r e c s → Held s st now (begun w e r) c → Lowly r e.proc s
+    → Settles w r e c s → Held s st now (event_begun w e r) c → Lowly r e.proc s
     → Fine r st r.lives s
     → ((a : ℕ) (life : Life) (b : ActNo) → r.lives a ≡ Some life → life.space ≡ s → life.inside ≡ true → running_of r e.proc ≡ Some b → IsStepOf xs → a ≢ b.0)
     → Fine c now (with_up is_inside_or_urged w r e c (with_step is_inside_or_urged w r e c xs c.lives)) s

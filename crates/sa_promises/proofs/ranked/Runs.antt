@@ -14,7 +14,7 @@ use Rattle.sa_spaces.specs.Workload.{WorkloadView}
 use Rattle.sa_laws.specs.Event.{Event, events_of}
 use Rattle.sa_laws.specs.State.{thread_at, no_threads, opening_state, opening_space}
 use Rattle.sa_laws.specs.Readings.{Readings, opening_readings, life_if, owner_of, line_of, untold_of, space_of_life}
-use Rattle.sa_laws.specs.History.{begun, behind_all, after_event, after_events}
+use Rattle.sa_laws.specs.History.{event_begun, behind_all, after_event, after_events}
 use Rattle.sa_laws.specs.Opening.{opening_records}
 use Rattle.sa_laws.specs.Rules.{IsLawful}
 use Rattle.sa_promises.proofs.lives.Standing.{Standing, Runs, Blocked, Taken, Nowhere, Stopped, Returned, kind, space_in, space_of}
@@ -53,7 +53,7 @@ parts-at w st r e moment law parts = record {
   proc = law.numbered.proc;
   is = parts.is;
   part = parts.part;
-  goes = subst (Goes w e.number e.proc (begun w e r)) parts.is (event-goes w r e law);
+  goes = subst (Goes w e.number e.proc (event_begun w e r)) parts.is (event-goes w r e law);
   closes = parts.closes;
 }
 
@@ -66,7 +66,7 @@ event-fine w st r e moment law from s within fine = whole (in-form w r e law fro
     at : At w st r e parts.first parts.own parts.closing
     at = parts-at w st r e moment law parts
 
-    formed : line_of r e.proc ≡ None → Form RankedStepBy w (begun w e r) e.proc parts.first parts.own
+    formed : line_of r e.proc ≡ None → Form RankedStepBy w (event_begun w e r) e.proc parts.first parts.own
         → FineAfter w st r e (parts.first ∷ (parts.own ++ parts.closing)) s
     formed low (inl turns) =
         up-fine w st r e parts.first parts.own parts.closing at s within turns.0
@@ -89,7 +89,7 @@ event-fine w st r e moment law from s within fine = whole (in-form w r e law fro
         let next = law.interrupt_next.interrupt (ap (λ (o : Option ℕ). is_some o) raised) in
         up-fine w st r e parts.first parts.own parts.closing at s within turn.0
         (λ own. interrupt-fine w st r e parts.first parts.own parts.closing at s within fine turn.1
-        (subst (Rattle.sa_laws.specs.Upcalls.StopsAndGoes e.proc (begun w e r) (owner_of r e.proc)
+        (subst (Rattle.sa_laws.specs.Upcalls.StopsAndGoes e.proc (event_begun w e r) (owner_of r e.proc)
         (Rattle.sa_laws.specs.Readings.aim_of r e.proc)) parts.is next) own)
 
 -- before the opening no thread runs, and no line is raised
@@ -129,8 +129,8 @@ first-fine w e law s =
     let known = begun-known w nowhere_first r e e.records (start w).known in
     let goes = event-goes w r e law in
     let records : e.records ≡ opening_records w = ap (λ (f : Event). f.records) (law.numbered.opening law.numbered.number) in
-    let passes = calm-passes w e.number e.proc s (begun w e r) e.records (subst AreCalm (sym records) (calm-opening w)) in
-    let held = held-all w e.number e.proc nowhere_first (begun w e r) s e.records law.numbered.proc known goes passes (λ telling. absurd (cc)) in
+    let passes = calm-passes w e.number e.proc s (event_begun w e r) e.records (subst AreCalm (sym records) (calm-opening w)) in
+    let held = held-all w e.number e.proc nowhere_first (event_begun w e r) s e.records law.numbered.proc known goes passes (λ telling. absurd (cc)) in
     inr
     (inr (held-none w r e (After w r e e.records) s nowhere_first (standings e.proc nowhere_first e.records) (start w).known.placed held
     (inl (low-in w.processors e.proc.0))
@@ -139,7 +139,7 @@ first-fine w e law s =
 next : (w : WorkloadView) (st : ℕ → Standing) (r : Readings) (e : Event) → Moment w st r → IsLawful prio_threads w r e
     → Moment w (standings e.proc st e.records) (after_event is_inside_or_urged w r e)
 next w st r e moment law =
-    let all = known-all w e.number e.proc st (begun w e r) e.records law.numbered.proc (begun-known w st r e e.records moment.known)
+    let all = known-all w e.number e.proc st (event_begun w e r) e.records law.numbered.proc (begun-known w st r e e.records moment.known)
     (event-goes w r e law) in
     record {
       known = record {

@@ -17,7 +17,7 @@ use Rattle.sa_laws.specs.Life.{Life}
 use Rattle.sa_laws.specs.State.{State, space_at, thread_at}
 use Rattle.sa_laws.specs.Readings.{Readings, running_of, life_on, owner_of, line_of, untold_of, taken_of, demand_of, space_of_life}
 use Rattle.sa_laws.specs.Record.{after_record}
-use Rattle.sa_laws.specs.History.{begun, behind, after_records, is_step, is_up, settles, with_step, with_up}
+use Rattle.sa_laws.specs.History.{event_begun, behind, after_records, is_step, is_up, settles, with_step, with_up}
 use Rattle.sa_laws.specs.Shape.{own_part}
 use Rattle.sa_laws.specs.Step.{AreSteps}
 use Rattle.sa_laws.specs.Upcalls.{EachRecord, StopsAndGoes}
@@ -51,9 +51,9 @@ abbrev pub FineAfter : WorkloadView → (ℕ → Standing) → Readings → Even
 FineAfter w st r e xs s = Fine (After w r e xs) (standings e.proc st xs) (Final w r e xs) s
 
 abbrev PassesAll : WorkloadView → Readings → Event → List Record → SpaceNo → Type 0
-PassesAll w r e xs s = EachRecord (Passing s) w e.number e.proc (begun w e r) xs
+PassesAll w r e xs s = EachRecord (Passing s) w e.number e.proc (event_begun w e r) xs
 
-pub begun-known : (w : WorkloadView) (st : ℕ → Standing) (r : Readings) (e : Event) (xs : List Record) → Known w st r [] → Known w st (begun w e r) xs
+pub begun-known : (w : WorkloadView) (st : ℕ → Standing) (r : Readings) (e : Event) (xs : List Record) → Known w st r [] → Known w st (event_begun w e r) xs
 begun-known w st r e xs known = record {
   apart = apart-begun w st r e xs known.apart;
   shows = shows-begun w st e r known.shows;
@@ -140,44 +140,44 @@ module _ (w : WorkloadView) (st : ℕ → Standing) (r : Readings) (e : Event) (
   abbrev xs : List Record
   xs = x ∷ (ys ++ cs)
 
-  here : Known w st (begun w e r) (x ∷ (ys ++ cs))
+  here : Known w st (event_begun w e r) (x ∷ (ys ++ cs))
   here = begun-known w st r e (x ∷ (ys ++ cs)) at.known
 
   behind-it : Known w (standings e.proc st (x ∷ (ys ++ cs))) (After w r e (x ∷ (ys ++ cs))) []
-  behind-it = known-all w e.number e.proc st (begun w e r) (x ∷ (ys ++ cs)) at.proc here at.goes
+  behind-it = known-all w e.number e.proc st (event_begun w e r) (x ∷ (ys ++ cs)) at.proc here at.goes
 
   settling-it : Settles w r e (After w r e (x ∷ (ys ++ cs))) s
   settling-it =
       let mid = After w r e (x ∷ ys) in
       let c = After w r e (x ∷ (ys ++ cs)) in
-      let placed : IsPlaced w mid.state = places-prefix w e.number e.proc (begun w e r) (x ∷ ys) cs at.proc at.goes.steps at.known.placed in
-      let near : Near mid c = subst (Near mid) (sym (records-append w e.number e.proc (begun w e r) (x ∷ ys) cs))
+      let placed : IsPlaced w mid.state = places-prefix w e.number e.proc (event_begun w e r) (x ∷ ys) cs at.proc at.goes.steps at.known.placed in
+      let near : Near mid c = subst (Near mid) (sym (records-append w e.number e.proc (event_begun w e r) (x ∷ ys) cs))
       (calm-near w e.number e.proc mid cs (closing-calm cs at.closes)) in
       let both = settles-if w s (has_entry e.records) c (behind w e r (own_part e.records)) behind-it.placed
       (subst (λ zs. IsPlaced w (behind w e r zs).state) (sym at.part) placed)
       (subst (λ zs. NoPair (behind w e r zs) s → NoPair c s) (sym at.part) (near-none mid c s near)) in
       record { placed = both.0; late = both.1 }
 
-  passes-on : EachRecord (Passing s) w e.number e.proc (begun w e r) (x ∷ ys) → PassesAll w r e (x ∷ (ys ++ cs)) s
-  passes-on own = passing-append w e.number e.proc s (begun w e r) (x ∷ ys) cs own (closing-calm cs at.closes)
+  passes-on : EachRecord (Passing s) w e.number e.proc (event_begun w e r) (x ∷ ys) → PassesAll w r e (x ∷ (ys ++ cs)) s
+  passes-on own = passing-append w e.number e.proc s (event_begun w e r) (x ∷ ys) cs own (closing-calm cs at.closes)
 
   held-fine : Fine r st r.lives s → Lowly r e.proc s → PassesAll w r e (x ∷ (ys ++ cs)) s
       → ((a : ℕ) (life : Life) (b : ActNo) → r.lives a ≡ Some life → life.space ≡ s → life.inside ≡ true → running_of r e.proc ≡ Some b → is_step x ≡ true
       → a ≢ b.0)
       → FineAfter w st r e (x ∷ (ys ++ cs)) s
   held-fine fine lowly passes spared =
-      let held = held-all w e.number e.proc st (begun w e r) s (x ∷ (ys ++ cs)) at.proc here at.goes passes (λ telling. absurd (cc)) in
+      let held = held-all w e.number e.proc st (event_begun w e r) s (x ∷ (ys ++ cs)) at.proc here at.goes passes (λ telling. absurd (cc)) in
       keep-fine w r e (After w r e (x ∷ (ys ++ cs))) s st (standings e.proc st (x ∷ (ys ++ cs)))
       (x ∷ (ys ++ cs)) at.known.placed settling-it held lowly fine spared
 
   -- a turn with a passage
   pub up-fine : s.0 < length w.spaces → Turning (x ∷ ys)
-      → (EachRecord (Passing s) w e.number e.proc (begun w e r) (x ∷ ys) → FineAfter w st r e (x ∷ (ys ++ cs)) s) → FineAfter w st r e (x ∷ (ys ++ cs)) s
+      → (EachRecord (Passing s) w e.number e.proc (event_begun w e r) (x ∷ ys) → FineAfter w st r e (x ∷ (ys ++ cs)) s) → FineAfter w st r e (x ∷ (ys ++ cs)) s
   up-fine within turning other = elim (turning-cases w e.number e.proc s (x ∷ ys) turning) [
     | inl up ↦
         let len = at.known.shows.running_len in
         let proc = at.proc in
-        let runs = up-runs w e.number e.proc s (begun w e r) (x ∷ ys) cs (omega arith) turning up at.closes in
+        let runs = up-runs w e.number e.proc s (event_begun w e r) (x ∷ ys) cs (omega arith) turning up at.closes in
         let stood = behind-it.apart.agrees.running e.proc runs.0.act runs.0.runs in
         arise-fine is_inside_or_urged w r e (After w r e (x ∷ (ys ++ cs))) s (Free (standings e.proc st (x ∷ (ys ++ cs))))
         (NoPair (After w r e (x ∷ (ys ++ cs))) s)
@@ -185,11 +185,11 @@ module _ (w : WorkloadView) (st : ℕ → Standing) (r : Readings) (e : Event) (
         (urged w r e (After w r e (x ∷ (ys ++ cs))) s settling-it)
         (step-space is_inside_or_urged w r e (After w r e (x ∷ (ys ++ cs))) (x ∷ (ys ++ cs)) (After w r e (x ∷ (ys ++ cs))).lives runs.0.act.0 ∙ runs.0.space)
         (runs-free (standings e.proc st (x ∷ (ys ++ cs))) runs.0.act.0 stood.0 e.proc stood.1) (ap (list_any is_up) at.is ∙ runs.1)
-    | inr each ↦ other (passing-each w e.number e.proc s (begun w e r) (x ∷ ys) (each (begun w e r)))
+    | inr each ↦ other (passing-each w e.number e.proc s (event_begun w e r) (x ∷ ys) (each (event_begun w e r)))
   ]
 
   pub turning-fine : s.0 < length w.spaces → Fine r st r.lives s → line_of r e.proc ≡ None → BlocksFirst x ys
-      → EachRecord (Passing s) w e.number e.proc (begun w e r) (x ∷ ys) → FineAfter w st r e (x ∷ (ys ++ cs)) s
+      → EachRecord (Passing s) w e.number e.proc (event_begun w e r) (x ∷ ys) → FineAfter w st r e (x ∷ (ys ++ cs)) s
   turning-fine within fine low blocks own = one (is_step x) refl (running_of r e.proc) refl where
     one : (b : Bool) → is_step x ≡ b → (o : Option ActNo) → running_of r e.proc ≡ o → FineAfter w st r e (x ∷ (ys ++ cs)) s
     one false none o runs = held-fine fine (inl low) (passes-on own) (λ a life b is of inside other step. absurd (let clash = sym none ∙ step in cc))
@@ -201,7 +201,7 @@ module _ (w : WorkloadView) (st : ℕ → Standing) (r : Readings) (e : Event) (
           | inl same ↦
               let is : space_of_life r (Some a) ≡ Some s = of ∙ ap (λ n. Some (record { 0 = n })) same in
               let untold = at.known.shows.untold_len in
-              inr (inl (blocks-untold w e.number e.proc st (begun w e r) s a x ys cs blocks step runs is (omega arith) here.apart at.goes (passes-on own)))
+              inr (inl (blocks-untold w e.number e.proc st (event_begun w e r) s a x ys cs blocks step runs is (omega arith) here.apart at.goes (passes-on own)))
           | inr apart ↦
               held-fine fine (inl low) (passes-on own)
               (λ n life b is in_it inside other step'. other-life r e.proc a s there.0 runs of apart n life b is in_it other)
@@ -211,25 +211,25 @@ module _ (w : WorkloadView) (st : ℕ → Standing) (r : Readings) (e : Event) (
   calm-fine fine low calm =
       held-fine fine (inl low)
       (passes-on (
-        calm-first s (begun w e r) x ys calm.none calm.quiet,
-        subst (EachRecord (Passing s) w e.number e.proc (after_record w e.number e.proc (begun w e r) x)) (sym calm.alone) tt,
+        calm-first s (event_begun w e r) x ys calm.none calm.quiet,
+        subst (EachRecord (Passing s) w e.number e.proc (after_record w e.number e.proc (event_begun w e r) x)) (sym calm.alone) tt,
       ))
       (λ a life b is of inside other step. absurd (let clash = sym calm.none ∙ step in cc))
 
-  pub other-fine : Fine r st r.lives s → line_of r e.proc ≡ None → (step : StepOf RankedStepBy w (begun w e r) e.proc x ys)
+  pub other-fine : Fine r st r.lives s → line_of r e.proc ≡ None → (step : StepOf RankedStepBy w (event_begun w e r) e.proc x ys)
       → space_of_life r (Some step.act) ≡ Some step.life.space → step.life.space.0 ≢ s.0
       → FineAfter w st r e (x ∷ (ys ++ cs)) s
   other-fine fine low step of apart =
       held-fine fine (inl low) (passes-on own)
       (λ n life b is in_it inside other step'. other-life r e.proc step.act s step.life.space step.runs of apart n life b is in_it other)
     where
-      own : EachRecord (Passing s) w e.number e.proc (begun w e r) (x ∷ ys)
+      own : EachRecord (Passing s) w e.number e.proc (event_begun w e r) (x ∷ ys)
       own =
           step-passes RankedStepBy (Passing s) w st r e s x ys (λ w' r' p a life b zs by. by.all) at.known.apart.agrees at.owned at.goes.steps.0 step of apart
           (λ passes. passes) (λ c xs' each. passing-each w e.number e.proc s c xs' each)
 
   pub same-fine : Fine r st r.lives s → line_of r e.proc ≡ None → BeginsUnurged w r e.proc (x ∷ (ys ++ cs))
-      → (step : StepOf RankedStepBy w (begun w e r) e.proc x ys)
+      → (step : StepOf RankedStepBy w (event_begun w e r) e.proc x ys)
       → r.lives step.act.0 ≡ Some step.life → step.life.space ≡ s
       → FineAfter w st r e (x ∷ (ys ++ cs)) s
   same-fine fine low freely step is of = one (settles r (After w r e (x ∷ (ys ++ cs))) x) refl where
@@ -240,7 +240,7 @@ module _ (w : WorkloadView) (st : ℕ → Standing) (r : Readings) (e : Event) (
     settled settles_it =
         let stood = at.known.apart.agrees.running e.proc step.act step.runs in
         let space : stood.0 ≡ s = same_Some stood.0 s (sym (at.known.apart.agrees.lives step.act ∙ ap space_in stood.1) ∙ there) in
-        let stays_there = quiet-stays w e.number e.proc st (begun w e r) s step.act (x ∷ (ys ++ cs)) at.proc here at.goes
+        let stays_there = quiet-stays w e.number e.proc st (event_begun w e r) s step.act (x ∷ (ys ++ cs)) at.proc here at.goes
         (quiet-append (x ∷ ys) cs step.quiet (closing-quiet cs at.closes))
         (stood.1 ∙ ap (λ k. Runs k e.proc) space) in
         settle-fine is_inside_or_urged w r e (After w r e (x ∷ (ys ++ cs))) s (Free (standings e.proc st (x ∷ (ys ++ cs))))
@@ -258,11 +258,11 @@ module _ (w : WorkloadView) (st : ℕ → Standing) (r : Readings) (e : Event) (
     bound : ((rest : List Record) (k : Readings) → Passing s k x rest) → ((life : Life) → is_bound r life x ≡ true) → AllOut ys
         → FineAfter w st r e (x ∷ (ys ++ cs)) s
     bound pass binds outs =
-        let own : EachRecord (Passing s) w e.number e.proc (begun w e r)
+        let own : EachRecord (Passing s) w e.number e.proc (event_begun w e r)
         (x ∷ ys) = (
-          pass ys (begun w e r),
-          passing-each w e.number e.proc s (after_record w e.number e.proc (begun w e r) x) ys
-              (out-pass w e.number e.proc s (after_record w e.number e.proc (begun w e r) x) ys outs),
+          pass ys (event_begun w e r),
+          passing-each w e.number e.proc s (after_record w e.number e.proc (event_begun w e r) x) ys
+              (out-pass w e.number e.proc s (after_record w e.number e.proc (event_begun w e r) x) ys outs),
         ) in
         let free : IsUnurged w r step.life x = subst (λ o. IsUnurgedIf true w r o x) step.on
         (subst (λ k. IsUnurgedIf k w r (life_on r e.proc) x) step.step freely) in
@@ -274,7 +274,7 @@ module _ (w : WorkloadView) (st : ℕ → Standing) (r : Readings) (e : Event) (
             let life_is : life ≡ step.life = same_Some life step.life (sym is_it ∙ ap r.lives (same ∙ ap (λ (k : ActNo). k.0) act) ∙ is) in
             let clash : true ≡ false = sym inside ∙ ap (λ (k : Life). k.inside) life_is ∙ outside in cc)
         three passes (inr none) =
-            let held = held-all w e.number e.proc st (begun w e r) s (x ∷ (ys ++ cs)) at.proc here at.goes passes (λ telling. absurd (cc)) in
+            let held = held-all w e.number e.proc st (event_begun w e r) s (x ∷ (ys ++ cs)) at.proc here at.goes passes (λ telling. absurd (cc)) in
             inr (inr (held-none w r e (After w r e (x ∷ (ys ++ cs))) s st (standings e.proc st (x ∷ (ys ++ cs))) at.known.placed held (inl low)
             (no-pair w r s at.known.placed (subst (λ k. has_pair w r k ≡ false) of none))))
 
@@ -284,26 +284,26 @@ module _ (w : WorkloadView) (st : ℕ → Standing) (r : Readings) (e : Event) (
 
   -- an interrupt
   pub interrupt-fine : s.0 < length w.spaces → Fine r st r.lives s → is_step x ≡ false
-      → StopsAndGoes e.proc (begun w e r) (owner_of r e.proc) (Rattle.sa_laws.specs.Readings.aim_of r e.proc) (x ∷ (ys ++ cs))
-      → EachRecord (Passing s) w e.number e.proc (begun w e r) (x ∷ ys) → FineAfter w st r e (x ∷ (ys ++ cs)) s
+      → StopsAndGoes e.proc (event_begun w e r) (owner_of r e.proc) (Rattle.sa_laws.specs.Readings.aim_of r e.proc) (x ∷ (ys ++ cs))
+      → EachRecord (Passing s) w e.number e.proc (event_begun w e r) (x ∷ ys) → FineAfter w st r e (x ∷ (ys ++ cs)) s
   interrupt-fine within fine none stops own = one (owner_of r e.proc) refl stops where
     spared : (a : ℕ) (life : Life) (b : ActNo) → r.lives a ≡ Some life → life.space ≡ s → life.inside ≡ true → running_of r e.proc ≡ Some b → is_step x ≡ true
         → a ≢ b.0
     spared a life b is of inside other step = absurd (let clash = sym none ∙ step in cc)
 
     stopped : (y : Record) → x ≡ y → (o : SpaceNo) → o ≡ s
-        → StopsAndGoes e.proc (begun w e r) (Some o) (Rattle.sa_laws.specs.Readings.aim_of r e.proc) (y ∷ (ys ++ cs)) → FineAfter w st r e (x ∷ (ys ++ cs)) s
+        → StopsAndGoes e.proc (event_begun w e r) (Some o) (Rattle.sa_laws.specs.Readings.aim_of r e.proc) (y ∷ (ys ++ cs)) → FineAfter w st r e (x ∷ (ys ++ cs)) s
     stopped (Stop u t a) same o of is =
         let untold = at.known.shows.untold_len in
-        let has : Contains (untold_of (after_record w e.number e.proc (begun w e r) x) s) (note.Preempted a) =
-        subst (λ y. Contains (untold_of (after_record w e.number e.proc (begun w e r) y) s) (note.Preempted a)) (sym same)
-        (note-has (begun w e r) s u (note.Preempted a) (is.0 ∙ of) (omega arith)) in
+        let has : Contains (untold_of (after_record w e.number e.proc (event_begun w e r) x) s) (note.Preempted a) =
+        subst (λ y. Contains (untold_of (after_record w e.number e.proc (event_begun w e r) y) s) (note.Preempted a)) (sym same)
+        (note-has (event_begun w e r) s u (note.Preempted a) (is.0 ∙ of) (omega arith)) in
         inr
-        (inl (noted-end w e.number e.proc st (begun w e r) s x (ys ++ cs) (note.Preempted a) refl (ap (λ y. is_telling (Some y)) same) has here.apart at.goes
+        (inl (noted-end w e.number e.proc st (event_begun w e r) s x (ys ++ cs) (note.Preempted a) refl (ap (λ y. is_telling (Some y)) same) has here.apart at.goes
         (passes-on own)))
     stopped y same o of is = absurd is
 
-    one : (o : Option SpaceNo) → owner_of r e.proc ≡ o → StopsAndGoes e.proc (begun w e r) o (Rattle.sa_laws.specs.Readings.aim_of r e.proc) (x ∷ (ys ++ cs))
+    one : (o : Option SpaceNo) → owner_of r e.proc ≡ o → StopsAndGoes e.proc (event_begun w e r) o (Rattle.sa_laws.specs.Readings.aim_of r e.proc) (x ∷ (ys ++ cs))
         → FineAfter w st r e (x ∷ (ys ++ cs)) s
     one None owner is = held-fine fine (inr (λ owned. none-some s (sym owner ∙ owned))) (passes-on own) spared
     one (Some o) owner is = elim (cases_eq o.0 s.0) [

@@ -12,7 +12,7 @@ use Rattle.sa_laws.specs.Event.{Event, items_of}
 use Rattle.sa_laws.specs.Life.{Life}
 use Rattle.sa_laws.specs.Readings.{Readings, running_of, demand_of}
 use Rattle.sa_laws.specs.Record.{with_life}
-use Rattle.sa_laws.specs.History.{Test, begun, behind_all, ended, after_event, is_step, is_up, is_free, settles, scans_after, stepped, arisen, with_step, with_up}
+use Rattle.sa_laws.specs.History.{Test, event_begun, behind_all, ended, after_event, is_step, is_up, is_free, settles, scans_after, stepped, arisen, with_step, with_up}
 use Rattle.sa_laws.specs.Rules.{UserRules, IsLawful}
 use Rattle.sa_promises.specs.Needs.{HasForms, AsFast}
 use Rattle.sa_laws.proofs.Records.{items-push}
@@ -155,7 +155,7 @@ in-next test fast w past r e has known within said =
     (keep-step test in_hand w r e after after.lives _ e.records (λ x l. refl) read.hands)
     (keep-step test open_cont w r e after after.lives _ e.records (λ x l. refl) read.conts)
     (keep-step test at_home w r e after after.lives _ e.records (λ x l. refl) read.homes) in
-    let renewed_said = untouched-records in_now false (Some false) w e.number e.proc (begun w e r) e.records has in-untouched said in
+    let renewed_said = untouched-records in_now false (Some false) w e.number e.proc (event_begun w e r) e.records has in-untouched said in
     let stepped_said = step-set test w now past r e after (stepping past e) after.lives (renewed false (Some false) e.records has) e.records known.own
     (λ first others is a life at.
     let here = first_has a life at in
@@ -177,7 +177,7 @@ scans-next test w past r e has known said =
     (with_step test w r e after e.records after.lives) _ (λ l. refl)
     (step-said test scanned (scans_by past e.records) w r e after (stepping past e) after.lives (renewed 0 None e.records has) e.records known.own
     (λ first others is l. scans-same past r first others (known.wants first others is) l.scans ∙ ap (λ xs. scans_by past xs l.scans) (sym is))
-    (untouched-records scanned 0 None w e.number e.proc (begun w e r) e.records has scanned-untouched said))
+    (untouched-records scanned 0 None w e.number e.proc (event_begun w e r) e.records has scanned-untouched said))
 
 freed-next : (test : Test) → (w : WorkloadView) (past : List Item) (r : Readings) (e : Event) (has : ℕ → Bool) → IsEventAt w past r e
     → Said was_freed r.lives has
@@ -189,7 +189,7 @@ freed-next test w past r e has known said =
     (with_step test w r e after e.records after.lives) _ (λ l. refl)
     (step-said test was_freed (λ old. is_free_event e.records) w r e after (stepping past e) after.lives (renewed false None e.records has) e.records known.own
     (λ first others is l. free-same first others ∙ ap is_free_event (sym is))
-    (untouched-records was_freed false None w e.number e.proc (begun w e r) e.records has freed-untouched said))
+    (untouched-records was_freed false None w e.number e.proc (event_begun w e r) e.records has freed-untouched said))
 
 idle-next : (test : Test) → (w : WorkloadView) (r : Readings) (e : Event) (ins has : ℕ → Bool) → Said in_now r.lives ins → Said idle_then r.lives has
     → Said idle_then (ended test w r e (behind_all w e r)).lives (idle_behind ins e.records has)
@@ -197,7 +197,7 @@ idle-next test w r e ins has within said =
     let after = behind_all w e r in
     said-if idle_then (list_any is_up e.records) (arisen test w r e after) (running_of after e.proc)
     (with_step test w r e after e.records after.lives) _ (λ l. refl)
-    (keep-step test idle_then w r e after after.lives _ e.records (λ x l. refl) (idle-records w e.number e.proc (begun w e r) e.records ins has within said))
+    (keep-step test idle_then w r e after after.lives _ e.records (λ x l. refl) (idle-records w e.number e.proc (event_begun w e r) e.records ins has within said))
 
 pub said-next : (rules : UserRules) → HasForms rules → (w : WorkloadView) (es : List Event) (r : Readings) (e : Event) → IsSaidAt rules.inside w es r
     → IsLawful rules w r e

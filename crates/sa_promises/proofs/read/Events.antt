@@ -21,7 +21,7 @@ use Rattle.sa_laws.specs.Event.{Event, items_of}
 use Rattle.sa_laws.specs.State.{opening_space, no_space}
 use Rattle.sa_laws.specs.Readings.{Readings, opening_readings, first_listed}
 use Rattle.sa_laws.specs.Record.{after_record}
-use Rattle.sa_laws.specs.History.{Test, begun, ended, stepped, arisen, is_step, is_up, with_step, after_records, after_event, after_events, behind_all}
+use Rattle.sa_laws.specs.History.{Test, event_begun, ended, stepped, arisen, is_step, is_up, with_step, after_records, after_event, after_events, behind_all}
 use Rattle.sa_laws.specs.Upcalls.{EachRecord}
 use Rattle.sa_laws.specs.Rules.{UserRules, IsLawful}
 use Rattle.sa_promises.specs.Needs.{HasForms}
@@ -68,7 +68,7 @@ small-evicts : (w : WorkloadView) → IsWorkload w → All IsSmall w.evictions
 small-evicts w ok = All-weaker (IsEviction (length w.spaces)) IsSmall (λ e is. let page = is.page in omega arith) w.evictions ok.evictions
 
 pub read-begins : (w : WorkloadView) (past : List Item) (r : Readings) (e : Event) → e.number ≡ r.number → IsReadAt w past r
-    → IsReadIn w e.number e.proc past (begun w e r)
+    → IsReadIn w e.number e.proc past (event_begun w e r)
 read-begins w past r e number at =
     let read = at.read in
     let until : Until past e.number = subst (Until past) (sym number) at.until in
@@ -102,7 +102,7 @@ read-begins w past r e number at =
         taken = read.taken;
         ready = read.ready;
         all_taken = read.all_taken;
-        begun = read.begun;
+        io_count = read.io_count;
         ios = read.ios;
       };
       last = sym (last-late past e.number until);
@@ -164,7 +164,7 @@ read-ends test w past before e r number ends inv =
         taken = read.taken;
         ready = read.ready;
         all_taken = read.all_taken;
-        begun = read.begun;
+        io_count = read.io_count;
         ios = read.ios;
       };
       until = λ k y there. let early = inv.until k y there in omega arith;
@@ -205,14 +205,14 @@ pub read-event : (rules : UserRules) → HasForms rules → (w : WorkloadView) (
     → IsReadIn w e.number e.proc (past ++ items_at e.number e.proc e.records) (behind_all w e r)
 read-event rules meets w past r e at law =
     let begins = read-begins w past r e law.numbered.number at in
-    read-records w e.number e.proc past (begun w e r) e.records begins (known-event rules meets w r e begins.read.sized law)
+    read-records w e.number e.proc past (event_begun w e r) e.records begins (known-event rules meets w r e begins.read.sized law)
 
 pub read-next : (rules : UserRules) → HasForms rules → (w : WorkloadView) (past : List Item) (r : Readings) (e : Event) → IsReadAt w past r
     → IsLawful rules w r e
     → IsReadAt w (past ++ items_at e.number e.proc e.records) (after_event rules.inside w r e)
 read-next rules meets w past r e at law =
     read-ends rules.inside w (past ++ items_at e.number e.proc e.records) r e (behind_all w e r)
-    (number-kept w e.number e.proc (begun w e r) e.records ∙ sym law.numbered.number)
+    (number-kept w e.number e.proc (event_begun w e r) e.records ∙ sym law.numbered.number)
     (ends-event e past law.numbered.some) (read-event rules meets w past r e at law)
 
 -- before any event
@@ -255,7 +255,7 @@ read-start w = record {
     taken = λ s below. all-same (length w.spaces) s.0 [];
     ready = λ s below. get_or-replicate (length w.spaces) s.0 (first_listed ∷ []) [] below;
     all_taken = λ a home is taken. absurd (none-some home is);
-    begun = refl;
+    io_count = refl;
     ios = refl;
   };
   until = λ k y at. absurd (none-some y at);

@@ -17,7 +17,7 @@ use Rattle.sa_laws.specs.State.{State, Runner, runner_on, space_at, thread_at}
 use Rattle.sa_laws.specs.Life.{Life, has_lock, some_lock}
 use Rattle.sa_laws.specs.Readings.{Readings, demand_of, usable, counts, taken_of}
 use Rattle.sa_laws.specs.Record.{with_life}
-use Rattle.sa_laws.specs.History.{settles, goes_on, is_inside}
+use Rattle.sa_laws.specs.History.{settles, is_running_or_blocked, is_inside}
 use Rattle.sa_promises.specs.Words.{last_want}
 use Rattle.sa_promises.specs.Moments.{Home, machine_of, home_of}
 use Rattle.sa_promises.specs.Loads.{load_in}
@@ -108,7 +108,7 @@ test-same w now before r e settled a life read within has =
 -- what settles
 pub settles-same : (w : WorkloadView) (past now : List Item) (before after : Readings) (first : Record) → after.state ≡ machine_of w now
     → ((s : SpaceNo) (n : ℕ) → first ≡ Want s n → demand_of before s ≡ last_want past s) → settles before after first ≡ settles_by w past now first
-settles-same w past now before after (Ins s t i) state wants = ap (λ (k : State). not (goes_on (thread_at k s t).place)) state
+settles-same w past now before after (Ins s t i) state wants = ap (λ (k : State). not (is_running_or_blocked (thread_at k s t).place)) state
 settles-same w past now before after (Want s n) state wants = ap (λ d. not (nat_lt n d)) (wants s n refl)
 settles-same w past now before after Idle state wants = refl
 settles-same w past now before after (Block s t a io) state wants = refl

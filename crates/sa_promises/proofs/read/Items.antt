@@ -77,7 +77,7 @@ pub record IsRead (w : WorkloadView) (past : List Item) (r : Readings) : Type 0 
   pub taken : (s : SpaceNo) → s.0 < length w.spaces → taken_of r s ≡ taken_in past s
   pub ready : (s : SpaceNo) → s.0 < length w.spaces → ready_of r s ≡ ready_in w past s
   pub all_taken : TakenAll past
-  pub begun : r.begun ≡ ios_begun past
+  pub io_count : r.io_count ≡ ios_begun past
   pub ios : r.under_way ≡ ios_of w past
 
 -- what is read within event e of processor p
@@ -307,9 +307,9 @@ read-after w e p past r x rest inv known =
           λ s below. ready-more w p past r x s (ready_in w past s) (omega arith) (read.ready s below) (first-same w past p r read)
           ∙ sym (along-more (ready_at w s) _ past y);
       all_taken = taken-all-step past e p x read.all_taken;
-      begun = begun-more r.begun x ∙ ap (λ n. n + (if begins_io x then 1 else 0)) read.begun ∙ sym (ios-more past y);
+      io_count = begun-more r.io_count x ∙ ap (λ n. n + (if begins_io x then 1 else 0)) read.io_count ∙ sym (ios-more past y);
       ios =
-          under-more w r past e x (ios_of w past) read.ios read.begun read.state inv.last (blocks-with w past r x read names)
+          under-more w r past e x (ios_of w past) read.ios read.io_count read.state inv.last (blocks-with w past r x read names)
           ∙ sym (along-more (ios_at w) [] past y);
     }
 

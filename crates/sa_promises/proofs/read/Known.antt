@@ -20,7 +20,7 @@ use Rattle.sa_laws.specs.Event.{Event}
 use Rattle.sa_laws.specs.Life.{Life}
 use Rattle.sa_laws.specs.Readings.{Readings, opening_readings, demand_of, load_of, untold_of, untold_thread, owner_of, running_of, life_on, line_of}
 use Rattle.sa_laws.specs.Record.{after_record}
-use Rattle.sa_laws.specs.History.{begun, after_records}
+use Rattle.sa_laws.specs.History.{event_begun, after_records}
 use Rattle.sa_laws.specs.Shape.{own_part, is_own}
 use Rattle.sa_laws.specs.Turns.{IsTurn, IsTurnWhileDue, IsTickOrStep, IsOver}
 use Rattle.sa_laws.specs.Upcalls.{EachRecord, RaisesLine}
@@ -96,7 +96,7 @@ wants-first k (suc m) e lines cs s n others is =
     let number = ap (λ (t : SpaceNo). t.0) same in omega arith
 
 pub first-want : (rules : UserRules) → HasForms rules → (w : WorkloadView) (r : Readings) (e : Event) (s : SpaceNo) (n : ℕ) (others : List Record)
-    → IsSized w (begun w e r)
+    → IsSized w (event_begun w e r)
     → IsLawful rules w r e
     → e.records ≡ Want s n ∷ others → s.0 < length w.spaces
 first-want rules meets w r e s n others sized law is = one e.number refl where
@@ -108,8 +108,8 @@ first-want rules meets w r e s n others sized law is = one e.number refl where
   one (suc k) at =
       let later : 1 ≤ e.number = omega arith in
       let turns = meets.formed w r e law in
-      want-turn w (begun w e r) e.proc e.number (is_some (line_of r e.proc)) s n (take_while is_own others) sized
-      (subst (λ xs. IsTurn IsFormed (is_some (line_of r e.proc)) e.number w (begun w e r) e.proc (own_part xs)) is (turns.turn later))
+      want-turn w (event_begun w e r) e.proc e.number (is_some (line_of r e.proc)) s n (take_while is_own others) sized
+      (subst (λ xs. IsTurn IsFormed (is_some (line_of r e.proc)) e.number w (event_begun w e r) e.proc (own_part xs)) is (turns.turn later))
 
 -- each record
 want-known : (w : WorkloadView) (r : Readings) (x : Record) → (r.last ≡ None → (s : SpaceNo) (n : ℕ) → x ≡ Want s n → s.0 < length w.spaces) → WantKnown w r x
@@ -131,8 +131,8 @@ known-each w e p r (x ∷ xs) within first moves takes raises = (
   known-each w e p (after_record w e p r x) xs within (λ none. absurd (none-some x (sym none))) moves.1 takes.1 raises.1,
 )
 
-pub known-event : (rules : UserRules) → HasForms rules → (w : WorkloadView) (r : Readings) (e : Event) → IsSized w (begun w e r) → IsLawful rules w r e
-    → EachRecord (Known w e.proc) w e.number e.proc (begun w e r) e.records
+pub known-event : (rules : UserRules) → HasForms rules → (w : WorkloadView) (r : Readings) (e : Event) → IsSized w (event_begun w e r) → IsLawful rules w r e
+    → EachRecord (Known w e.proc) w e.number e.proc (event_begun w e r) e.records
 known-event rules meets w r e sized law =
-    known-each w e.number e.proc (begun w e r) e.records law.numbered.proc (λ none s n others is. first-want rules meets w r e s n others sized law is)
+    known-each w e.number e.proc (event_begun w e r) e.records law.numbered.proc (λ none s n others is. first-want rules meets w r e s n others sized law is)
     (lawful-moves rules meets.tells w r e law) (meets.own w r e law) law.line_cause.heard

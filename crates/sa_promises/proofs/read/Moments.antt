@@ -114,7 +114,7 @@ legal-taken rules meets w items legal n = let after = legal-after rules meets w 
 }
 
 pub legal-ios : (rules : UserRules) → HasForms rules → (w : WorkloadView) (items : List Item) → IsLegal rules w items → AreRead rules (IosAreRead w) w items
-legal-ios rules meets w items legal n = let read = (legal-after rules meets w items legal n).said.at.read in record { begun = read.begun; under_way = read.ios }
+legal-ios rules meets w items legal n = let read = (legal-after rules meets w items legal n).said.at.read in record { io_count = read.io_count; under_way = read.ios }
 
 pub legal-pages : (rules : UserRules) → HasForms rules → (w : WorkloadView) (items : List Item) → IsWorkload w → IsLegal rules w items
     → AreRead rules (PagesAreRead w) w items

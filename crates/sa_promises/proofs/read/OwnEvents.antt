@@ -16,7 +16,7 @@ use Rattle.sa_devices.specs.Ios.{Io, due_of}
 use Rattle.sa_laws.specs.Event.{Event}
 use Rattle.sa_laws.specs.Life.{Life}
 use Rattle.sa_laws.specs.Readings.{Readings, running_of, life_of, owner_of, aim_of, line_of, life_on, space_of_life}
-use Rattle.sa_laws.specs.History.{begun, is_step}
+use Rattle.sa_laws.specs.History.{event_begun, is_step}
 use Rattle.sa_laws.specs.Shape.{own_part, is_own}
 use Rattle.sa_laws.specs.Turns.{IsTurn, IsTurnWhileDue, IsTickOrStep, IsOver, IsLocalIns}
 use Rattle.sa_laws.specs.Upcalls.{StopsAndGoes}
@@ -111,19 +111,19 @@ no-odd rules meets w r e a life x others law owned later runs is records odd = o
   owner : owner_of r e.proc ≡ Some life.space
   owner = owner-runs r e.proc owned ∙ ap (space_of_life r) runs ∙ has-space (life_of r a) life is
 
-  stops : StopsAndGoes e.proc (begun w e r) (owner_of r e.proc) (aim_of r e.proc) e.records → ⊥
-  stops goes = odd-interrupt e.proc (begun w e r) life.space (aim_of r e.proc) x others odd
-      (subst (λ xs. StopsAndGoes e.proc (begun w e r) (Some life.space) (aim_of r e.proc) xs) records
-      (subst (λ k. StopsAndGoes e.proc (begun w e r) k (aim_of r e.proc) e.records) owner goes))
+  stops : StopsAndGoes e.proc (event_begun w e r) (owner_of r e.proc) (aim_of r e.proc) e.records → ⊥
+  stops goes = odd-interrupt e.proc (event_begun w e r) life.space (aim_of r e.proc) x others odd
+      (subst (λ xs. StopsAndGoes e.proc (event_begun w e r) (Some life.space) (aim_of r e.proc) xs) records
+      (subst (λ k. StopsAndGoes e.proc (event_begun w e r) k (aim_of r e.proc) e.records) owner goes))
 
-  turns : IsTurn IsFormed (is_some (line_of r e.proc)) e.number w (begun w e r) e.proc (own_part (x ∷ others))
-  turns = subst (λ xs. IsTurn IsFormed (is_some (line_of r e.proc)) e.number w (begun w e r) e.proc (own_part xs)) records ((meets.formed w r e law).turn later)
+  turns : IsTurn IsFormed (is_some (line_of r e.proc)) e.number w (event_begun w e r) e.proc (own_part (x ∷ others))
+  turns = subst (λ xs. IsTurn IsFormed (is_some (line_of r e.proc)) e.number w (event_begun w e r) e.proc (own_part xs)) records ((meets.formed w r e law).turn later)
 
   one : (b : Bool) → is_some (line_of r e.proc) ≡ b → ⊥
   one true raised = stops (law.interrupt_next.interrupt raised)
   one false low =
-      odd-turn w (begun w e r) e.proc e.number life.space x (take_while is_own others) odd owner
-      (subst (λ b. IsTurn IsFormed b e.number w (begun w e r) e.proc (own_part (x ∷ others))) low turns)
+      odd-turn w (event_begun w e r) e.proc e.number life.space x (take_while is_own others) odd owner
+      (subst (λ b. IsTurn IsFormed b e.number w (event_begun w e r) e.proc (own_part (x ∷ others))) low turns)
 
 -- a step is what is neither an interrupt nor a completion
 step-or : (x : Record) (others : List Record) → (is_odd x ≡ true → ⊥) → is_step x ≡ not (begins_otherwise (x ∷ others))

@@ -159,16 +159,16 @@ abbrev pub BlocksWith : WorkloadView → Readings → List Item → Record → T
 BlocksWith w r past (Block s t a io) = locks_one (life_of r a) ≡ some_lock (locks_of w past a)
 BlocksWith w r past _ = Unit {0}
 
-pub under-more : (w : WorkloadView) (r : Readings) (past : List Item) (e : ℕ) (x : Record) (ios : List Io) → r.under_way ≡ ios → r.begun ≡ ios_begun past
+pub under-more : (w : WorkloadView) (r : Readings) (past : List Item) (e : ℕ) (x : Record) (ios : List Io) → r.under_way ≡ ios → r.io_count ≡ ios_begun past
     → r.state ≡ machine_of w past
     → r.last ≡ directly_before e past → BlocksWith w r past x → under_way_after w e r x ≡ ios_by w past ios e x
-under-more w r past e (Block s t a io) ios is begun state last locks =
+under-more w r past e (Block s t a io) ios is io_count state last locks =
     ap (λ b. with_io e b r) (block-same w r past e s t a state last locks)
-    ∙ ap (λ (n : ℕ). r.under_way ++ record { number = n; ends = e + (block_for w past e s t a).length; kind = (block_for w past e s t a).kind } ∷ []) begun
+    ∙ ap (λ (n : ℕ). r.under_way ++ record { number = n; ends = e + (block_for w past e s t a).length; kind = (block_for w past e s t a).kind } ∷ []) io_count
     ∙ ap (λ us. us ++ io_from past e (block_for w past e s t a) ∷ []) is
-under-more w r past e (Fetch s) ios is begun state last locks =
-    ap (λ (n : ℕ). r.under_way ++ record { number = n; ends = e + w.fetch; kind = Upcall s } ∷ []) begun
+under-more w r past e (Fetch s) ios is io_count state last locks =
+    ap (λ (n : ℕ). r.under_way ++ record { number = n; ends = e + w.fetch; kind = Upcall s } ∷ []) io_count
     ∙ ap (λ us. us ++ io_from past e (record { kind = Upcall s; length = w.fetch }) ∷ []) is
-under-more w r past e (Unblock s t a) ios is begun state last locks = ap (filter (is_io_of_other a)) is
-under-more w r past e (Fetched s) ios is begun state last locks = ap (filter (fetches_other s)) is
-under-more w r past e x ios is begun state last locks = is
+under-more w r past e (Unblock s t a) ios is io_count state last locks = ap (filter (is_io_of_other a)) is
+under-more w r past e (Fetched s) ios is io_count state last locks = ap (filter (fetches_other s)) is
+under-more w r past e x ios is io_count state last locks = is

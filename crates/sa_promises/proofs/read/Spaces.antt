@@ -26,7 +26,7 @@ use Rattle.sa_laws.specs.Event.{Event}
 use Rattle.sa_laws.specs.Life.{Life}
 use Rattle.sa_laws.specs.Readings.{Readings, opening_readings, owner_of, aim_of, line_of, running_of, life_on, untold_of, taken_of}
 use Rattle.sa_laws.specs.Record.{after_record}
-use Rattle.sa_laws.specs.History.{begun, after_records}
+use Rattle.sa_laws.specs.History.{event_begun, after_records}
 use Rattle.sa_laws.specs.Shape.{own_part, closing_part, is_own, aims_in, is_of_leave, BeginsWithUp}
 use Rattle.sa_laws.specs.Turns.{AreRaising, IsClosing, AreTold, IsFetchOrNothing, IsPassage, IsInterrupt, IsOver, IsOut, IsBlock, IsInsOf, IsTickOrStep, IsTurnWhileDue, IsTurn}
 use Rattle.sa_laws.specs.Upcalls.{EachRecord, TellsAll, TellsAllThen, GivesUpcallThen, GoesOn, GoesTo, GoesToAim, StopsAndGoes, is_moved_to}
@@ -196,7 +196,7 @@ io-moves n w e p r xs (Block s t a io ∷ rest) same is gives =
     let parts : rest ≡ take_while is_own whole.0 =
     ap (λ (zs : List Record). drop 1 zs) (sym same ∙ ap (take_while is_own) whole.1 ∙ while-more is_own (Block s t a io) whole.0 refl) in
     let law : EachRecord (GivesUpcallThen p) w e p r (Block s t a io ∷ whole.0) = subst (EachRecord (GivesUpcallThen p) w e p r) whole.1 gives in
-    subst (EachMove n) (sym parts) (block-moves n _ p r s whole.0 law.0.goes_on (subst IsPassage parts is))
+    subst (EachMove n) (sym parts) (block-moves n _ p r s whole.0 law.0.follows (subst IsPassage parts is))
 io-moves n w e p r xs zs same is gives = absurd (is)
 
 out-moves : (n : ℕ) (xs : List Record) → IsOut xs → EachMove n xs
@@ -214,7 +214,7 @@ step-moves : (n : ℕ) (w : WorkloadView) (e : ℕ) (p : ProcNo) (r : Readings) 
     → FormedBy w r p a life x (take_while is_own xs)
     → EachRecord (GivesUpcallThen p) w e p r (x ∷ xs) → EachMove n (x ∷ take_while is_own xs)
 step-moves n w e p r a life (Ins s t i) xs is gives = ins-moves n w e p (after_record w e p r (Ins s t i)) _ xs is gives.1
-step-moves n w e p r a life (Block s t b io) xs is gives = block-moves n _ p r s xs gives.0.goes_on is
+step-moves n w e p r a life (Block s t b io) xs is gives = block-moves n _ p r s xs gives.0.follows is
 step-moves n w e p r a life (Want s m) xs is gives = none-moves n (Want s m) _ tt is.0
 step-moves n w e p r a life (GiveBack b) xs is gives = subst (EachMove n) (sym is) (given-moves n (taken_of r life.space))
 step-moves n w e p r a life (Run s t) xs is gives = none-moves n (Run s t) _ tt is
@@ -266,19 +266,19 @@ event-moves rules meets w r e law below = one e.number refl where
   later from (x ∷ xs) is =
       let turns = meets.formed w r e law in
       let whole : own_part (x ∷ xs) ++ closing_part (x ∷ xs) ≡ x ∷ xs = ap (λ ys. x ∷ ys) (parts-take (prefix_len is_own xs) xs) in
-      let gives = subst (EachRecord (GivesUpcallThen e.proc) w e.number e.proc (begun w e r)) is law.upcall_given.blocks in
-      let turn = subst (λ ys. IsTurn IsFormed (is_some (line_of r e.proc)) e.number w (begun w e r) e.proc (own_part ys)) is (turns.turn from) in
+      let gives = subst (EachRecord (GivesUpcallThen e.proc) w e.number e.proc (event_begun w e r)) is law.upcall_given.blocks in
+      let turn = subst (λ ys. IsTurn IsFormed (is_some (line_of r e.proc)) e.number w (event_begun w e r) e.proc (own_part ys)) is (turns.turn from) in
       let closing = subst (λ ys. IsClosing (closing_part ys)) is (turns.closing from) in
       subst (EachMove (length w.spaces)) whole
       (move-append (length w.spaces) (own_part (x ∷ xs)) (closing_part (x ∷ xs)) (own (is_some (line_of r e.proc)) refl turn gives)
       (move-closing (length w.spaces) (closing_part (x ∷ xs)) closing))
     where
-      own : (b : Bool) → is_some (line_of r e.proc) ≡ b → IsTurn IsFormed b e.number w (begun w e r) e.proc (own_part (x ∷ xs))
-          → EachRecord (GivesUpcallThen e.proc) w e.number e.proc (begun w e r) (x ∷ xs) → EachMove (length w.spaces) (own_part (x ∷ xs))
+      own : (b : Bool) → is_some (line_of r e.proc) ≡ b → IsTurn IsFormed b e.number w (event_begun w e r) e.proc (own_part (x ∷ xs))
+          → EachRecord (GivesUpcallThen e.proc) w e.number e.proc (event_begun w e r) (x ∷ xs) → EachMove (length w.spaces) (own_part (x ∷ xs))
       own true raised turn' gives' =
-          interrupt-moves (length w.spaces) e.proc (begun w e r) (owner_of r e.proc) (aim_of r e.proc) x xs
-          (subst (StopsAndGoes e.proc (begun w e r) (owner_of r e.proc) (aim_of r e.proc)) is (law.interrupt_next.interrupt raised)) below turn'
-      own false low turn' gives' = turn-moves (length w.spaces) w e.number e.proc (begun w e r) x xs turn' gives'
+          interrupt-moves (length w.spaces) e.proc (event_begun w e r) (owner_of r e.proc) (aim_of r e.proc) x xs
+          (subst (StopsAndGoes e.proc (event_begun w e r) (owner_of r e.proc) (aim_of r e.proc)) is (law.interrupt_next.interrupt raised)) below turn'
+      own false low turn' gives' = turn-moves (length w.spaces) w e.number e.proc (event_begun w e r) x xs turn' gives'
 
   one : (k : ℕ) → e.number ≡ k → EachMove (length w.spaces) e.records
   one zero at =
@@ -431,11 +431,11 @@ range-records w e p past r (x ∷ xs) inv all =
     (range-records w e p (past ++ item e p x ∷ []) (after_record w e p r x) xs (range-step w e p past r x inv all.0) all.1)
 
 pub range-event : (rules : UserRules) → HasForms rules → (w : WorkloadView) (past : List Item) (r : Readings) (e : Event) → IsInRange w past r
-    → IsSized w (begun w e r) → IsLawful rules w r e
+    → IsSized w (event_begun w e r) → IsLawful rules w r e
     → IsInRange w (past ++ items_at e.number e.proc e.records) (Rattle.sa_laws.specs.History.behind_all w e r)
 range-event rules meets w past r e inv sized law =
-    range-records w e.number e.proc past (begun w e r) e.records (record { homes = inv.homes; aims = inv.aims })
-    (ranged-each w e.number e.proc (begun w e r) e.records sized (λ s is. absurd (none-some s is)) (event-moves rules meets w r e law (λ s is. inv.aims e.proc s is))
+    range-records w e.number e.proc past (event_begun w e r) e.records (record { homes = inv.homes; aims = inv.aims })
+    (ranged-each w e.number e.proc (event_begun w e r) e.records sized (λ s is. absurd (none-some s is)) (event-moves rules meets w r e law (λ s is. inv.aims e.proc s is))
     (event-aims rules w r e law) law.all_told.told)
 
 absent : (n k : ℕ) (s : SpaceNo) → get_or (replicate n None) k None ≡ Some s → ⊥

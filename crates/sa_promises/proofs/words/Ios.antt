@@ -11,7 +11,7 @@ use Rattle.sa_base.specs.declared.record.Record.TheVariants.{Block, Fetch}
 use Rattle.sa_base.specs.declared.record.Item.{Item}
 use Rattle.sa_spaces.specs.Workload.{WorkloadView}
 use Rattle.sa_laws.specs.Readings.{Readings}
-use Rattle.sa_laws.specs.Record.{begun_after}
+use Rattle.sa_laws.specs.Record.{io_count_after}
 use Rattle.sa_laws.specs.History.{Test}
 use Rattle.sa_laws.specs.Upcalls.{GivesUpcallThen}
 use Rattle.sa_laws.specs.Rules.{UserRules}
@@ -29,13 +29,13 @@ ios-more [] x = one (begins_io x.what) where
 ios-more (y ∷ ys) x =
     let more = ios-more ys x in omega arith
 
-pub begun-more : (n : ℕ) (x : Record) → begun_after n x ≡ n + (if begins_io x then 1 else 0)
+pub begun-more : (n : ℕ) (x : Record) → io_count_after n x ≡ n + (if begins_io x then 1 else 0)
 begun-more n (Block s t a io) = refl
 begun-more n (Fetch s) = refl
 begun-more n x = omega arith
 
 abbrev pub IosCounted : List Item → Readings → Type 0
-IosCounted past r = r.begun ≡ ios_begun past
+IosCounted past r = r.io_count ≡ ios_begun past
 
 abbrev pub NamesItsIo : List Item → Item → Type 0
 NamesItsIo past x = (s : SpaceNo) (t : Option ThreadNo) (a : ActNo) (io : IoNo) → x.what ≡ Block s t a io → io.0 ≡ ios_begun past
@@ -51,7 +51,7 @@ ios-kept : (test : Test) (w : WorkloadView) → IsKept test w GivesUpcallThen Io
 ios-kept test w = record {
   step =
       λ e p past r x rest inv law. (
-        begun-more r.begun x ∙ ap (λ n. n + (if begins_io x then 1 else 0)) inv
+        begun-more r.io_count x ∙ ap (λ n. n + (if begins_io x then 1 else 0)) inv
             ∙ sym (ios-more past (item e p x)),
         names-io e p past r x rest inv law,
       );

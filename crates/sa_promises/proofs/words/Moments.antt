@@ -14,7 +14,7 @@ use Rattle.sa_spaces.specs.Workload.{WorkloadView}
 use Rattle.sa_laws.specs.Event.{Event, events_of}
 use Rattle.sa_laws.specs.Readings.{Readings, opening_readings, owner_of, aim_of, line_of, demand_of, is_fetching}
 use Rattle.sa_laws.specs.Record.{lines_after, after_record}
-use Rattle.sa_laws.specs.History.{readings, Test, begun, ended}
+use Rattle.sa_laws.specs.History.{readings, Test, event_begun, ended}
 use Rattle.sa_laws.specs.Upcalls.{RecordLaw, EachRecord}
 use Rattle.sa_promises.specs.Words.{RaisedAt, aim_said, want_said, move_said, fetch_said, Notes, StandsUntold}
 use Rattle.sa_laws.specs.Rules.{UserRules, IsLawful}
@@ -122,7 +122,7 @@ reads-step w e p past r x inv within =
       own = own-step e p r.lines x inv.own;
     }
 
-reads-begin : (w : WorkloadView) (past : List Item) (r : Readings) (e : Event) → Reads w past r → ReadsIn w e.number e.proc past (begun w e r)
+reads-begin : (w : WorkloadView) (past : List Item) (r : Readings) (e : Event) → Reads w past r → ReadsIn w e.number e.proc past (event_begun w e r)
 reads-begin w past r e reads = record {
   reads = record {
     owners_len = reads.owners_len;
@@ -190,8 +190,8 @@ reads-start w = record {
 -- so the whole of a legal trace is read as the words say
 pub legal-reads : (u : UserRules) (w : WorkloadView) (items : List Item) → IsLegal u w items → Reads w items (readings u.inside w (events_of items))
 legal-reads u w items legal =
-    let gives : (r : Readings) (e : Event) → IsLawful u w r e → EachRecord (OnMachine w e.proc) w e.number e.proc (begun w e r) e.records =
-    λ r e lawful. on-machine w e.proc e.number (begun w e r) e.records lawful.numbered.proc in
+    let gives : (r : Readings) (e : Event) → IsLawful u w r e → EachRecord (OnMachine w e.proc) w e.number e.proc (event_begun w e r) e.records =
+    λ r e lawful. on-machine w e.proc e.number (event_begun w e r) e.records lawful.numbered.proc in
     let law = along u w (OnMachine w) gives (opening_readings w) (events_of items) (legal-lawful u w items legal) in
     let read = (walk u.inside w (OnMachine w) (Reads w) (ReadsIn w) Any (reads-kept u.inside w) [] (opening_readings w) (events_of items)
     (reads-start w) law).0 in

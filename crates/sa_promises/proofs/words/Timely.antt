@@ -14,7 +14,7 @@ use Rattle.sa_assign.specs.Aims.{aimed, space_no}
 use Rattle.sa_assign.specs.Reaim.{proc_no}
 use Rattle.sa_laws.specs.Event.{Event, events_of}
 use Rattle.sa_laws.specs.Readings.{Readings, opening_readings, line_of}
-use Rattle.sa_laws.specs.History.{after_event, begun}
+use Rattle.sa_laws.specs.History.{after_event, event_begun}
 use Rattle.sa_laws.specs.Closing.{first_space, spaces_of, claim_of, claims_of, shares_at}
 use Rattle.sa_laws.specs.Upcalls.{EachRecord}
 use Rattle.sa_laws.specs.Rules.{UserRules, IsLawful}
@@ -36,8 +36,8 @@ pub at-each-end : (u : UserRules) (w : WorkloadView) (items : List Item) (E : Li
     → AtEachEnd E items
 at-each-end u w items E legal close j x at =
     let law = legal-lawful u w items legal in
-    let gives : (r : Readings) (e : Event) → IsLawful u w r e → EachRecord (OnMachine w e.proc) w e.number e.proc (begun w e r) e.records =
-    λ r e lawful. on-machine w e.proc e.number (begun w e r) e.records lawful.numbered.proc in
+    let gives : (r : Readings) (e : Event) → IsLawful u w r e → EachRecord (OnMachine w e.proc) w e.number e.proc (event_begun w e r) e.records =
+    λ r e lawful. on-machine w e.proc e.number (event_begun w e r) e.records lawful.numbered.proc in
     let ends = walk-ends u w (OnMachine w) (Reads w) (ReadsIn w) Any E (reads-kept u.inside w) gives close [] (opening_readings w) (events_of items)
     (reads-start w) law in
     let all = ends-at E [] 0 (events_of items) (lawful-numbered u w (opening_readings w) (events_of items) law) ends in

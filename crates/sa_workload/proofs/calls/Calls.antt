@@ -23,7 +23,7 @@ use Rattle.sa_workload.specs.Position.{HeaderView, Draft, Position, AtVersion, A
 use Rattle.sa_workload.specs.Next.{draft_numbers, evict_numbers, fields_of, is_end, is_full, last_numbers, last_of, made_by, next_by, operand_from, operands_from, step}
 use Rattle.sa_workload.specs.Steps.{expected, space_of_draft, with_program}
 use Rattle.sa_workload.specs.Rooms.{AreBelow, room_for}
-use Rattle.sa_workload.specs.Reading.{line_in, read_from, goes_on}
+use Rattle.sa_workload.specs.Reading.{line_in, read_from, after_line}
 use Rattle.sa_spaces.specs.declared.workload.Evict.{Evict}
 use Rattle.sa_workload.proofs.fields.FieldLemmas.{AllPass, all_long}
 use Rattle.sa_workload.proofs.fields.InstrLemmas.{IsAllowed, instr-read, no_operation, operation-expected}
@@ -205,7 +205,7 @@ pub read_on : (versions number more : ℕ) (p q : Position) (lines rest : List L
     → line_in versions p l ≡ Ok q
     → read_from versions number p lines ≡ read_from versions more q rest
 read_on versions number more p q lines rest l e n h =
-    ap (read_from versions number p) e ∙ ap (λ (r : Result Position ℕ). goes_on number r (λ q. read_from versions (number + 1) q rest)) h
+    ap (read_from versions number p) e ∙ ap (λ (r : Result Position ℕ). after_line number r (λ q. read_from versions (number + 1) q rest)) h
     ∙ ap (λ (k : ℕ). read_from versions k q rest) (sym n)
 
 -- the instruction of a line that may be there

@@ -22,7 +22,7 @@ use Rattle.sa_workload.specs.Position.{Position, AtVersion, Closed, IsReached, s
 use Rattle.sa_workload.specs.Next.{next}
 use Rattle.sa_text.specs.Pieces.{is_printed}
 use Rattle.sa_lemmas.proofs.Booleans.{if_either}
-use Rattle.sa_workload.specs.Reading.{line_in, finished, goes_on, read_from, read_of, IsReading}
+use Rattle.sa_workload.specs.Reading.{line_in, finished, after_line, read_from, read_of, IsReading}
 use Rattle.sa_workload.proofs.fields.FieldLemmas.{same_err}
 use Rattle.sa_workload.proofs.forward.Standing.{IsAt, Setting, any, alone, of_any, of_first, is_first, at_first, at_next, begins, whole_lines}
 use Rattle.sa_workload.proofs.forward.Fronts.{slice_get_at}
@@ -165,7 +165,7 @@ outcome versions s (l ∷ rest) front p h = by_line (line_in versions p l) refl 
     by_line : (r : Result Position ℕ) → line_in versions p l ≡ r
         → ((q : Position) → IsBehind versions q (front ++ l ∷ [])
         → IsOutcome versions ((front ++ l ∷ []) ++ rest) (read_from versions (length (front ++ l ∷ []) + 1) q rest))
-        → IsOutcome versions (front ++ l ∷ rest) (goes_on (length front + 1) r (λ q. read_from versions (length front + 1 + 1) q rest))
+        → IsOutcome versions (front ++ l ∷ rest) (after_line (length front + 1) r (λ q. read_from versions (length front + 1 + 1) q rest))
     by_line (Ok q) e later =
         let n : length (front ++ l ∷ []) + 1 ≡ length front + 1 + 1 = omega (arith, length-append front (l ∷ [])) in
         subst (λ (ls : List LineText). IsOutcome versions ls (read_from versions (length front + 1 + 1) q rest)) (append_assoc front (l ∷ []) rest)

@@ -11,7 +11,7 @@ use Rattle.sa_check.proofs.judge.judge_numbered.Goals as goal
 pub read_event-requires : goal.read_event-requires
 read_event-requires c = λ quiet.
     quiet-from (seen c.args.moment) (seen c.begin-beginning.new.moment) (told_event c.args.event.now) c.requires.numbered c.requires.settled
-    c.begin-beginning.ensures.begun (sym c.is_quiet-quiet.ensures ∙ quiet)
+    c.begin-beginning.ensures.event_begun (sym c.is_quiet-quiet.ensures ∙ quiet)
 
 pub look_after-ending-requires : goal.look_after-ending-requires
 look_after-ending-requires c = λ quiet.
@@ -22,7 +22,7 @@ look_after-ending-requires c = λ quiet.
     let is : c.in_ok-through.field-0 ≡ Some through = c.in-Some.is in
     let read : IsReadThrough start e through = subst (λ (o : Option ReadThrough). ReadsRecords start e o) is c.in_ok-through.ensures in
     let next : seen c.in_ok-after.after ≡ after m e =
-    ended-is m start (seen through.moment) (seen c.in_ok-after.after) e c.begin-beginning.ensures.begun read.moment
+    ended-is m start (seen through.moment) (seen c.in_ok-after.after) e c.begin-beginning.ensures.event_begun read.moment
     (c.in_ok-after.ensures m.readings c.begin-beginning.ensures.running c.begin-beginning.ensures.lowers) in
     settled-behind m (seen c.in_ok-after.after) e c.requires.numbered c.requires.settled (sym c.is_quiet-quiet.ensures ∙ quiet) next
 
@@ -31,7 +31,7 @@ returns-in_default c =
     let m = seen c.args.moment in
     let start = seen c.begin-beginning.new.moment in
     let e = told_event c.args.event.now in
-    step-breaks m start e (line_told c.args.last) c.requires.numbered c.begin-beginning.ensures.begun
+    step-breaks m start e (line_told c.args.last) c.requires.numbered c.begin-beginning.ensures.event_begun
     (subst (λ (o : Option ReadThrough). ReadsRecords start e o) c.in_default.is c.in_ok-through.ensures)
 
 pub returns-in-None : goal.returns-in-None
@@ -43,11 +43,11 @@ returns-in-None c =
     let is : c.in_ok-through.field-0 ≡ Some through = c.in-Some.is in
     let read : IsReadThrough start e through = subst (λ (o : Option ReadThrough). ReadsRecords start e o) is c.in_ok-through.ensures in
     let next : seen c.in_ok-after.after ≡ after m e =
-    ended-is m start (seen through.moment) (seen c.in_ok-after.after) e c.begin-beginning.ensures.begun read.moment
+    ended-is m start (seen through.moment) (seen c.in_ok-after.after) e c.begin-beginning.ensures.event_begun read.moment
     (c.in_ok-after.ensures m.readings c.begin-beginning.ensures.running c.begin-beginning.ensures.lowers) in
     let all : FirstIs m.workload m.readings e (line_told c.args.last) None =
     judged-so m start (seen c.in_ok-after.after) e (line_told c.args.last) c.begin-beginning.result through c.look_after-ending.result
-    c.requires.numbered c.begin-beginning.ensures.found c.begin-beginning.ensures.begun read next c.look_after-ending.ensures
+    c.requires.numbered c.begin-beginning.ensures.found c.begin-beginning.ensures.event_begun read next c.look_after-ending.ensures
     c.findings_of-findings.result None c.findings_of-findings.ensures c.in-None.ensures in
     record { holds = all; next = next }
 
@@ -60,10 +60,10 @@ returns-in-Some-first_broken c =
     let is : c.in_ok-through.field-0 ≡ Some through = c.in-Some.is in
     let read : IsReadThrough start e through = subst (λ (o : Option ReadThrough). ReadsRecords start e o) is c.in_ok-through.ensures in
     let next : seen c.in_ok-after.after ≡ after m e =
-    ended-is m start (seen through.moment) (seen c.in_ok-after.after) e c.begin-beginning.ensures.begun read.moment
+    ended-is m start (seen through.moment) (seen c.in_ok-after.after) e c.begin-beginning.ensures.event_begun read.moment
     (c.in_ok-after.ensures m.readings c.begin-beginning.ensures.running c.begin-beginning.ensures.lowers) in
     let all : FirstIs m.workload m.readings e (line_told c.args.last) (Some c.in-Some-first_broken.rule) =
     judged-so m start (seen c.in_ok-after.after) e (line_told c.args.last) c.begin-beginning.result through c.look_after-ending.result
-    c.requires.numbered c.begin-beginning.ensures.found c.begin-beginning.ensures.begun read next c.look_after-ending.ensures
+    c.requires.numbered c.begin-beginning.ensures.found c.begin-beginning.ensures.event_begun read next c.look_after-ending.ensures
     c.findings_of-findings.result (Some c.in-Some-first_broken.rule) c.findings_of-findings.ensures c.in-Some-first_broken.ensures in
     all

@@ -16,10 +16,10 @@ loop-done-preserved c =
     record {
       place = c.local.ensures.within;
       spare = omega (arith, longer, c.say.ensures.room.same, inv.spare);
-      block = block-more a.program.now b c.local.new.pc c.local.new.regs a.n done c.loop-done-test.true c.local.ensures.place c.local.ensures.regs ∙ inv.block;
+      block = block-more a.program.now b c.local.new.pc c.local.new.regs a.n done c.loop-done-test.true c.local.ensures.pc c.local.ensures.regs ∙ inv.block;
       items =
           ap (λ xs. xs ++ items_from next a.seen.now.proc (after (a.n - (done + 1)) (gone_to b c.local.new.pc c.local.new.regs))) c.say.ensures.items
-          ∙ items-more a.program.now b c.local.new.pc c.local.new.regs a.n done c.loop-done-test.true c.local.ensures.place c.local.ensures.regs a.space
+          ∙ items-more a.program.now b c.local.new.pc c.local.new.regs a.n done c.loop-done-test.true c.local.ensures.pc c.local.ensures.regs a.space
           a.thread a.seen.now.proc (a.seen.now.event + c.from.result) next c.loop-done.trace.items here
           ∙ ap (λ k. c.loop-done.trace.items ++ items_from (a.seen.now.event + k) a.seen.now.proc (after (a.n - done) b)) c.from.ensures
           ∙ inv.items;

@@ -19,7 +19,7 @@ loop-end-init c =
     record {
       some = omega (arith, number);
       board = ap (λ (v : VpView). v.board) is ∙ sym (ap (λ k. board_at w order (k - 1)) number);
-      goes_on = λ k below. absurd (omega (arith, below, number));
+      not_ended = λ k below. absurd (omega (arith, below, number));
       among = λ k below. absurd (omega (arith, below, number));
       schedule = starts ∙ sym (ap (λ k. turned_often (start order w.processors) (k - 1)) number);
       processors = ap (λ (s : Turns). s.processors) starts;
@@ -52,8 +52,8 @@ loop-end-preserved c =
       board = c.in-Ok-turn.ensures.ok
           ∙ one-more w order n v.board c.loop-end.schedule c.next.result c.turns_are_in_order.ensures some inv.schedule c.next.ensures.processor inv.board
           ∙ sym (ap (board_at w order) more);
-      goes_on = λ k below. elim (cases_lt k n) [
-        | inl before ↦ inv.goes_on k before
+      not_ended = λ k below. elim (cases_lt k n) [
+        | inl before ↦ inv.not_ended k before
         | inr past ↦
             let is : k ≡ n = omega (arith, past, below, more) in
             ap (λ j. end_of c.args.budget (board_at w order j)) is ∙ ap (end_of c.args.budget) (sym inv.board)
@@ -82,7 +82,7 @@ returns-in-Some-clause-ok c =
     let v = c.loop-end.vp in
     let n = v.board.number - 1 in
     ended-as w c.ranges-2.ensures (order_of c.args.kind) n (omega (arith, inv.within, c.requires.few)) inv.among c.args.budget v.board inv.board
-    (omega (arith, inv.within)) inv.goes_on
+    (omega (arith, inv.within)) inv.not_ended
     c.in-Some.end _ c.events-events.result _ (ap (λ b. end_of b v.board) (sym inv.budget) ∙ sym c.end.ensures
     ∙ c.in-Some.is) c.into_losses-trace.ensures.trace (omega (arith, c.events-events.ensures)) c.into_losses-trace.ensures.lost
 
@@ -93,5 +93,5 @@ returns-in_default-turn-clause-err c =
     let v = c.loop-end.vp in
     let n = v.board.number - 1 in
     inr (so-far-as w c.ranges-2.ensures (order_of c.args.kind) n (omega (arith, inv.within, c.requires.few)) inv.among c.args.budget v.board inv.board
-    (omega (arith, inv.within)) inv.goes_on
+    (omega (arith, inv.within)) inv.not_ended
     _ (c.into_trace.ensures ∙ ap (λ (u : VpView). u.board.items) c.in_default-turn.ensures.err.1))

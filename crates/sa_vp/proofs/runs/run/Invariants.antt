@@ -11,7 +11,7 @@ abbrev pub invariant-loop-end : goal.invariant-loop-end
 invariant-loop-end l = record {
   some : 1 ≤ l.vp.board.number;
   board : l.vp.board ≡ board_at l.fn.workload (order_of l.fn.kind) (l.vp.board.number - 1);
-  goes_on : (k : ℕ) → k < l.vp.board.number - 1 → end_of l.fn.budget (board_at l.fn.workload (order_of l.fn.kind) k) ≡ None;
+  not_ended : (k : ℕ) → k < l.vp.board.number - 1 → end_of l.fn.budget (board_at l.fn.workload (order_of l.fn.kind) k) ≡ None;
   among : (k : ℕ) → k < l.vp.board.number - 1 → processor_at (order_of l.fn.kind) l.fn.workload.processors (k + 1) < l.fn.workload.processors;
   schedule : l.schedule ≡ turned_often (start (order_of l.fn.kind) l.fn.workload.processors) (l.vp.board.number - 1);
   processors : l.schedule.processors ≡ l.fn.workload.processors;

@@ -42,7 +42,7 @@ whole c =
     let parts = c.deref_mut-parts.result.now in
     let same = ap kept_in c.deref_mut-parts.ensures.value ∙ c.self.view_is in
     let with : IsReadWith m p x c.push_at.result c.begun_by.result c.list_at.result =
-    record { push = c.push_at.ensures; begins = c.begun_by.ensures.begun; listed = c.list_at.ensures } in
+    record { push = c.push_at.ensures; begins = c.begun_by.ensures.new_io; listed = c.list_at.ensures } in
     let replay : c.read_parts.new.replay ≡ after p parts.replay x = c.in_ok-read_parts.ensures.replay in
     let workload : c.read_parts.new.replay.workload ≡ m.workload = ap (λ (v : Replayed). v.workload) replay ∙ ap (λ (k : Kept). k.workload) same in
     let state : c.read_parts.new.replay.state ≡ changed m.workload p m.state x =

@@ -11,7 +11,7 @@ commit-requires-clause-can g c =
     let k = c.self.inside in
     let is = ready f g.U.UserLevel.stands k.machine c.make_room.new.self c.args.self.now k.budget k.spare c.self.view_is c.make_room.ensures.machine
     c.make_room.ensures.budget
-    c.requires.goes_on c.self.invariant in
+    c.requires.not_ended c.self.invariant in
     let are = are-left k.budget (machine_of k.machine) c.args.n c.requires.some is.left in
     next-go f g.U.UserLevel.stands keep k.machine c.args.self.now k.budget k.spare c.args.n c.committable-made.result c.args.p is c.self.invariant
     c.requires.next
@@ -24,7 +24,7 @@ invariant_of-self g c =
     let k = c.self.inside in
     let is = ready f g.U.UserLevel.stands k.machine c.make_room.new.self c.args.self.now k.budget k.spare c.self.view_is c.make_room.ensures.machine
     c.make_room.ensures.budget
-    c.requires.goes_on c.self.invariant in
+    c.requires.not_ended c.self.invariant in
     let are = are-left k.budget (machine_of k.machine) c.args.n c.requires.some is.left in
     let made = c.committable-made.result in
     let some : 1 ≤ made = rw c.committable-made.ensures are.some in
@@ -44,7 +44,7 @@ returns-clause-workload g c =
     let k = c.self.inside in
     let is = ready f g.U.UserLevel.stands k.machine c.make_room.new.self c.args.self.now k.budget k.spare c.self.view_is c.make_room.ensures.machine
     c.make_room.ensures.budget
-    c.requires.goes_on c.self.invariant in
+    c.requires.not_ended c.self.invariant in
     let are = are-left k.budget (machine_of k.machine) c.args.n c.requires.some is.left in
     let made = c.committable-made.result in
     let some : 1 ≤ made = rw c.committable-made.ensures are.some in

@@ -12,7 +12,7 @@ invariant_of-self g c =
     let k = c.self.inside in
     let is = ready f g.U.UserLevel.stands k.machine c.make_room.new.self c.args.self.now k.budget k.spare c.self.view_is c.make_room.ensures.machine
     c.make_room.ensures.budget
-    c.requires.goes_on c.self.invariant in
+    c.requires.not_ended c.self.invariant in
     let within = subst (λ (z : Machine g.row.U.Denot g.row.U-Ctx.Denot). c.args.p.0 < z.workload.processors) (sym is.same) c.requires.within in
     let spare = ap (λ (v : CoreView g.row.U.Denot g.row.U-Ctx.Denot). v.spare) c.self.view_is in
     let room = c.in_ok-make_room.ensures.ok in
@@ -28,7 +28,7 @@ returns-clause-ok g c =
     let k = c.self.inside in
     let is = ready f g.U.UserLevel.stands k.machine c.make_room.new.self c.args.self.now k.budget k.spare c.self.view_is c.make_room.ensures.machine
     c.make_room.ensures.budget
-    c.requires.goes_on c.self.invariant in
+    c.requires.not_ended c.self.invariant in
     let within = subst (λ (z : Machine g.row.U.Denot g.row.U-Ctx.Denot). c.args.p.0 < z.workload.processors) (sym is.same) c.requires.within in
     let spare = ap (λ (v : CoreView g.row.U.Denot g.row.U-Ctx.Denot). v.spare) c.self.view_is in
     let room = c.in_ok-make_room.ensures.ok in
@@ -44,7 +44,7 @@ returns-clause-event g c =
     let k = c.self.inside in
     let is = ready f g.U.UserLevel.stands k.machine c.make_room.new.self c.args.self.now k.budget k.spare c.self.view_is c.make_room.ensures.machine
     c.make_room.ensures.budget
-    c.requires.goes_on c.self.invariant in
+    c.requires.not_ended c.self.invariant in
     let within = subst (λ (z : Machine g.row.U.Denot g.row.U-Ctx.Denot). c.args.p.0 < z.workload.processors) (sym is.same) c.requires.within in
     let spare = ap (λ (v : CoreView g.row.U.Denot g.row.U-Ctx.Denot). v.spare) c.self.view_is in
     let room = c.in_ok-make_room.ensures.ok in
@@ -60,7 +60,7 @@ returns-clause-workload g c =
     let k = c.self.inside in
     let is = ready f g.U.UserLevel.stands k.machine c.make_room.new.self c.args.self.now k.budget k.spare c.self.view_is c.make_room.ensures.machine
     c.make_room.ensures.budget
-    c.requires.goes_on c.self.invariant in
+    c.requires.not_ended c.self.invariant in
     let within = subst (λ (z : Machine g.row.U.Denot g.row.U-Ctx.Denot). c.args.p.0 < z.workload.processors) (sym is.same) c.requires.within in
     let spare = ap (λ (v : CoreView g.row.U.Denot g.row.U-Ctx.Denot). v.spare) c.self.view_is in
     let room = c.in_ok-make_room.ensures.ok in

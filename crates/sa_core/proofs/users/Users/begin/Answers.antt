@@ -1,4 +1,4 @@
-use Rattle.std.proofs.Common.{ap, ◌∙◌, arith, ℕ, ◌<◌, List, length}
+use Rattle.std.proofs.Common.{ap, ◌∙◌, arith, ◌<◌, List, length}
 use Rattle.sa_core.proofs.CountLemmas.{counted-few, counted-left, counted-work, counted-set, user-is, set-by}
 use Rattle.sa_core.proofs.users.Users.begin.Goals as goal
 

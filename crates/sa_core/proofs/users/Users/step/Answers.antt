@@ -1,4 +1,4 @@
-use Rattle.std.proofs.Common.{◌+◌, ◌++◌, length, sym, ap, ◌∙◌, arith, ℕ, ◌<◌, List}
+use Rattle.std.proofs.Common.{◌+◌, ◌++◌, length, sym, ap, ◌∙◌, arith, ◌<◌, List}
 use Rattle.sa_base.specs.Items.{items_at}
 use Rattle.sa_core.proofs.CountLemmas.{counted-few, counted-left, counted-work, counted-set, user-is, set-by}
 use Rattle.sa_core.proofs.users.Users.step.Goals as goal

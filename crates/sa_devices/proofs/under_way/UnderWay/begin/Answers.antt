@@ -15,11 +15,11 @@ invariant_of-self c =
     let e : Entry = record { ends = c.args.ends; kind = c.args.kind } in
     let place : c.len-number.result ≡ length places = omega arith in
     let moved = subst (λ (n : ℕ). IsPermutation (key_of c.args.ends n ∷ keys) after) place c.put.ensures.items in
-    let begun = AreKept-begin places e keys after c.self.invariant.0 moved c.put.ensures.order in
+    let kept_begin = AreKept-begin places e keys after c.self.invariant.0 moved c.put.ensures.order in
     let few = c.requires.few in
-    let begun_is = ap (λ (v : IosView). v.begun) c.self.view_is in
+    let begun_is = ap (λ (v : IosView). v.io_count) c.self.view_is in
     let spare_is = ap (λ (v : IosView). v.spare) c.self.view_is in
-    (subst (λ (xs : List (Option Entry)). AreKept xs after) (sym c.push_reserved.ensures.items) begun, omega arith, omega arith, omega arith)
+    (subst (λ (xs : List (Option Entry)). AreKept xs after) (sym c.push_reserved.ensures.items) kept_begin, omega arith, omega arith, omega arith)
 
 pub returns-clause-exact : goal.returns-clause-exact
 returns-clause-exact c =

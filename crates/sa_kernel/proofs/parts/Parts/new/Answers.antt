@@ -32,7 +32,7 @@ returns-clause-state g c =
       demands = demands i;
       untold = untold i;
       telling = telling i;
-      begun = (devices i).ios.begun;
+      io_count = (devices i).ios.io_count;
       under_way = (devices i).ios.under_way;
       pages = (devices i).pages;
     }

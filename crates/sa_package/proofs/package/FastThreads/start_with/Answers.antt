@@ -6,7 +6,7 @@ use Rattle.sa_sync.specs.Sync.{Sync, opening}
 use Rattle.sa_lists.specs.declared.ranks.Ranks.TheVariants.{One}
 use Rattle.sa_lists.specs.ReadyView.{ReadyView}
 use Rattle.sa_code.specs.declared.code.Op.{Op}
-use Rattle.sa_code.specs.Changes.{begun}
+use Rattle.sa_code.specs.Changes.{opening_package}
 use Rattle.sa_copies.specs.Copies.{with_copies, package_ops}
 use Rattle.sa_fast.specs.declared.threads.Block.{Block}
 use Rattle.sa_fast.specs.declared.threads.Place.TheVariants.{Ready}
@@ -22,7 +22,7 @@ built space processors fetch def lists code sync threads works = record {
   processors = processors;
   fetch = fetch;
   shared = record {
-    state = record (begun space code 0 One MAX_THREADS) { lists = lists };
+    state = record (opening_package space code 0 One MAX_THREADS) { lists = lists };
     sync = sync;
     threads = threads;
     works = works;

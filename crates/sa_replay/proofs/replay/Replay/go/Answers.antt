@@ -4,7 +4,7 @@ use Rattle.sa_laws.specs.State.{Thread}
 use Rattle.sa_replay.specs.Running.{is_running}
 use Rattle.sa_replay.specs.Spaces.{place_in, HasRun}
 use Rattle.sa_replay.specs.Inside.{IsReplay}
-use Rattle.sa_replay.proofs.ReplayLemmas.{go_runs, listed_within, goes_on, goes_off}
+use Rattle.sa_replay.proofs.ReplayLemmas.{go_runs, listed_within, still_runs, goes_off}
 use Rattle.sa_replay.proofs.replay.Replay.go.Goals as goal
 
 pub index_mut-requires : goal.index_mut-requires
@@ -44,6 +44,6 @@ invariant_of-self-else-not-is_running c =
     c.is_running.ensures ∙ ap is_running (c.place.ensures ∙ ap (λ (y : Thread). y.place) c.thread.ensures) in
     let room : MAX_THREADS ≤ vec_capacity c.run.new.roused = omega (arith, c.run.ensures.room, c.self.invariant.1) in
     let kept =
-    goes_on i.workload i.spaces i.owners.items i.runners.items c.self.invariant.0 c.args.p c.args.s c.args.t c.space_def-def.result.now c.run.new.self
+    still_runs i.workload i.spaces i.owners.items i.runners.items c.self.invariant.0 c.args.p c.args.s c.args.t c.space_def-def.result.now c.run.new.self
     c.run.new.roused.items runs ran (sym place ∙ c.if-not-is_running.false) in
     (kept, room)

@@ -1,4 +1,4 @@
-use Rattle.std.proofs.Common.{◌≡◌, ◌<◌, ℕ, None, sym, ap, subst, ◌∙◌, arith}
+use Rattle.std.proofs.Common.{◌≡◌, ◌<◌, None, sym, ap, subst, ◌∙◌, arith}
 use Rattle.sa_base.specs.declared.number.ProcNo.{ProcNo}
 use Rattle.sa_spaces.specs.Workload.{WorkloadView}
 use Rattle.sa_kernel_model.specs.State.{line_of}
@@ -32,7 +32,7 @@ commit-requires-clause-next g c κs within =
     let p = c.args.seat.now.poller.proc in
     let n = c.pending.result in
     let none : end_of f b (machine h.core) ≡ None =
-    ap (λ (v : HeldView g.row.U.Denot g.row.U-Ctx.Denot). end_of f b (machine v.core)) c.self.view_is ∙ c.requires.goes_on in
+    ap (λ (v : HeldView g.row.U.Denot g.row.U-Ctx.Denot). end_of f b (machine v.core)) c.self.view_is ∙ c.requires.not_ended in
     let low : line_of (machine h.core).kernel p ≡ None =
     ap (λ (v : HeldView g.row.U.Denot g.row.U-Ctx.Denot). line_of (machine v.core).kernel p) c.self.view_is ∙ c.requires.low in
     let start : local_on f (machine h.core) p ≡ c.args.seat.now.start =
@@ -53,7 +53,7 @@ settle-requires-clause-moved g c κs within =
     let p = c.args.seat.now.poller.proc in
     let n = c.pending.result in
     let none : end_of f b (machine h.core) ≡ None =
-    ap (λ (v : HeldView g.row.U.Denot g.row.U-Ctx.Denot). end_of f b (machine v.core)) c.self.view_is ∙ c.requires.goes_on in
+    ap (λ (v : HeldView g.row.U.Denot g.row.U-Ctx.Denot). end_of f b (machine v.core)) c.self.view_is ∙ c.requires.not_ended in
     let low : line_of (machine h.core).kernel p ≡ None =
     ap (λ (v : HeldView g.row.U.Denot g.row.U-Ctx.Denot). line_of (machine v.core).kernel p) c.self.view_is ∙ c.requires.low in
     let start : local_on f (machine h.core) p ≡ c.args.seat.now.start =
@@ -70,7 +70,7 @@ settle-requires-clause-moved g c κs within =
     record {
       before = h.core;
       locked = c.self.invariant;
-      goes_on = none;
+      not_ended = none;
       move = commit p k;
       made = done.made;
       within = done.within;

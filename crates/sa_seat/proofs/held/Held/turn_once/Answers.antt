@@ -1,4 +1,4 @@
-use Rattle.std.proofs.Common.{◌≡◌, ◌<◌, None, sym, ap, subst, ◌∙◌, arith}
+use Rattle.std.proofs.Common.{◌≡◌, ◌<◌, None, ap, subst, ◌∙◌, arith}
 use Rattle.sa_base.specs.declared.number.ProcNo.{ProcNo}
 use Rattle.sa_spaces.specs.Workload.{WorkloadView}
 use Rattle.sa_core_model.specs.End.{end_of}
@@ -29,7 +29,7 @@ settle-requires-clause-moved g c κs within =
     let h = c.self.inside in
     let p = c.args.seat.now.poller.proc in
     let none : end_of f b (machine h.core) ≡ None =
-    ap (λ (v : HeldView g.row.U.Denot g.row.U-Ctx.Denot). end_of f b (machine v.core)) c.self.view_is ∙ c.requires.goes_on in
+    ap (λ (v : HeldView g.row.U.Denot g.row.U-Ctx.Denot). end_of f b (machine v.core)) c.self.view_is ∙ c.requires.not_ended in
     let lt : p.0 < w.processors = subst (λ (q : ProcNo). q.0 < w.processors) c.proc.ensures.proc c.proc.ensures.within in
     let is : IsTurn f (machine h.core) p (machine c.turn.new.self) =
     subst (λ (q : ProcNo). IsTurn f (machine h.core) q (machine c.turn.new.self)) c.proc.ensures.proc c.in_ok-turn.ensures.ok in
@@ -38,7 +38,7 @@ settle-requires-clause-moved g c κs within =
     record {
       before = h.core;
       locked = c.self.invariant;
-      goes_on = none;
+      not_ended = none;
       move = turn p;
       made = done.made;
       within = done.within;
