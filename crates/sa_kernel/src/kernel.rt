@@ -10,7 +10,9 @@ use crate::parts::Parts;
 use crate::seen::Lows;
 use crate::start::OPENING;
 use sa_assign::Assign;
-use sa_base::{ActNo, IoNo, MAX_EVENTS, MAX_PROCESSORS, Note, ProcNo, Seen, SpaceNo, Stopped, Trace};
+use sa_base::{
+    ActNo, IoNo, MAX_EVENTS, MAX_PROCESSORS, Note, ProcNo, Seen, SpaceNo, Stopped, Trace,
+};
 use sa_devices::Devices;
 use sa_kernel_model::{ENTRY_ITEMS, Entry, Given};
 use sa_spaces::Workload;

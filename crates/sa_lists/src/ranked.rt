@@ -195,12 +195,7 @@ fn chain_of(kind: Ranks, list: u16, rank: u16) -> u32
 }
 
 // Adds the chains of a list, that of the greatest rank first, at the end of `out`. Fails only where memory runs out.
-fn copy_chains(
-    chains: &Links,
-    kind: Ranks,
-    list: u16,
-    out: &mut Vec<u32>,
-) -> Result<(), AllocError>
+fn copy_chains(chains: &Links, kind: Ranks, list: u16, out: &mut Vec<u32>) -> Result<(), AllocError>
     requires { (list + 1) * width_of kind ≤ length chains.now.lists }
     ensures { OnOk result (out.new.items
         ≡ out.old.items ++ joined (chains_of chains.now.lists (width_of kind) list)) }

@@ -1,6 +1,5 @@
-use Rattle.std.proofs.Common.{◌≡◌, ℕ, ◌+◌, ◌*◌, ◌≤◌, List, ◌++◌, length, ap, sym, ◌∙◌, subst, arith}
+use Rattle.std.proofs.Common.{◌++◌, ap, sym, ◌∙◌}
 use Rattle.std.proofs.lemmas.Result.{on_ok_weaker}
-use Rattle.sa_lists.specs.Chains.{width_of}
 use Rattle.sa_lists.proofs.Storage.{inside, list-joined, blocks_within}
 use Rattle.sa_lists.proofs.ranked.RankedLists.copy_list.Goals as goal
 

@@ -1,4 +1,4 @@
-use Rattle.std.proofs.Common.{◌≡◌, List, ℕ, ◌++◌, ap, sym, arith, ◌∙◌}
+use Rattle.std.proofs.Common.{◌++◌, ap, sym, arith, ◌∙◌}
 use Rattle.std.proofs.lemmas.Result.{on_ok_weaker}
 use Rattle.sa_links.specs.Lists.{list_at}
 use Rattle.sa_sync.proofs.Steps.{joiners_read}

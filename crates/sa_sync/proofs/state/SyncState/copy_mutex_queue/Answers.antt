@@ -1,7 +1,5 @@
-use Rattle.std.proofs.Common.{◌≡◌, List, ℕ, ◌++◌, ap, sym, subst, arith, ◌∙◌}
-use Rattle.std.specs.Result.{OnOk}
+use Rattle.std.proofs.Common.{◌++◌, ap, sym, arith, ◌∙◌}
 use Rattle.std.proofs.lemmas.Result.{on_ok_weaker}
-use Rattle.std.proofs.lemmas.List.{get_or_default}
 use Rattle.sa_links.specs.Lists.{list_at}
 use Rattle.sa_sync.proofs.Steps.{mutex_declared, mutex_queue_read}
 use Rattle.sa_sync.proofs.state.SyncState.copy_mutex_queue.Goals as goal

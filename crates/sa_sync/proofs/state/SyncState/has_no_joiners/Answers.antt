@@ -1,4 +1,4 @@
-use Rattle.std.proofs.Common.{◌≡◌, ℕ, List, [], ap, sym, ◌∙◌, arith}
+use Rattle.std.proofs.Common.{ap, sym, ◌∙◌, arith}
 use Rattle.sa_links.specs.Lists.{list_at}
 use Rattle.sa_sync.proofs.Steps.{joiners_read}
 use Rattle.sa_sync.proofs.state.SyncState.has_no_joiners.Goals as goal

@@ -1,4 +1,4 @@
-use Rattle.std.proofs.Common.{sym, ◌∙◌, arith}
+use Rattle.std.proofs.Common.{arith}
 use Rattle.sa_sync.proofs.Steps.{mutexes_are}
 use Rattle.sa_sync.proofs.state.SyncState.mutexes.Goals as goal
 
