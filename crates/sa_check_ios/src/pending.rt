@@ -1,5 +1,5 @@
 // The I/Os under way, and the resident pages.
-ghost use Rattle.std.specs.Prelude.{◌≡◌, ◌≢◌, ◌↔◌, [], true, length, map, IsTrue, IfOk, OnOk, OnErr, slice_index, slice_set};
+ghost use Rattle.std.specs.Prelude.{◌≡◌, ◌≢◌, ◌↔◌, [], true, length, map, IsTrue, IfOk, OnOk, OnErr, slice_get, slice_index, slice_set};
 ghost use Rattle.std.specs.List.{list_any};
 ghost use Rattle.std.specs.Option.{option_map};
 ghost use Rattle.sa_devices.specs.Ios.{Io, due_of, fetches};
@@ -115,6 +115,20 @@ impl Pending {
         ensures { result ≡ option_map (λ (io : Io). io.kind) (due_of event self.now.under_way) }
     {
         self.ios.due(event)
+    }
+
+    /// How many I/Os are under way.
+    pub fn io_len(&self) -> usize
+        ensures { result ≡ length self.now.under_way }
+    {
+        self.ios.len()
+    }
+
+    /// What the I/O is for that is under way at this index, in the order of their numbers.
+    pub fn kind_at(&self, k: usize) -> Option<IoKind>
+        ensures { result ≡ option_map (λ (io : Io). io.kind) (slice_get self.now.under_way k) }
+    {
+        self.ios.kind_at(k)
     }
 
     /// Some I/O is under way.

@@ -1,5 +1,5 @@
 // The I/Os under way, in the order of their numbers.
-ghost use Rattle.std.specs.Prelude.{◌≡◌, ◌↔◌, [], ◌∷◌, ◌++◌, find, filter, All, Some, IsTrue, IfSome, OnOk, OnErr};
+ghost use Rattle.std.specs.Prelude.{◌≡◌, ◌↔◌, [], ◌∷◌, ◌++◌, find, filter, length, All, Some, IsTrue, IfSome, OnOk, OnErr, slice_get};
 ghost use Rattle.std.specs.List.{list_any};
 ghost use Rattle.std.specs.Option.{option_map};
 ghost use Rattle.sa_devices.specs.Ios.{Io, due_of, fetches, is_fetch_of, is_sooner};
@@ -118,6 +118,20 @@ impl UnderWay {
         ensures { result ≡ list_any (fetches s.0) self.now }
     {
         self.ios.iter().any(|io| is_fetch_of(s, io.kind))
+    }
+
+    // How many there are.
+    pub(crate) fn len(&self) -> usize
+        ensures { result ≡ length self.now }
+    {
+        self.ios.len()
+    }
+
+    // What the one at this index is for.
+    pub(crate) fn kind_at(&self, k: usize) -> Option<IoKind>
+        ensures { result ≡ option_map (λ (io : Io). io.kind) (slice_get self.now k) }
+    {
+        self.ios.get(k).map(|io| io.kind)
     }
 
     pub(crate) fn is_empty(&self) -> bool

@@ -1,5 +1,6 @@
 // The replay of a trace.
-ghost use Rattle.std.specs.Prelude.{◌≡◌, ◌↔◌, ◌≤◌, ◌<◌, true, false, [], Some, length, IfOk, IsErr, OnOk, OnErr, IsTrue, MatchOption};
+ghost use Rattle.sa_base.specs.declared.number.ProcNo.{ProcNo};
+ghost use Rattle.std.specs.Prelude.{◌≡◌, ◌↔◌, ◌≤◌, ◌<◌, true, false, [], Some, None, length, IfOk, IsErr, OnOk, OnErr, IsTrue, MatchOption};
 ghost use Rattle.std.specs.List.{list_all};
 ghost use Rattle.sa_laws.specs.declared.place.Place.TheVariants as places;
 ghost use Rattle.sa_laws.specs.State.{space_def, space_at, thread_at, instr_of, next_instr, program_len, owner_at, with_owner, placed_if, runner_on, is_due, active_threads};
@@ -18,6 +19,7 @@ use sa_base::{MAX_THREADS, ProcNo, Record, SpaceNo, ThreadNo};
 use sa_instr::{Instr, Program};
 use sa_laws::Place;
 use sa_spaces::{SpaceDef, Workload};
+use sa_sync::SyncState;
 use std::alloc::{AllocError, Global};
 use std::marker::Model;
 
@@ -111,6 +113,14 @@ impl Replay {
         runner_in(&self.runners, p)
     }
 
+    /// Says that nobody runs on a processor that is not there.
+    pub fn runs_within(&self)
+        ensures { (p : ProcNo) → length self.now.state.owners ≤ p.0
+            → runner_on self.now.state p ≡ None }
+    {
+        let _runners = &self.runners;
+    }
+
     /// The thread; one that was not made counts as done.
     pub fn thread(&self, s: SpaceNo, t: ThreadNo) -> ThreadState
         ensures { result ≡ thread_at self.now.state s t }
@@ -123,6 +133,21 @@ impl Replay {
         ensures { result ≡ length (space_at self.now.state s).threads }
     {
         self.spaces.made(s)
+    }
+
+    /// How many spaces there are; at most 16.
+    pub fn spaces(&self) -> u16
+        ensures { result ≡ length self.now.state.spaces }
+    {
+        self.spaces.count()
+    }
+
+    /// What the threads of the space wait on, and the cells that they share.
+    pub fn sync(&self, s: SpaceNo) -> &SyncState
+        requires { s.0 < length self.now.state.spaces }
+        ensures { result.now ≡ (space_at self.now.state s).sync }
+    {
+        self.spaces.sync(s)
     }
 
     /// Whether the thread was forked or woken, and is still to be made ready.

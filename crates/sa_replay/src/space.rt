@@ -69,6 +69,13 @@ impl SpaceThreads {
         self.threads.len()
     }
 
+    /// What they wait on, and the cells that they share.
+    pub fn sync(&self) -> &SyncState
+        ensures { result.now ≡ self.now.sync }
+    {
+        &self.sync
+    }
+
     /// Whether the thread was forked or woken, and is still to be made ready.
     pub fn is_due(&self, t: ThreadNo) -> bool
         ensures { result ≡ is_due self.now t }

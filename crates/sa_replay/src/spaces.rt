@@ -14,6 +14,7 @@ use crate::thread::ThreadState;
 use sa_base::{MAX_SPACES, SpaceNo, ThreadNo};
 use sa_laws::Place;
 use sa_spaces::SpaceDef;
+use sa_sync::SyncState;
 use std::alloc::{AllocError, Global};
 use std::marker::Model;
 
@@ -71,6 +72,21 @@ impl Spaces {
             Some(space) => space.made(),
             None => 0,
         }
+    }
+
+    // How many spaces there are; at most 16.
+    pub(crate) fn count(&self) -> u16
+        ensures { result ≡ length self.now }
+    {
+        self.spaces.len() as u16
+    }
+
+    // What the threads of the space wait on.
+    pub(crate) fn sync(&self, s: SpaceNo) -> &SyncState
+        requires { s.0 < length self.now }
+        ensures { result.now ≡ (space_in self.now s).sync }
+    {
+        self.spaces[usize::from(s.0)].sync()
     }
 
     // Whether the thread is due.
