@@ -5,3 +5,4 @@ pub mod WorkSteps
 pub mod SyncSteps
 pub mod RunSteps
 pub mod PlaceSteps
+mod Unmade
