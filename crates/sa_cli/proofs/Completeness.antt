@@ -16,6 +16,8 @@ use Rattle.sa_check.specs.declared.verdict.Verdict.TheVariants.{Legal}
 use Rattle.sa_check.specs.declared.verdict.Verdict.TheVariants as check
 use Rattle.sa_cli.specs.declared.found.Found.TheVariants.{Judged}
 use Rattle.sa_cli.specs.declared.found.Found.TheVariants as two
+use Rattle.sa_check_moment.specs.declared.rules.Rules.{Rules}
+use Rattle.sa_cli.specs.Packages.{rules_by}
 use Rattle.sa_cli.proofs.Finds.{told-found_once}
 use Rattle.sa_cli.proofs.Scripts.{debug-debugs}
 use Rattle.sa_cli.proofs.SharedResults.{shared-takes, shared-refuses}
@@ -117,25 +119,25 @@ migrate-refuses slice old new (BadTrace bad) answers = absurd answers
 migrate-refuses slice old new Quit answers = absurd answers
 migrate-refuses slice old new (BadScript bad) answers = absurd answers
 
-check-finds : (old new : World) (status : Status) → CheckAnswers old new status → Finds old new status
-check-finds old new Checked answers = λ input found told is reads writes.
-    inl (ap status_of_found (told-found_once old.left input (Judged Legal) found told answers.gave.told is))
-check-finds old new (Broken event rule) answers = λ input found told is reads writes.
-    inl (ap status_of_found (told-found_once old.left input (Judged (check.Broken event rule)) found told answers.gave.told is))
-check-finds old new (BadWorkload bad) answers = λ input found told is reads writes.
-    inl (ap status_of_found (told-found_once old.left input (two.BadWorkload bad) found told answers.told is))
-check-finds old new (BadTrace bad) answers = λ input found told is reads writes.
-    inl (ap status_of_found (told-found_once old.left input (two.BadTrace bad) found told answers.told is))
-check-finds old new OutOfMemory answers = λ input found told is reads writes. inr refl
-check-finds old new ReadFault answers = λ input found told is reads writes. absurd (reads answers)
-check-finds old new WriteFault answers = λ input found told is reads writes. absurd (writes answers.0)
-check-finds old new Quit answers = absurd answers
-check-finds old new (BadScript bad) answers = absurd answers
-check-finds old new AllDone answers = absurd answers
-check-finds old new Stuck answers = absurd answers
-check-finds old new Budget answers = absurd answers
-check-finds old new Usage answers = absurd answers
-check-finds old new Migrated answers = absurd answers
+check-finds : (rules : Rules) (old new : World) (status : Status) → CheckAnswers rules old new status → Finds rules old new status
+check-finds rules old new Checked answers = λ input found told is reads writes.
+    inl (ap status_of_found (told-found_once rules old.left input (Judged Legal) found told answers.gave.told is))
+check-finds rules old new (Broken event rule) answers = λ input found told is reads writes.
+    inl (ap status_of_found (told-found_once rules old.left input (Judged (check.Broken event rule)) found told answers.gave.told is))
+check-finds rules old new (BadWorkload bad) answers = λ input found told is reads writes.
+    inl (ap status_of_found (told-found_once rules old.left input (two.BadWorkload bad) found told answers.told is))
+check-finds rules old new (BadTrace bad) answers = λ input found told is reads writes.
+    inl (ap status_of_found (told-found_once rules old.left input (two.BadTrace bad) found told answers.told is))
+check-finds rules old new OutOfMemory answers = λ input found told is reads writes. inr refl
+check-finds rules old new ReadFault answers = λ input found told is reads writes. absurd (reads answers)
+check-finds rules old new WriteFault answers = λ input found told is reads writes. absurd (writes answers.0)
+check-finds rules old new Quit answers = absurd answers
+check-finds rules old new (BadScript bad) answers = absurd answers
+check-finds rules old new AllDone answers = absurd answers
+check-finds rules old new Stuck answers = absurd answers
+check-finds rules old new Budget answers = absurd answers
+check-finds rules old new Usage answers = absurd answers
+check-finds rules old new Migrated answers = absurd answers
 
 -- what a command answers is complete
 pub answers-complete : (command : Command) (old new : World) (ran : Ran) (status : Status)
@@ -148,7 +150,7 @@ answers-complete (Threads budget burst) old new ran status answers =
 answers-complete (Load number budget) old new ran status answers = load-ends number budget old new (history ran) status answers
 answers-complete (Migrate slice) old new ran status answers =
     (migrate-takes slice old new status answers.1, migrate-refuses slice old new status answers.1)
-answers-complete Check old new ran status answers = check-finds old new status answers.1
+answers-complete (Check user_level) old new ran status answers = check-finds (rules_by user_level) old new status answers.1
 answers-complete (Vp schedule budget) old new ran status answers =
     (virtual-takes schedule budget old new (history ran) status answers, virtual-refuses schedule budget old new (history ran) status answers)
 answers-complete (Debug budget) old new ran status answers = debug-debugs budget old new ran status answers

@@ -7,7 +7,7 @@ use Rattle.sa_base.specs.declared.refusal.Bad.{Bad}
 use Rattle.sa_spaces.specs.Workload.{WorkloadView}
 use Rattle.sa_laws.specs.declared.rule.Rule.{Rule}
 use Rattle.sa_laws.specs.Ends.{LastLine}
-use Rattle.sa_laws.specs.Rules.{fast_threads}
+use Rattle.sa_laws.specs.Rules.{UserRules}
 use Rattle.sa_laws.specs.Legal.{IsRight, FirstBreak}
 use Rattle.sa_workload.specs.Bad.{BadAt}
 use Rattle.sa_workload.specs.Text.{IsText}
@@ -16,6 +16,8 @@ use Rattle.sa_trace.specs.Reading.{Told, read_of}
 use Rattle.sa_check.specs.declared.verdict.Verdict.{Verdict}
 use Rattle.sa_check.specs.declared.verdict.Verdict.TheVariants.{Legal, Broken}
 use Rattle.sa_check.specs.Verdict.{IsVerdict}
+use Rattle.sa_check_moment.specs.declared.rules.Rules.{Rules}
+use Rattle.sa_check_moment.specs.Rules.{rules_of}
 use Rattle.sa_check.proofs.VerdictLemmas.{one-verdict}
 use Rattle.sa_cli.specs.declared.found.Found.{Found}
 use Rattle.sa_cli.specs.declared.found.Found.TheVariants.{Judged, BadWorkload, BadTrace}
@@ -38,72 +40,72 @@ same-told input t u x y = let e = sym x ∙ y in cc
 same-refusal : (input : List ℕ) (a b : Bad) → read_of (trace_part input) ≡ Err a → read_of (trace_part input) ≡ Err b → a ≡ b
 same-refusal input a b x y = let e : Err a ≡ Err b = sym x ∙ y in cc
 
-one-judged : (input : List ℕ) (a b : Verdict) → IsJudged input a → IsJudged input b → a ≡ b
-one-judged input a b x y =
+one-judged : (rules : Rules) (input : List ℕ) (a b : Verdict) → IsJudged rules input a → IsJudged rules input b → a ≡ b
+one-judged rules input a b x y =
     let told = same-told input x.told y.told x.read y.read in
-    let there : IsVerdict x.workload y.told.items (last_told y.told) a =
-    subst (λ (t : Told). IsVerdict x.workload t.items (last_told t) a) told x.holds in
-    let here : IsVerdict y.workload y.told.items (last_told y.told) a =
-    subst (λ (w : WorkloadView). IsVerdict w y.told.items (last_told y.told) a) (one-workload input x.workload y.workload x.has y.has) there in
-    one-verdict y.workload y.told.items (last_told y.told) a b here y.holds
+    let there : IsVerdict (rules_of rules) x.workload y.told.items (last_told y.told) a =
+    subst (λ (t : Told). IsVerdict (rules_of rules) x.workload t.items (last_told t) a) told x.holds in
+    let here : IsVerdict (rules_of rules) y.workload y.told.items (last_told y.told) a =
+    subst (λ (w : WorkloadView). IsVerdict (rules_of rules) w y.told.items (last_told y.told) a) (one-workload input x.workload y.workload x.has y.has) there in
+    one-verdict (rules_of rules) y.workload y.told.items (last_told y.told) a b here y.holds
 
-judged-not_bad : (input : List ℕ) (verdict : Verdict) (bad : Bad) → IsJudged input verdict → HasBadTrace input bad → ⊥
-judged-not_bad input verdict bad x y = let e : Ok x.told ≡ Err bad = sym x.read ∙ y.read in cc
+judged-not_bad : (rules : Rules) (input : List ℕ) (verdict : Verdict) (bad : Bad) → IsJudged rules input verdict → HasBadTrace input bad → ⊥
+judged-not_bad rules input verdict bad x y = let e : Ok x.told ≡ Err bad = sym x.read ∙ y.read in cc
 
-one-found : (input : List ℕ) (a b : Found) → IsFound input a → IsFound input b → a ≡ b
-one-found input (Judged a) (Judged b) x y = ap Judged (one-judged input a b x y)
-one-found input (Judged a) (BadWorkload b) x y = absurd (not-both input x.workload b x.has y)
-one-found input (Judged a) (BadTrace b) x (inl long) = let whole = x.has.whole in absurd (omega (arith, long.0))
-one-found input (Judged a) (BadTrace b) x (inr wrong) = absurd (judged-not_bad input a b x wrong)
-one-found input (BadWorkload a) (Judged b) x y = absurd (not-both input y.workload a y.has x)
-one-found input (BadWorkload a) (BadWorkload b) x y = ap BadWorkload (refused-once IsText BadAt all-parted (workload_part input) a b x.refused y.refused)
-one-found input (BadWorkload a) (BadTrace b) x (inl long) = let whole = x.whole in absurd (omega (arith, long.0))
-one-found input (BadWorkload a) (BadTrace b) x (inr wrong) = absurd (not-both input wrong.workload a wrong.has x)
-one-found input (BadTrace a) (Judged b) (inl long) y = let whole = y.has.whole in absurd (omega (arith, long.0))
-one-found input (BadTrace a) (Judged b) (inr wrong) y = absurd (judged-not_bad input b a y wrong)
-one-found input (BadTrace a) (BadWorkload b) (inl long) y = let whole = y.whole in absurd (omega (arith, long.0))
-one-found input (BadTrace a) (BadWorkload b) (inr wrong) y = absurd (not-both input wrong.workload b wrong.has y)
-one-found input (BadTrace a) (BadTrace b) (inl long) (inl more) = ap BadTrace (long.1 ∙ sym more.1)
-one-found input (BadTrace a) (BadTrace b) (inl long) (inr wrong) = let whole = wrong.has.whole in absurd (omega (arith, long.0))
-one-found input (BadTrace a) (BadTrace b) (inr wrong) (inl long) = let whole = wrong.has.whole in absurd (omega (arith, long.0))
-one-found input (BadTrace a) (BadTrace b) (inr x) (inr y) = ap BadTrace (same-refusal input a b x.read y.read)
+one-found : (rules : Rules) (input : List ℕ) (a b : Found) → IsFound rules input a → IsFound rules input b → a ≡ b
+one-found rules input (Judged a) (Judged b) x y = ap Judged (one-judged rules input a b x y)
+one-found rules input (Judged a) (BadWorkload b) x y = absurd (not-both input x.workload b x.has y)
+one-found rules input (Judged a) (BadTrace b) x (inl long) = let whole = x.has.whole in absurd (omega (arith, long.0))
+one-found rules input (Judged a) (BadTrace b) x (inr wrong) = absurd (judged-not_bad rules input a b x wrong)
+one-found rules input (BadWorkload a) (Judged b) x y = absurd (not-both input y.workload a y.has x)
+one-found rules input (BadWorkload a) (BadWorkload b) x y = ap BadWorkload (refused-once IsText BadAt all-parted (workload_part input) a b x.refused y.refused)
+one-found rules input (BadWorkload a) (BadTrace b) x (inl long) = let whole = x.whole in absurd (omega (arith, long.0))
+one-found rules input (BadWorkload a) (BadTrace b) x (inr wrong) = absurd (not-both input wrong.workload a wrong.has x)
+one-found rules input (BadTrace a) (Judged b) (inl long) y = let whole = y.has.whole in absurd (omega (arith, long.0))
+one-found rules input (BadTrace a) (Judged b) (inr wrong) y = absurd (judged-not_bad rules input b a y wrong)
+one-found rules input (BadTrace a) (BadWorkload b) (inl long) y = let whole = y.whole in absurd (omega (arith, long.0))
+one-found rules input (BadTrace a) (BadWorkload b) (inr wrong) y = absurd (not-both input wrong.workload b wrong.has y)
+one-found rules input (BadTrace a) (BadTrace b) (inl long) (inl more) = ap BadTrace (long.1 ∙ sym more.1)
+one-found rules input (BadTrace a) (BadTrace b) (inl long) (inr wrong) = let whole = wrong.has.whole in absurd (omega (arith, long.0))
+one-found rules input (BadTrace a) (BadTrace b) (inr wrong) (inl long) = let whole = wrong.has.whole in absurd (omega (arith, long.0))
+one-found rules input (BadTrace a) (BadTrace b) (inr x) (inr y) = ap BadTrace (same-refusal input a b x.read y.read)
 
 -- the same of what a source told
-pub told-found_once : (left : Option (List ℕ)) (input : List ℕ) (a b : Found) → left ≡ Some input
-    → IfSome left (λ whole. IsFound whole a) → IsFound input b → a ≡ b
-told-found_once left input a b told found is =
-    let P : Option (List ℕ) → Type 0 = λ o. IfSome o (λ whole. IsFound whole a) in one-found input a b (subst P told found) is
+pub told-found_once : (rules : Rules) (left : Option (List ℕ)) (input : List ℕ) (a b : Found) → left ≡ Some input
+    → IfSome left (λ whole. IsFound rules whole a) → IsFound rules input b → a ≡ b
+told-found_once rules left input a b told found is =
+    let P : Option (List ℕ) → Type 0 = λ o. IfSome o (λ whole. IsFound rules whole a) in one-found rules input a b (subst P told found) is
 
 -- what is found of an input that is not too long is not for its length
-whole-of : (input : List ℕ) (a : Found) → length input ≤ TEXTS_LIMIT → IsFound input a
-    → (xs ys : List ℕ) → xs ≡ input ++ ys → ys ≡ [] → IsFound xs a
-whole-of input a short found xs ys is none =
+whole-of : (rules : Rules) (input : List ℕ) (a : Found) → length input ≤ TEXTS_LIMIT → IsFound rules input a
+    → (xs ys : List ℕ) → xs ≡ input ++ ys → ys ≡ [] → IsFound rules xs a
+whole-of rules input a short found xs ys is none =
     let same : input ≡ xs = sym (is ∙ ap (λ v. input ++ v) none ∙ append-nil input) in
-    let P : List ℕ → Type 0 = λ v. IsFound v a in subst P same found
+    let P : List ℕ → Type 0 = λ v. IsFound rules v a in subst P same found
 
 -- what is found of the input as it was read is what it is found to be
-pub read-found : (before after : Option (List ℕ)) (bytes : List ℕ) (a : Found) → ReadsInput TEXTS_LIMIT before after bytes → IsFound bytes a
-    → IfSome before (λ whole. IsFound whole a)
-read-found None after bytes a reads found = tt
-read-found (Some xs) None bytes a reads found = absurd reads.taken
-read-found (Some xs) (Some ys) bytes (Judged verdict) reads found =
-    whole-of bytes (Judged verdict) found.has.whole found xs ys reads.taken (reads.end refl found.has.whole)
-read-found (Some xs) (Some ys) bytes (BadWorkload bad) reads found =
-    whole-of bytes (BadWorkload bad) found.whole found xs ys reads.taken (reads.end refl found.whole)
-read-found (Some xs) (Some ys) bytes (BadTrace bad) reads (inl long) =
+pub read-found : (rules : Rules) (before after : Option (List ℕ)) (bytes : List ℕ) (a : Found) → ReadsInput TEXTS_LIMIT before after bytes → IsFound rules bytes a
+    → IfSome before (λ whole. IsFound rules whole a)
+read-found rules None after bytes a reads found = tt
+read-found rules (Some xs) None bytes a reads found = absurd reads.taken
+read-found rules (Some xs) (Some ys) bytes (Judged verdict) reads found =
+    whole-of rules bytes (Judged verdict) found.has.whole found xs ys reads.taken (reads.end refl found.has.whole)
+read-found rules (Some xs) (Some ys) bytes (BadWorkload bad) reads found =
+    whole-of rules bytes (BadWorkload bad) found.whole found xs ys reads.taken (reads.end refl found.whole)
+read-found rules (Some xs) (Some ys) bytes (BadTrace bad) reads (inl long) =
     let more = length-append bytes ys in
     let len = ap length reads.taken in
     inl (
       omega (arith, long.0),
       long.1 ∙ sym (ap (too_long TEXTS_LIMIT) reads.taken ∙ long-front TEXTS_LIMIT bytes ys (omega (arith, long.0))),
     )
-read-found (Some xs) (Some ys) bytes (BadTrace bad) reads (inr wrong) =
-    whole-of bytes (BadTrace bad) wrong.has.whole (inr wrong) xs ys reads.taken (reads.end refl wrong.has.whole)
+read-found rules (Some xs) (Some ys) bytes (BadTrace bad) reads (inr wrong) =
+    whole-of rules bytes (BadTrace bad) wrong.has.whole (inr wrong) xs ys reads.taken (reads.end refl wrong.has.whole)
 
 -- a verdict that is exact is true
-pub holds-verdict : (w : WorkloadView) (items : List Item) (line : LastLine) (v : Verdict)
-    → ((v ≡ Legal) ↔ IsRight fast_threads w items line)
-    → ((event : ℕ) (rule : Rule) → (v ≡ Broken event rule) ↔ FirstBreak fast_threads w items line event rule)
-    → IsVerdict w items line v
-holds-verdict w items line Legal right broken = right.0 refl
-holds-verdict w items line (Broken event rule) right broken = (broken event rule).0 refl
+pub holds-verdict : (u : UserRules) (w : WorkloadView) (items : List Item) (line : LastLine) (v : Verdict)
+    → ((v ≡ Legal) ↔ IsRight u w items line)
+    → ((event : ℕ) (rule : Rule) → (v ≡ Broken event rule) ↔ FirstBreak u w items line event rule)
+    → IsVerdict u w items line v
+holds-verdict u w items line Legal right broken = right.0 refl
+holds-verdict u w items line (Broken event rule) right broken = (broken event rule).0 refl

@@ -140,6 +140,6 @@ not-usage (Run schedule budget user_level) old new ran answers = answers
 not-usage (Threads budget burst) old new ran answers = answers
 not-usage (Load number budget) old new ran answers = answers
 not-usage (Migrate slice) old new ran answers = answers.1
-not-usage Check old new ran answers = answers.1
+not-usage (Check user_level) old new ran answers = answers.1
 not-usage (Vp schedule budget) old new ran answers = answers
 not-usage (Debug budget) old new ran answers = answers

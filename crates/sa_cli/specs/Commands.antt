@@ -19,6 +19,7 @@ use Rattle.sa_cli.specs.declared.limits.TheConstants.{INPUT_LIMIT, TEXTS_LIMIT, 
 use Rattle.sa_cli.specs.Outcome.{history, RanHere, RanShared}
 use Rattle.sa_cli.specs.Input.{GaveText, GaveSliced}
 use Rattle.sa_cli.specs.Refusals.{IsRefused}
+use Rattle.sa_check_moment.specs.declared.rules.Rules.{Rules}
 use Rattle.sa_check.specs.declared.verdict.Verdict.{Verdict}
 use Rattle.sa_check.specs.declared.verdict.Verdict.TheVariants.{Legal}
 use Rattle.sa_check.specs.declared.verdict.Verdict.TheVariants as check
@@ -27,7 +28,7 @@ use Rattle.sa_cli.specs.declared.found.Found.TheVariants.{Judged}
 use Rattle.sa_cli.specs.declared.found.Found.TheVariants as found
 use Rattle.sa_cli.specs.Texts.{GaveFound}
 use Rattle.sa_cli.specs.Schedules.{order_by}
-use Rattle.sa_cli.specs.Packages.{fast_runs, runs_of}
+use Rattle.sa_cli.specs.Packages.{fast_runs, runs_of, rules_by}
 use Rattle.sa_cli.specs.Answers.{World, Plan, RunAnswers, TookAll, TookSome}
 use Rattle.sa_cli.specs.Shared.{AnswersThreads}
 use Rattle.sa_cli.specs.Virtual.{AnswersVp}
@@ -64,20 +65,20 @@ MigrateAnswers slice old new WriteFault = HasRisen old.writes new.writes × Migr
 MigrateAnswers slice old new OutOfMemory = ⊤
 MigrateAnswers slice old new other = ⊥
 
--- `check`: the source gave two texts, and the line of the verdict is written; or one of them is refused
-pub record Judges (old new : World) (verdict : Verdict) (goes : List ℕ → Type 0) : Type 0 where
-  pub gave : GaveFound old.left new.left (Judged verdict)
-  pub went : goes (line_of verdict)
+-- `check`: the source gave two texts, and the line of the verdict by these rules is written; or one of them is refused
+pub record Judges (rules : Rules) (old new : World) (verdict : Verdict) (goes : List ℕ → Type 0) : Type 0 where
+  pub gave : GaveFound rules old.left new.left (Judged verdict)
+  pub went : goes (line_of rules verdict)
 
-abbrev pub CheckAnswers : World → World → Status → Type 0
-CheckAnswers old new ReadFault = HasRisen old.reads new.reads
-CheckAnswers old new (BadWorkload bad) = GaveFound old.left new.left (found.BadWorkload bad)
-CheckAnswers old new (BadTrace bad) = GaveFound old.left new.left (found.BadTrace bad)
-CheckAnswers old new Checked = Judges old new Legal (TookAll old new)
-CheckAnswers old new (Broken event rule) = Judges old new (check.Broken event rule) (TookAll old new)
-CheckAnswers old new WriteFault = HasRisen old.writes new.writes × ((v : Verdict) × Judges old new v (TookSome old new))
-CheckAnswers old new OutOfMemory = ⊤
-CheckAnswers old new other = ⊥
+abbrev pub CheckAnswers : Rules → World → World → Status → Type 0
+CheckAnswers rules old new ReadFault = HasRisen old.reads new.reads
+CheckAnswers rules old new (BadWorkload bad) = GaveFound rules old.left new.left (found.BadWorkload bad)
+CheckAnswers rules old new (BadTrace bad) = GaveFound rules old.left new.left (found.BadTrace bad)
+CheckAnswers rules old new Checked = Judges rules old new Legal (TookAll old new)
+CheckAnswers rules old new (Broken event rule) = Judges rules old new (check.Broken event rule) (TookAll old new)
+CheckAnswers rules old new WriteFault = HasRisen old.writes new.writes × ((v : Verdict) × Judges rules old new v (TookSome old new))
+CheckAnswers rules old new OutOfMemory = ⊤
+CheckAnswers rules old new other = ⊥
 
 -- what each command answers, by what ran and the status
 abbrev pub Answers : Command → World → World → Ran → Status → Type 0
@@ -85,7 +86,7 @@ Answers (Run schedule budget user_level) old new ran status = AnswersRun (run_pl
 Answers (Threads budget burst) old new ran status = AnswersThreads budget old new ran status
 Answers (Load number budget) old new ran status = AnswersLoad number budget old new (history ran) status
 Answers (Migrate slice) old new ran status = (ran ≡ Nothing) × MigrateAnswers slice old new status
-Answers Check old new ran status = (ran ≡ Nothing) × CheckAnswers old new status
+Answers (Check user_level) old new ran status = (ran ≡ Nothing) × CheckAnswers (rules_by user_level) old new status
 Answers (Vp schedule budget) old new ran status = AnswersVp schedule budget old new (history ran) status
 Answers (Debug budget) old new ran status = AnswersDebug budget old new ran status
 
@@ -110,6 +111,6 @@ ReadsNothing other = ⊥
 abbrev pub most_read : Option Command → ℕ
 most_read None = 0
 most_read (Some (Load number budget)) = 0
-most_read (Some Check) = TEXTS_LIMIT + 1
+most_read (Some (Check user_level)) = TEXTS_LIMIT + 1
 most_read (Some (Debug budget)) = SCRIPTS_LIMIT + 1
 most_read (Some other) = INPUT_LIMIT + 1

@@ -12,6 +12,8 @@ use Rattle.sa_cli.specs.declared.outcome.Status.TheVariants.{BadWorkload, OutOfM
 use Rattle.sa_cli.specs.declared.limits.TheConstants.{INPUT_LIMIT}
 use Rattle.sa_cli.specs.Input.{Texts}
 use Rattle.sa_cli.specs.Refusals.{Badness, IsInputRefused}
+use Rattle.sa_check_moment.specs.declared.rules.Rules.{Rules}
+use Rattle.sa_cli.specs.Packages.{rules_by}
 use Rattle.sa_cli.specs.declared.found.Found.{Found}
 use Rattle.sa_cli.specs.Texts.{IsFound}
 use Rattle.sa_cli.specs.Outcome.{HasEnded, status_of_found}
@@ -36,10 +38,10 @@ Refuses is_bad old new status =
     (input : List ℕ) (bad : Bad) → old.left ≡ Some input → IsInputRefused is_bad input bad
     → NoReadFailed old new → (status ≡ BadWorkload bad) ⊎ (status ≡ OutOfMemory)
 
--- two texts are answered with what they are found to be, unless memory runs out
-abbrev pub Finds : World → World → Status → Type 0
-Finds old new status =
-    (input : List ℕ) (found : Found) → old.left ≡ Some input → IsFound input found
+-- two texts are answered with what they are found to be by these rules, unless memory runs out
+abbrev pub Finds : Rules → World → World → Status → Type 0
+Finds rules old new status =
+    (input : List ℕ) (found : Found) → old.left ≡ Some input → IsFound rules input found
     → NoReadFailed old new → NoWriteFailed old new → (status ≡ status_of_found found) ⊎ (status ≡ OutOfMemory)
 
 -- a workload and a script are answered with what they are found to be, unless memory runs out
@@ -53,7 +55,7 @@ IsComplete (Run schedule budget user_level) old new status = Takes IsText old ne
 IsComplete (Threads budget burst) old new status = Takes IsText old new status (HasEnded status) × Refuses BadAt old new status
 IsComplete (Load number budget) old new status = NoWriteFailed old new → HasEnded status ⊎ (status ≡ OutOfMemory)
 IsComplete (Migrate slice) old new status = Takes IsText1 old new status (status ≡ Migrated) × Refuses BadAt1 old new status
-IsComplete Check old new status = Finds old new status
+IsComplete (Check user_level) old new status = Finds (rules_by user_level) old new status
 IsComplete (Vp schedule budget) old new status = Takes IsText old new status (HasEnded status) × Refuses BadAt old new status
 IsComplete (Debug budget) old new status = Debugs old new status
 

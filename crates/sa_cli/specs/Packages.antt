@@ -8,6 +8,8 @@ use Rattle.sa_package_model.specs.Step.{fast_calls}
 use Rattle.sa_prio_model.specs.Prio.{Prio}
 use Rattle.sa_prio_model.specs.declared.context.PrioContext.{PrioContext}
 use Rattle.sa_prio_model.specs.Step.{prio_calls}
+use Rattle.sa_check_moment.specs.declared.rules.Rules.{Rules}
+use Rattle.sa_check_moment.specs.declared.rules.Rules.TheVariants.{FastThreads, Priorities}
 use Rattle.sa_command.specs.declared.command.PackageWord.{PackageWord}
 use Rattle.sa_command.specs.declared.command.PackageWord.TheVariants as word
 
@@ -30,3 +32,8 @@ prio_runs = record { Value = Prio; Held = PrioContext; calls = prio_calls; rules
 abbrev pub runs_of : PackageWord → PackageRuns
 runs_of word.Fast = fast_runs
 runs_of word.Prio = prio_runs
+
+-- the rules by which the checker judges a run of it
+abbrev pub rules_by : PackageWord → Rules
+rules_by word.Fast = FastThreads
+rules_by word.Prio = Priorities

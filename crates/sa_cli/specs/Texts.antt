@@ -9,6 +9,8 @@ use Rattle.sa_workload.specs.Bad.{BadAt}
 use Rattle.sa_trace.specs.Reading.{Told, read_of}
 use Rattle.sa_check.specs.declared.verdict.Verdict.{Verdict}
 use Rattle.sa_check.specs.Verdict.{IsVerdict}
+use Rattle.sa_check_moment.specs.declared.rules.Rules.{Rules}
+use Rattle.sa_check_moment.specs.Rules.{rules_of}
 use Rattle.sa_cli.specs.declared.found.Found.{Found}
 use Rattle.sa_cli.specs.declared.found.Found.TheVariants.{Judged, BadWorkload, BadTrace}
 use Rattle.sa_cli.specs.declared.limits.TheConstants.{INPUT_LIMIT, TEXTS_LIMIT}
@@ -38,13 +40,13 @@ pub record HasWorkload (input : List ℕ) (w : WorkloadView) : Type 0 where
 abbrev pub last_told : Told → LastLine
 last_told told = record { end = told.end; events = told.events }
 
--- a workload and a trace, of which the verdict is true
-pub record IsJudged (input : List ℕ) (verdict : Verdict) : Type 0 where
+-- a workload and a trace, of which the verdict by these rules is true
+pub record IsJudged (rules : Rules) (input : List ℕ) (verdict : Verdict) : Type 0 where
   pub workload : WorkloadView
   pub has : HasWorkload input workload
   pub told : Told
   pub read : read_of (trace_part input) ≡ Ok told
-  pub holds : IsVerdict workload told.items (last_told told) verdict
+  pub holds : IsVerdict (rules_of rules) workload told.items (last_told told) verdict
 
 -- the first part is refused
 pub record HasBadWorkload (input : List ℕ) (bad : Bad) : Type 0 where
@@ -58,15 +60,15 @@ pub record HasBadTrace (input : List ℕ) (bad : Bad) : Type 0 where
   pub read : read_of (trace_part input) ≡ Err bad
 
 -- what an input is found to be; one that is too long is refused first
-abbrev pub IsFound : List ℕ → Found → Type 0
-IsFound input (Judged verdict) = IsJudged input verdict
-IsFound input (BadWorkload bad) = HasBadWorkload input bad
-IsFound input (BadTrace bad) =
+abbrev pub IsFound : Rules → List ℕ → Found → Type 0
+IsFound rules input (Judged verdict) = IsJudged rules input verdict
+IsFound rules input (BadWorkload bad) = HasBadWorkload input bad
+IsFound rules input (BadTrace bad) =
     ((TEXTS_LIMIT < length input) × (bad ≡ too_long TEXTS_LIMIT input)) ⊎ HasBadTrace input bad
 
 -- the source gave an input that is found to be this; where it tells, this is what it had
-pub record GaveFound (before after : Option (List ℕ)) (found : Found) : Type 0 where
+pub record GaveFound (rules : Rules) (before after : Option (List ℕ)) (found : Found) : Type 0 where
   pub input : List ℕ
   pub reads : ReadsInput TEXTS_LIMIT before after input
-  pub is : IsFound input found
-  pub told : IfSome before (λ whole. IsFound whole found)
+  pub is : IsFound rules input found
+  pub told : IfSome before (λ whole. IsFound rules whole found)

@@ -89,7 +89,9 @@ fn run_command<S: Source, K: Sink>(
         Some(Command::Threads { .. }) => unreachable!(),
         Some(Command::Load { number, budget }) => run_generated(alloc, number, budget, sink),
         Some(Command::Migrate { slice }) => Outcome::nothing(migrate(alloc, slice, source, sink)),
-        Some(Command::Check) => Outcome::nothing(check_texts(alloc, source, sink)),
+        Some(Command::Check { user_level }) => {
+            Outcome::nothing(check_texts(alloc, user_level, source, sink))
+        }
         Some(Command::Vp { schedule, budget }) => {
             run_virtual(alloc, schedule, budget, source, sink)
         }

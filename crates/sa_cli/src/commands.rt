@@ -5,7 +5,7 @@ ghost use Rattle.sa_cli.specs.Outcome.{history, RanHere, WritesNothing};
 ghost use Rattle.sa_run.specs.Run.{RunsTo, RunsUnended};
 ghost use Rattle.sa_cli.specs.declared.limits.TheConstants.{INPUT_LIMIT, TEXTS_LIMIT};
 ghost use Rattle.sa_cli.specs.Schedules.{order_by};
-ghost use Rattle.sa_cli.specs.Packages.{runs_of};
+ghost use Rattle.sa_cli.specs.Packages.{runs_of, rules_by};
 ghost use Rattle.sa_cli.specs.Answers.{world};
 ghost use Rattle.sa_cli.specs.Streams.{UsesStreams, streams, world_by};
 ghost use Rattle.sa_cli.specs.Commands.{run_plan, AnswersRun, AnswersLoad, MigrateAnswers, CheckAnswers};
@@ -15,6 +15,7 @@ use crate::outcome::{Outcome, Status};
 use crate::reading::{migrated_text, read_workload};
 use crate::writing::{write_last_line, write_trace, write_verdict, written};
 use sa_base::{MAX_EVENTS, Trace};
+use sa_check::Rules;
 use sa_command::{PackageWord, ScheduleWord};
 use sa_instr::MAX_SLICE;
 use sa_io::{Sink, Source};
@@ -126,19 +127,36 @@ pub(crate) fn migrate<S: Source, K: Sink>(
     }
 }
 
-/// `check`: judges the trace of the source, which comes after its workload, and writes the verdict.
-pub(crate) fn check_texts<S: Source, K: Sink>(alloc: Global, source: &mut S, sink: &mut K) -> Status
+/// `check`: judges the trace of the source, which comes after its workload, by the rules of this user level, and writes the
+/// verdict.
+pub(crate) fn check_texts<S: Source, K: Sink>(
+    alloc: Global,
+    user_level: PackageWord,
+    source: &mut S,
+    sink: &mut K,
+) -> Status
     ensures uses { UsesStreams (world_by S.left K.taken S.faults K.faults) (TEXTS_LIMIT + 1)
         (streams source.old sink.old) (streams source.new sink.new) result }
     ensures answers { let told = world_by S.left K.taken S.faults K.faults in
-        CheckAnswers (told (streams source.old sink.old))
+        CheckAnswers (rules_by user_level) (told (streams source.old sink.old))
         (told (streams source.new sink.new)) result }
 {
-    match read_found(alloc, source) {
-        Ok(Found::Judged(verdict)) => write_verdict(alloc, verdict, sink),
+    let rules = rules_by(user_level);
+    match read_found(alloc, rules, source) {
+        Ok(Found::Judged(verdict)) => write_verdict(alloc, rules, verdict, sink),
         Ok(Found::BadWorkload(bad)) => Status::BadWorkload(bad),
         Ok(Found::BadTrace(bad)) => Status::BadTrace(bad),
         Err(error) => Status::from(error),
+    }
+}
+
+// The rules of a user level.
+fn rules_by(user_level: PackageWord) -> Rules
+    ensures { result ≡ rules_by user_level }
+{
+    match user_level {
+        PackageWord::Fast => Rules::FastThreads,
+        PackageWord::Prio => Rules::Priorities,
     }
 }
 

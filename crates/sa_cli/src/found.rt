@@ -10,7 +10,7 @@ use crate::limits::TEXTS_LIMIT;
 use crate::reading::refusal_of_long;
 use crate::texts::parts_of;
 use sa_base::{Bad, Unread};
-use sa_check::{Verdict, check};
+use sa_check::{Rules, Verdict, check};
 use sa_io::{ReadError, Source, read_input};
 use std::alloc::{AllocError, Global};
 
@@ -25,22 +25,26 @@ pub enum Found {
     BadTrace(Bad),
 }
 
-/// What the input of the source is found to be.
-pub(crate) fn read_found<S: Source>(alloc: Global, source: &mut S) -> Result<Found, ReadError>
-    ensures found { IfOk result (GaveFound (S.left source.old) (S.left source.new)) }
+/// What the input of the source is found to be by these rules.
+pub(crate) fn read_found<S: Source>(
+    alloc: Global,
+    rules: Rules,
+    source: &mut S,
+) -> Result<Found, ReadError>
+    ensures found { IfOk result (GaveFound rules (S.left source.old) (S.left source.new)) }
     ensures fault { IsErrOf result ReadError.Fault
         → HasRisen (S.faults source.old) (S.faults source.new) }
     ensures lost { LosesAtMost (TEXTS_LIMIT + 1) (S.left source.old) (S.left source.new) }
     ensures counted { S.faults source.old ≤ S.faults source.new }
 {
     let input = read_input(alloc, TEXTS_LIMIT, source)?;
-    let found = found_in(alloc, &input)?;
+    let found = found_in(alloc, rules, &input)?;
     Ok(found)
 }
 
 // What the input is found to be.
-fn found_in(alloc: Global, input: &[u8]) -> Result<Found, AllocError>
-    ensures { IfOk result (IsFound input.now) }
+fn found_in(alloc: Global, rules: Rules, input: &[u8]) -> Result<Found, AllocError>
+    ensures { IfOk result (IsFound rules input.now) }
 {
     if input.len() > TEXTS_LIMIT {
         return Ok(Found::BadTrace(refusal_of_long(TEXTS_LIMIT, input)));
@@ -50,7 +54,7 @@ fn found_in(alloc: Global, input: &[u8]) -> Result<Found, AllocError>
         Err(Unread::Bad(bad)) => return Ok(Found::BadWorkload(bad)),
         Err(Unread::OutOfMemory) => return Err(AllocError),
     };
-    match check(alloc, &workload, second) {
+    match check(alloc, rules, &workload, second) {
         Ok(verdict) => Ok(Found::Judged(verdict)),
         Err(Unread::Bad(bad)) => Ok(Found::BadTrace(bad)),
         Err(Unread::OutOfMemory) => Err(AllocError),

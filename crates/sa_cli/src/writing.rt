@@ -10,7 +10,7 @@ ghost use Rattle.sa_cli.specs.declared.outcome.Status.TheVariants.{WriteFault};
 use crate::outcome::{Outcome, Status};
 use crate::output::{write_end, write_run};
 use sa_base::{End, Trace};
-use sa_check::{Verdict, verdict_line};
+use sa_check::{Rules, Verdict, verdict_line};
 use sa_io::{Failed, Sink, write_text};
 use sa_run::Ended;
 use std::alloc::Global;
@@ -44,15 +44,20 @@ pub(crate) fn write_last_line<K: Sink>(ended: Ended, sink: &mut K) -> Outcome
     Outcome::plain(status, ended.trace)
 }
 
-/// Writes the line of a verdict.
-pub(crate) fn write_verdict<K: Sink>(alloc: Global, verdict: Verdict, sink: &mut K) -> Status
+/// Writes the line of a verdict by these rules.
+pub(crate) fn write_verdict<K: Sink>(
+    alloc: Global,
+    rules: Rules,
+    verdict: Verdict,
+    sink: &mut K,
+) -> Status
     ensures status { WritesOrStops (K.taken sink.old) (K.taken sink.new)
         (K.faults sink.old) (K.faults sink.new)
-        (line_of verdict) (status_of_verdict verdict) result }
+        (line_of rules verdict) (status_of_verdict verdict) result }
     ensures unwritten { WritesNothing result → sink.new ≡ sink.old }
     ensures counted { K.faults sink.old ≤ K.faults sink.new }
 {
-    match verdict_line(alloc, verdict) {
+    match verdict_line(alloc, rules, verdict) {
         Ok(line) => written(sink, &line, Status::from(verdict)),
         Err(_) => Status::OutOfMemory,
     }

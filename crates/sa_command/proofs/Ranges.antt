@@ -9,12 +9,12 @@ use Rattle.sa_base.specs.declared.limits.TheConstants.{MAX_BURST, MAX_EVENTS, DE
 use Rattle.sa_command.specs.declared.command.ScheduleWord.TheVariants.{RoundRobin}
 use Rattle.sa_command.specs.declared.command.PackageWord.TheVariants.{Fast}
 use Rattle.sa_command.specs.declared.command.Command.{Command}
-use Rattle.sa_command.specs.declared.command.Command.TheVariants.{Run, Threads, Load, Migrate, Vp, Debug}
+use Rattle.sa_command.specs.declared.command.Command.TheVariants.{Run, Threads, Load, Migrate, Check, Vp, Debug}
 use Rattle.sa_command.specs.declared.options.Options.{Options}
 use Rattle.sa_command.specs.declared.options.Settings.{Settings}
 use Rattle.sa_text.specs.Number.{number_of}
 use Rattle.sa_command.specs.Values.{within, number_within, schedule_of, package_of}
-use Rattle.sa_command.specs.Commands.{with_schedule, with_budget, with_burst, with_package, with_option, settings_of, nothing_set, set_by, run_options, threads_options, turn_options, budget_option, run_of, threads_of, load_of, migrate_of, check_of, vp_of, debug_of, named, command_of}
+use Rattle.sa_command.specs.Commands.{with_schedule, with_budget, with_burst, with_package, with_option, settings_of, nothing_set, set_by, run_options, threads_options, turn_options, budget_option, package_option, run_of, threads_of, load_of, migrate_of, check_of, vp_of, debug_of, named, command_of}
 use Rattle.sa_command.specs.Ranges.{IsFrom, IsInRange, CommandsAreInRange}
 
 -- what holds of the value, if there is one, holds after a step that keeps it
@@ -124,8 +124,8 @@ migrate-range (number ∷ []) =
 migrate-range (number ∷ word ∷ words) = tt
 
 check-range : (words : List (List ℕ)) → IfSome (check_of words) IsInRange
-check-range [] = tt
-check-range (word ∷ words) = tt
+check-range words =
+    mapped AreFine IsInRange (λ s. Check (unwrap_or s.user_level Fast)) (set_by package_option words) (set-range package_option words) (λ s h. tt)
 
 vp-range : (words : List (List ℕ)) → IfSome (vp_of words) IsInRange
 vp-range words =

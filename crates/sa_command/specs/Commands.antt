@@ -1,6 +1,6 @@
 -- The command language: a command's name, its argument, and options of two words each, in any order and each at
 -- most once.
-use Rattle.std.specs.Prelude.{ℕ, ◌&&◌, true, false, List, [], ◌∷◌, codes, Option, Some, None, option_and_then, unwrap_or, is_none, if◌then◌else◌}
+use Rattle.std.specs.Prelude.{ℕ, ◌&&◌, true, List, [], ◌∷◌, codes, Option, Some, None, option_and_then, unwrap_or, is_none, if◌then◌else◌}
 use Rattle.std.specs.Option.{option_map}
 use Rattle.std.specs.Str.{bytes_eq}
 use Rattle.sa_base.specs.declared.limits.TheConstants.{MAX_BURST, MAX_EVENTS, DEFAULT_BUDGET, DEFAULT_BURST}
@@ -10,6 +10,7 @@ use Rattle.sa_command.specs.declared.command.Command.{Command}
 use Rattle.sa_command.specs.declared.command.Command.TheVariants.{Run, Threads, Load, Migrate, Check, Vp, Debug}
 use Rattle.sa_command.specs.declared.options.Options.{Options}
 use Rattle.sa_command.specs.declared.options.Settings.{Settings}
+use Rattle.sa_command.specs.declared.options.TheConstants.{NO_OPTIONS}
 use Rattle.sa_text.specs.Number.{number_of}
 use Rattle.sa_command.specs.Values.{number_within, schedule_of, package_of}
 
@@ -58,20 +59,23 @@ set_by taken words = settings_of taken nothing_set words
 --   threads                   --budget, --burst
 --   load N      N any         --budget
 --   migrate N   1 to the greatest number of events
---   check
+--   check                     --package
 --   vp                        --schedule, --budget
 --   debug                     --budget
 abbrev pub run_options : Options
-run_options = record { schedule = true; budget = true; burst = false; user_level = true }
+run_options = record NO_OPTIONS { schedule = true; budget = true; user_level = true }
 
 abbrev pub threads_options : Options
-threads_options = record { schedule = false; budget = true; burst = true; user_level = false }
+threads_options = record NO_OPTIONS { budget = true; burst = true }
 
 abbrev pub turn_options : Options
-turn_options = record { schedule = true; budget = true; burst = false; user_level = false }
+turn_options = record NO_OPTIONS { schedule = true; budget = true }
 
 abbrev pub budget_option : Options
-budget_option = record { schedule = false; budget = true; burst = false; user_level = false }
+budget_option = record NO_OPTIONS { budget = true }
+
+abbrev pub package_option : Options
+package_option = record NO_OPTIONS { user_level = true }
 
 abbrev pub run_of : List (List ℕ) → Option Command
 run_of words =
@@ -92,8 +96,7 @@ migrate_of (number ∷ []) = option_map (λ n. Migrate n) (number_within 1 MAX_E
 migrate_of (number ∷ word ∷ words) = None
 
 abbrev pub check_of : List (List ℕ) → Option Command
-check_of [] = Some Check
-check_of (word ∷ words) = None
+check_of words = option_map (λ s. Check (unwrap_or s.user_level Fast)) (set_by package_option words)
 
 abbrev pub vp_of : List (List ℕ) → Option Command
 vp_of words =

@@ -15,7 +15,7 @@ IsInRange (Run schedule budget user_level) = IsFrom 1 MAX_EVENTS budget
 IsInRange (Threads budget burst) = IsFrom 1 MAX_EVENTS budget × IsFrom 1 MAX_BURST burst
 IsInRange (Load number budget) = IsFrom 1 MAX_EVENTS budget
 IsInRange (Migrate slice) = IsFrom 1 MAX_EVENTS slice
-IsInRange Check = ⊤
+IsInRange (Check user_level) = ⊤
 IsInRange (Vp schedule budget) = IsFrom 1 MAX_EVENTS budget
 IsInRange (Debug budget) = IsFrom 1 MAX_EVENTS budget
 

@@ -51,8 +51,11 @@ pub enum Command {
         schedule: ScheduleWord,
         budget: u64,
     },
-    /// Judges the trace text of standard input beside the workload text that comes before it.
-    Check,
+    /// Judges the trace text of standard input beside the workload text that comes before it, by the rules of this user
+    /// level.
+    Check {
+        user_level: PackageWord,
+    },
     /// Debugs the workload of standard input by the script that follows it, for at most that many events, 1 to 1,000,000.
     Debug {
         budget: u64,

@@ -3,17 +3,15 @@ ghost use Rattle.std.specs.Prelude.{◌≡◌, map, string_bytes};
 ghost use Rattle.sa_command.specs.Commands.{debug_of};
 
 use crate::command::Command;
-use crate::options::{Options, read_options};
+use crate::options::{NO_OPTIONS, Options, read_options};
 use sa_base::DEFAULT_BUDGET;
 
 pub(crate) fn read_debug(words: &[String]) -> Option<Command>
     ensures { result ≡ debug_of (map string_bytes words.now) }
 {
     let taken = Options {
-        schedule: false,
         budget: true,
-        burst: false,
-        user_level: false,
+        ..NO_OPTIONS
     };
     let settings = read_options(taken, words)?;
     Some(Command::Debug {

@@ -1,6 +1,7 @@
 //! The words of a command line, and the command that they are.
 #![tactic(auto)]
 
+mod check;
 mod command;
 mod debug;
 pub mod laws;

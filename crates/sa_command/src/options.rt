@@ -14,6 +14,14 @@ pub(crate) struct Options {
     pub(crate) user_level: bool,
 }
 
+// No option: a command says which it takes beside it.
+pub(crate) const NO_OPTIONS: Options = Options {
+    schedule: false,
+    budget: false,
+    burst: false,
+    user_level: false,
+};
+
 // What the options of a command set.
 #[derive(Clone, Copy)]
 pub(crate) struct Settings {

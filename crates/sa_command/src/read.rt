@@ -1,9 +1,10 @@
 ghost use Rattle.std.specs.Prelude.{◌≡◌, map, string_bytes};
-ghost use Rattle.sa_command.specs.Commands.{command_of, named, run_of, load_of, migrate_of, check_of};
+ghost use Rattle.sa_command.specs.Commands.{command_of, named, run_of, load_of, migrate_of};
 
+use crate::check::read_check;
 use crate::command::{Command, PackageWord, ScheduleWord};
 use crate::debug::read_debug;
-use crate::options::{Options, read_options};
+use crate::options::{NO_OPTIONS, Options, read_options};
 use crate::threads::read_threads;
 use crate::value::read_within;
 use crate::vp::read_vp;
@@ -61,8 +62,8 @@ fn read_run(words: &[String]) -> Option<Command>
     let taken = Options {
         schedule: true,
         budget: true,
-        burst: false,
         user_level: true,
+        ..NO_OPTIONS
     };
     let settings = read_options(taken, words)?;
     Some(Command::Run {
@@ -76,10 +77,8 @@ fn read_load(words: &[String]) -> Option<Command>
     ensures { result ≡ load_of (map string_bytes words.now) }
 {
     let taken = Options {
-        schedule: false,
         budget: true,
-        burst: false,
-        user_level: false,
+        ..NO_OPTIONS
     };
     match words {
         [] => None,
@@ -104,15 +103,6 @@ fn read_migrate(words: &[String]) -> Option<Command>
                 slice: slice as u32,
             })
         }
-        _ => None,
-    }
-}
-
-fn read_check(words: &[String]) -> Option<Command>
-    ensures { result ≡ check_of (map string_bytes words.now) }
-{
-    match words {
-        [] => Some(Command::Check),
         _ => None,
     }
 }

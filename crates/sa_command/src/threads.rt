@@ -3,17 +3,16 @@ ghost use Rattle.std.specs.Prelude.{◌≡◌, map, string_bytes};
 ghost use Rattle.sa_command.specs.Commands.{threads_of};
 
 use crate::command::Command;
-use crate::options::{Options, read_options};
+use crate::options::{NO_OPTIONS, Options, read_options};
 use sa_base::{DEFAULT_BUDGET, DEFAULT_BURST};
 
 pub(crate) fn read_threads(words: &[String]) -> Option<Command>
     ensures { result ≡ threads_of (map string_bytes words.now) }
 {
     let taken = Options {
-        schedule: false,
         budget: true,
         burst: true,
-        user_level: false,
+        ..NO_OPTIONS
     };
     let settings = read_options(taken, words)?;
     Some(Command::Threads {

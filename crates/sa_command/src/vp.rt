@@ -3,7 +3,7 @@ ghost use Rattle.std.specs.Prelude.{◌≡◌, map, string_bytes};
 ghost use Rattle.sa_command.specs.Commands.{vp_of};
 
 use crate::command::{Command, ScheduleWord};
-use crate::options::{Options, read_options};
+use crate::options::{NO_OPTIONS, Options, read_options};
 use sa_base::DEFAULT_BUDGET;
 
 pub(crate) fn read_vp(words: &[String]) -> Option<Command>
@@ -12,8 +12,7 @@ pub(crate) fn read_vp(words: &[String]) -> Option<Command>
     let taken = Options {
         schedule: true,
         budget: true,
-        burst: false,
-        user_level: false,
+        ..NO_OPTIONS
     };
     let settings = read_options(taken, words)?;
     Some(Command::Vp {

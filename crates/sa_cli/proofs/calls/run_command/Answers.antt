@@ -4,6 +4,7 @@ use Rattle.sa_cli.specs.declared.outcome.Status.{Status}
 use Rattle.sa_cli.specs.Outcome.{RanHere}
 use Rattle.sa_cli.specs.Streams.{UsesStreams, streams, world_by}
 use Rattle.sa_cli.specs.Commands.{MigrateAnswers, CheckAnswers}
+use Rattle.sa_cli.specs.Packages.{rules_by}
 use Rattle.sa_cli.proofs.TopCalls.{does-along, does, does-nothing}
 use Rattle.sa_io.proofs.InputLemmas.{loses-nothing}
 use Rattle.sa_cli.proofs.calls.run_command.Goals as goal
@@ -60,13 +61,14 @@ returns-in-Some-Migrate g c =
 pub returns-in-Some-Check : goal.returns-in-Some-Check
 returns-in-Some-Check g c =
     let told = world_by g.S.Source.left g.K.Sink.taken g.S.Source.faults g.K.Sink.faults in
+    let checks = c.in-Some-Check in
     let said = c.check_texts.ensures in
     let outcome = c.nothing-in-Some-Check.ensures in
     let before = told (streams c.args.source.now c.args.sink.now) in
     let after = told (streams c.check_texts.new.source c.check_texts.new.sink) in
-    does-along _ _ (sym (c.in-Some-Check.is ∙ ap Some (rw c.in-Some-Check.is at c.in-Some-Check.field-0-is)))
-    (does Check (subst RanHere (sym outcome.ran) tt) (λ load. absurd load) (subst (UsesStreams _ _ _ _) (sym outcome.status) said.uses)
-    (outcome.ran, subst (λ (v : Status). CheckAnswers before after v) (sym outcome.status) said.answers))
+    does-along _ _ (sym (checks.is ∙ ap Some (rw checks.is at checks.field-0-is)))
+    (does (Check checks.user_level) (subst RanHere (sym outcome.ran) tt) (λ load. absurd load) (subst (UsesStreams _ _ _ _) (sym outcome.status) said.uses)
+    (outcome.ran, subst (λ (v : Status). CheckAnswers (rules_by checks.user_level) before after v) (sym outcome.status) said.answers))
 
 pub run_virtual-requires : goal.run_virtual-requires
 run_virtual-requires g c =
