@@ -6,19 +6,14 @@ use Rattle.sa_shapes.specs.declared.picture.Picture.{Picture}
 use Rattle.sa_shapes.specs.declared.window.Window.{Window}
 use Rattle.sa_shapes.specs.Extent.{extent_of, can_be_drawn}
 use Rattle.sa_shapes.specs.Picture.{HasShapes}
-use Rattle.sa_svg.specs.Layout.{unit_of, layout_of}
+use Rattle.sa_svg.specs.Layout.{unit_of, layout_by, layout_of}
 use Rattle.sa_svg.specs.Drawing.{file_text, svg_text}
 use Rattle.sa_picture.specs.declared.request.Request.{Request}
 use Rattle.sa_picture.specs.Drawn.{window_of, drawable, layout_for, picture_text, HasText}
 
 same_layout : (w : Window) (items : List Item) (p : Picture) (width : ℕ) → HasShapes w items p → layout_of p width ≡ layout_for w items width
-same_layout w items p width has = λ i. record {
-  unit = unit_of width (has.window i).count;
-  count = (has.window i).count;
-  lanes = has.lanes i;
-  spaces = has.spaces i;
-  depth = has.depth i;
-}
+same_layout w items p width has = λ i.
+    layout_by width (unit_of width (has.window i).count) (has.window i).count (has.lanes i) (has.spaces i) (has.depth i)
 
 same_text : (w : Window) (items : List Item) (p : Picture) (width : ℕ) → HasShapes w items p → svg_text p items width ≡ picture_text w items width
 unfolding svg_text picture_text

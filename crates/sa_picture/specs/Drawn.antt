@@ -6,13 +6,14 @@ use Rattle.sa_shapes.specs.Window.{window_to}
 use Rattle.sa_shapes.specs.Extent.{extent_of, can_be_drawn}
 use Rattle.sa_shapes.specs.Picture.{shapes_of, depth_of}
 use Rattle.sa_svg.specs.declared.layout.Layout.{Layout}
-use Rattle.sa_svg.specs.Layout.{unit_of}
+use Rattle.sa_svg.specs.Layout.{unit_of, layout_by}
 use Rattle.sa_svg.specs.Drawing.{file_text}
 use Rattle.sa_trace.specs.Reading.{Told, read_of}
 use Rattle.sa_picture.specs.declared.text.TheConstants.{INPUT_LIMIT}
 use Rattle.sa_picture.specs.declared.request.Request.{Request}
 use Rattle.sa_picture.specs.declared.status.Status.{Status}
 use Rattle.sa_picture.specs.declared.status.Status.TheVariants.{BadTrace, TooMuch, OutOfMemory}
+use Rattle.sa_picture.specs.Losses.{trace_part}
 use Rattle.sa_picture.specs.Refusal.{IsRefused}
 
 -- the events that a trace has
@@ -40,13 +41,8 @@ drawn_window r items = option_and_then (drawable items) (window_of r items)
 
 -- the text of the picture of these items in this window
 abbrev pub layout_for : Window → List Item → ℕ → Layout
-layout_for w items width = record {
-  unit = unit_of width w.count;
-  count = w.count;
-  lanes = (extent_of w items).lanes;
-  spaces = (extent_of w items).spaces;
-  depth = depth_of (shapes_of w items);
-}
+layout_for w items width =
+    layout_by width (unit_of width w.count) w.count (extent_of w items).lanes (extent_of w items).spaces (depth_of (shapes_of w items))
 
 unfoldable pub picture_text : Window → List Item → ℕ → List ℕ
 picture_text w items width = file_text (layout_for w items width) w items (shapes_of w items)
@@ -61,14 +57,14 @@ pub record HasText (r : Request) (items : List Item) (text : List ℕ) : Type 0 
 pub record IsDrawn (r : Request) (input : List ℕ) (text : List ℕ) : Type 0 where
   pub short : length input ≤ INPUT_LIMIT
   pub told : Told
-  pub read : read_of input ≡ Ok told
+  pub read : read_of (trace_part input) ≡ Ok told
   pub drawn : HasText r told.items text
 
 -- there is too much to draw of the trace of which the input is the text
 pub record IsTooMuch (r : Request) (input : List ℕ) : Type 0 where
   pub short : length input ≤ INPUT_LIMIT
   pub told : Told
-  pub read : read_of input ≡ Ok told
+  pub read : read_of (trace_part input) ≡ Ok told
   pub none : drawn_window r told.items ≡ None
 
 abbrev pub IsNotDrawn : Request → List ℕ → Status → Type 0

@@ -1,5 +1,6 @@
 pub mod Status
 pub mod Request
+pub mod Losses
 pub mod Refusal
 pub mod Drawn
 pub mod Answers

@@ -1,6 +1,7 @@
 //! `sa_picture`: reads a trace text from standard input, and writes a picture of it to standard output, as one SVG file.
 #![tactic(auto)]
 
+mod losses;
 mod request;
 mod status;
 mod text;

@@ -3,6 +3,7 @@ ghost use Rattle.std.specs.Prelude.{◌≡◌, ◌≤◌, length, None, MatchOpt
 ghost use Rattle.sa_picture.specs.Refusal.{too_long};
 ghost use Rattle.sa_picture.specs.Drawn.{first_event, last_event, window_of, drawn_window, HasText, IsDrawn, IsNotDrawn};
 
+use crate::losses::trace_part;
 use crate::request::Request;
 use crate::status::Status;
 use sa_base::{Bad, Cause, Item, Unread};
@@ -22,7 +23,7 @@ pub(crate) fn picture_of(alloc: Global, request: Request, input: &[u8]) -> Resul
     if input.len() > INPUT_LIMIT {
         return Err(Status::BadTrace(refusal_of_long(input)));
     }
-    match read(alloc, input) {
+    match read(alloc, trace_part(input)) {
         Ok(text) => match drawing_of(alloc, request, text.trace.items()) {
             Ok(Some(drawing)) => Ok(drawing),
             Ok(None) => Err(Status::TooMuch),

@@ -1,5 +1,6 @@
 mod Elements
 mod Fills
+mod Changes
 mod Shows
 mod Marked
 mod Lanes

@@ -46,8 +46,11 @@ demand_change s n other = None
 abbrev pub both : Bool → Bool → Bool
 both a b = if a then b else not b
 
+abbrev pub aims_change : ProcNo → List Bool → List Bool → Option Shown
+aims_change p aims next = if both (is_aimed aims p) (is_aimed next p) then None else Some (shown.Aimed next)
+
 abbrev pub aimed_change : SpaceNo → List Bool → Record → Option Shown
-aimed_change s aims (Aim p u) = if both (is_aimed aims p) (is_space s u) then None else Some (shown.Aimed (with_aim aims p (is_space s u)))
+aimed_change s aims (Aim p u) = aims_change p aims (with_aim aims p (is_space s u))
 aimed_change s aims other = None
 
 -- what the track shows from the item on, where that is another thing than before it

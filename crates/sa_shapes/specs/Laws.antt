@@ -1,5 +1,5 @@
 -- What holds of every picture.
-use Rattle.std.specs.Prelude.{◌≡◌, ℕ, ◌<◌, ◌≤◌, true, ◌&&◌, List, [], ◌∷◌, length, take, slice_get, Contains, count_by, Option, Some, None}
+use Rattle.std.specs.Prelude.{◌≡◌, ◌≢◌, ℕ, ◌+◌, ◌<◌, ◌≤◌, true, ◌&&◌, List, [], ◌∷◌, length, take, slice_get, Contains, count_by, Option, Some, None}
 use Rattle.sa_base.specs.declared.number.ProcNo.{ProcNo}
 use Rattle.sa_base.specs.declared.record.Item.{Item}
 use Rattle.sa_shapes.specs.declared.shape.Mark.{Mark}
@@ -59,13 +59,28 @@ pub record IsShown (w : Window) (items : List Item) (t : Track) (s : Stretch) : 
   pub shown : s.shown ≡ shown_after t (take s.last items)
   pub end : s.to ≡ end_of w (slice_get items s.last)
 
-abbrev pub AreShown : Window → List Item → Track → List Shape → Type 0
-AreShown w items t [] = Unit {0}
-AreShown w items t (shape.Stretch s ∷ rest) = IsShown w items t s × AreShown w items t rest
-AreShown w items t (shape.Mark m ∷ rest) = ⊥
+-- inside of a stretch nothing changes: after each item from its first up to the one before its last index the track shows the same
+abbrev pub IsConstant : List Item → Track → Stretch → Type 0
+IsConstant items t s = (k : ℕ) → s.first < k → k ≤ s.last → shown_after t (take k items) ≡ s.shown
+
+-- the item at its end, where it does not end with the trace, makes the track show another thing
+abbrev pub EndsInChange : List Item → Track → Stretch → Type 0
+EndsInChange items t s = (i : Item) → slice_get items s.last ≡ Some i → shown_after t (take (s.last + 1) items) ≢ s.shown
+
+-- these are stretches, and each is so
+abbrev pub EachStretch : (Stretch → Type 0) → List Shape → Type 0
+EachStretch P [] = Unit {0}
+EachStretch P (shape.Stretch s ∷ rest) = P s × EachStretch P rest
+EachStretch P (shape.Mark m ∷ rest) = ⊥
 
 abbrev pub StretchesShowTheTrace : Type 0
-StretchesShowTheTrace = (w : Window) (items : List Item) (t : Track) → AreShown w items t (stretches w items t)
+StretchesShowTheTrace = (w : Window) (items : List Item) (t : Track) → EachStretch (IsShown w items t) (stretches w items t)
+
+abbrev pub StretchesAreConstant : Type 0
+StretchesAreConstant = (w : Window) (items : List Item) (t : Track) → EachStretch (IsConstant items t) (stretches w items t)
+
+abbrev pub StretchesEndInChanges : Type 0
+StretchesEndInChanges = (w : Window) (items : List Item) (t : Track) → EachStretch (EndsInChange items t) (stretches w items t)
 
 -- each record that has a mark has it in the picture, at its event and above its lane, if its event is drawn
 pub record HasMark (w : Window) (items : List Item) (i : Item) : Type 0 where

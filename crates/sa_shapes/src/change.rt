@@ -67,11 +67,11 @@ fn aimed_change(s: SpaceNo, aims: [bool; MAX_LANES], what: &Record) -> Option<Sh
 {
     match *what {
         Record::Aim(p, u) => {
-            let now = is_space(s, u);
-            if is_aimed(&aims, p) == now {
+            let next = with_aim(aims, p, is_space(s, u));
+            if is_aimed(&aims, p) == is_aimed(&next, p) {
                 return None;
             }
-            Some(Shown::Aimed(with_aim(aims, p, now)))
+            Some(Shown::Aimed(next))
         }
         _ => None,
     }

@@ -1,6 +1,6 @@
 // What a processor does, as far as a looker is told.
 ghost use Rattle.std.specs.Prelude.{◌≡◌};
-ghost use Rattle.sa_shapes.specs.Look.{owner, working, in_space, owned_by, same_look, look_after};
+ghost use Rattle.sa_shapes.specs.Look.{owner, working, continued, announcing, in_space, owned_by, same_look, look_after};
 
 use sa_base::{ProcNo, Record, SpaceNo, ThreadNo};
 
@@ -13,6 +13,10 @@ pub enum Look {
     Thread(SpaceNo, ThreadNo),
     /// The space's package is at work, outside of a list.
     Package(SpaceNo),
+    /// The space has the processor, and no upcall has come there: a virtual processor is placed.
+    Placed(SpaceNo),
+    /// A virtual processor goes on with the thread that it had.
+    GoesOn(SpaceNo),
     /// The package is at this processor's ready list.
     List(SpaceNo, ProcNo),
     /// The package looked for a thread and found none.
@@ -30,6 +34,8 @@ impl Look {
             Look::Unowned => None,
             Look::Thread(s, _) => Some(s),
             Look::Package(s) => Some(s),
+            Look::Placed(s) => Some(s),
+            Look::GoesOn(s) => Some(s),
             Look::List(s, _) => Some(s),
             Look::Idle(s) => Some(s),
             Look::Section(s) => Some(s),
@@ -46,6 +52,26 @@ impl Look {
         }
     }
 
+    // What a `cont` shows: a section in its copy, or a virtual processor that goes on where no upcall has come.
+    fn continued(self, s: SpaceNo) -> Look
+        ensures { result ≡ continued self s }
+    {
+        match self {
+            Look::Placed(_) => Look::GoesOn(s),
+            _ => Look::Section(s),
+        }
+    }
+
+    // What an announcement of demand shows: of the processor's owner that its package is at work, of another space nothing.
+    fn announcing(self, s: SpaceNo) -> Look
+        ensures { result ≡ announcing self s }
+    {
+        match self.owner() {
+            None => self,
+            Some(u) => { if u.0 == s.0 { Look::Package(s) } else { self } }
+        }
+    }
+
     // The same thing is shown.
     pub(crate) fn is_same(self, other: Look) -> bool
         ensures { result ≡ same_look self other }
@@ -54,6 +80,8 @@ impl Look {
             (Look::Unowned, Look::Unowned) => true,
             (Look::Thread(s, t), Look::Thread(u, v)) => s.0 == u.0 && t.0 == v.0,
             (Look::Package(s), Look::Package(u)) => s.0 == u.0,
+            (Look::Placed(s), Look::Placed(u)) => s.0 == u.0,
+            (Look::GoesOn(s), Look::GoesOn(u)) => s.0 == u.0,
             (Look::List(s, l), Look::List(u, m)) => s.0 == u.0 && l.0 == m.0,
             (Look::Idle(s), Look::Idle(u)) => s.0 == u.0,
             (Look::Section(s), Look::Section(u)) => s.0 == u.0,
@@ -67,15 +95,13 @@ impl Look {
     {
         match *what {
             Record::Ins(s, t, _) | Record::Out(s, t, _) => Look::Thread(s, t),
-            Record::Stop(s, _, _) | Record::Back(s, _) => Look::Package(s),
-            Record::Block(s, _, _, _) => Look::Package(s),
-            Record::Cont(s, _) => Look::Section(s),
+            Record::Stop(s, _, _) => Look::Placed(s),
+            Record::Block(s, _, _, _) => Look::Placed(s),
+            Record::Up(s, _) | Record::Back(s, _) => Look::Package(s),
+            Record::Cont(s, _) => self.continued(s),
             Record::Take(s, l, _) | Record::Free(s, l, _) => self.working(Look::List(s, l)),
             Record::Move(_, n) => owned_by(n),
-            Record::Want(..) => match self.owner() {
-                None => self,
-                Some(s) => Look::Package(s),
-            },
+            Record::Want(s, _) => self.announcing(s),
             Record::Idle => match self.owner() {
                 None => self,
                 Some(s) => Look::Idle(s),
@@ -96,6 +122,6 @@ fn owned_by(n: Option<SpaceNo>) -> Look
 {
     match n {
         None => Look::Unowned,
-        Some(s) => Look::Package(s),
+        Some(s) => Look::Placed(s),
     }
 }

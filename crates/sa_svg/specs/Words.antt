@@ -1,5 +1,5 @@
 -- The words of shapes, and their classes, which the style sheet colours.
-use Rattle.std.specs.Prelude.{ℕ, Bool, List, ◌++◌, codes, count_by}
+use Rattle.std.specs.Prelude.{ℕ, Bool, List, [], ◌++◌, codes, decimal, count_by, if◌then◌else◌}
 use Rattle.sa_base.specs.declared.number.SpaceNo.{SpaceNo}
 use Rattle.sa_base.specs.declared.record.Note.TheVariants.{Add, Preempted, Blocked, Unblocked}
 use Rattle.sa_base.specs.declared.record.Record.{Record}
@@ -13,17 +13,25 @@ abbrev pub look_class : Look → List ℕ
 look_class look.Unowned = codes "u"
 look_class (look.Thread s t) = numbered (codes "t s") s.0
 look_class (look.Package s) = numbered (codes "p s") s.0
+look_class (look.Placed s) = numbered (codes "p s") s.0
+look_class (look.GoesOn s) = numbered (codes "p s") s.0
 look_class (look.List s l) = numbered (codes "p s") s.0
 look_class (look.Idle s) = numbered (codes "i s") s.0
 look_class (look.Section s) = numbered (codes "c s") s.0
 
-abbrev pub look_word : Look → List ℕ
-look_word look.Unowned = codes "-"
-look_word (look.Thread s t) = numbered (codes "t") t.0
-look_word (look.Package s) = codes "p"
-look_word (look.List s l) = numbered (codes "L") l.0
-look_word (look.Idle s) = codes "i"
-look_word (look.Section s) = codes "c"
+-- a word of a space, which is named before it where there are several
+abbrev pub named : Bool → SpaceNo → List ℕ → List ℕ
+named names s word = (if names then decimal s.0 ++ codes ":" else []) ++ word
+
+abbrev pub look_word : Bool → Look → List ℕ
+look_word names look.Unowned = codes "-"
+look_word names (look.Thread s t) = named names s (numbered (codes "t") t.0)
+look_word names (look.Package s) = named names s (codes "p")
+look_word names (look.Placed s) = named names s (codes "v")
+look_word names (look.GoesOn s) = named names s (codes "g")
+look_word names (look.List s l) = named names s (numbered (codes "L") l.0)
+look_word names (look.Idle s) = named names s (codes "i")
+look_word names (look.Section s) = named names s (codes "c")
 
 -- a space and what it does, with a number or without
 unfoldable pub of_space : SpaceNo → List ℕ → List ℕ
@@ -37,6 +45,8 @@ look_title look.Unowned = codes "owned by no space"
 look_title (look.Thread s t) = of_space_numbered s (codes ": thread ") t.0
 look_title (look.Package s) = of_space s (codes ": the package")
 look_title (look.List s l) = of_space_numbered s (codes ": the package, list ") l.0
+look_title (look.Placed s) = of_space s (codes ": a virtual processor is placed")
+look_title (look.GoesOn s) = of_space s (codes ": a virtual processor goes on")
 look_title (look.Idle s) = of_space s (codes ": a look in vain")
 look_title (look.Section s) = of_space s (codes ": a section in its copy")
 
@@ -68,7 +78,7 @@ mark_word (Told (Add p)) = numbered (codes "+P") p.0
 mark_word (Told (Preempted a)) = numbered (codes "pre") a.0
 mark_word (Told (Blocked a)) = numbered (codes "blk") a.0
 mark_word (Told (Unblocked a)) = numbered (codes "ret") a.0
-mark_word (Want s n) = codes "hint"
+mark_word (Want s n) = numbered (codes "want ") n
 mark_word (Take s l t) = codes "take"
 mark_word (Free s l t) = codes "free"
 mark_word (Spin l) = codes "spin"

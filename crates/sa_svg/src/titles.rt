@@ -119,7 +119,8 @@ pub(crate) fn push_line(out: &mut Vec<u8>, item: &Item) -> Result<(), AllocError
     out.extend_from_slice(b"\n")
 }
 
-fn push_record(out: &mut Vec<u8>, what: &Record) -> Result<(), AllocError>
+/// Appends a record as the trace text has it: the word of its kind, and its fields.
+pub fn push_record(out: &mut Vec<u8>, what: &Record) -> Result<(), AllocError>
     ensures { OnOk result (out.new.items ≡ out.old.items ++ record_text what.now) }
 {
     let parts = Parts::of(what);

@@ -1,11 +1,9 @@
 // The words of shapes, and their classes, which the style sheet colours.
-ghost use Rattle.std.specs.Prelude.{◌≡◌, ◌++◌, OnOk, codes};
-ghost use Rattle.sa_svg.specs.Markup.{rect, text_at, numbered};
-ghost use Rattle.sa_svg.specs.Words.{look_class, look_word, look_title, of_space, of_space_numbered, aimed_count, mark_class, mark_word};
+ghost use Rattle.std.specs.Prelude.{◌≡◌, ◌++◌, [], OnOk, codes};
+ghost use Rattle.sa_svg.specs.Markup.{rect, numbered};
+ghost use Rattle.sa_svg.specs.Words.{look_class, named, look_word, look_title, of_space, of_space_numbered, aimed_count, mark_class, mark_word};
 
-use crate::markup::{
-    Rect, push_numbered, push_numbered_rect, push_numbered_words, push_rect, push_words,
-};
+use crate::markup::{Rect, push_numbered, push_numbered_rect, push_rect};
 use sa_base::{Note, Record, SpaceNo};
 use sa_shapes::{Look, MAX_LANES};
 use std::alloc::AllocError;
@@ -17,7 +15,7 @@ pub(crate) fn push_look_rect(out: &mut Vec<u8>, look: Look, place: Rect) -> Resu
     match look {
         Look::Unowned => push_rect(out, b"u", place),
         Look::Thread(s, _) => push_numbered_rect(out, b"t s", u64::from(s.0), place),
-        Look::Package(s) | Look::List(s, _) => {
+        Look::Package(s) | Look::Placed(s) | Look::GoesOn(s) | Look::List(s, _) => {
             push_numbered_rect(out, b"p s", u64::from(s.0), place)
         }
         Look::Idle(s) => push_numbered_rect(out, b"i s", u64::from(s.0), place),
@@ -25,23 +23,44 @@ pub(crate) fn push_look_rect(out: &mut Vec<u8>, look: Look, place: Rect) -> Resu
     }
 }
 
-/// Appends the word that is in a bar.
-pub(crate) fn push_look_word(
-    out: &mut Vec<u8>,
-    x: u64,
-    y: u64,
-    look: Look,
-) -> Result<(), AllocError>
-    ensures { OnOk result (out.new.items ≡ out.old.items ++ text_at (codes "w") x y (look_word look)) }
+/// Appends the word of what a processor does, which names the space where that is asked for.
+pub(crate) fn push_look_word(out: &mut Vec<u8>, names: bool, look: Look) -> Result<(), AllocError>
+    ensures { OnOk result (out.new.items ≡ out.old.items ++ look_word names look) }
 {
     match look {
-        Look::Unowned => push_words(out, b"w", x, y, b"-"),
-        Look::Thread(_, t) => push_numbered_words(out, b"w", x, y, b"t", u64::from(t.0)),
-        Look::Package(_) => push_words(out, b"w", x, y, b"p"),
-        Look::List(_, l) => push_numbered_words(out, b"w", x, y, b"L", u64::from(l.0)),
-        Look::Idle(_) => push_words(out, b"w", x, y, b"i"),
-        Look::Section(_) => push_words(out, b"w", x, y, b"c"),
+        Look::Unowned => out.extend_from_slice(b"-"),
+        Look::Thread(s, t) => {
+            push_space(out, names, s)?;
+            push_numbered(out, b"t", u64::from(t.0))
+        }
+        Look::List(s, l) => {
+            push_space(out, names, s)?;
+            push_numbered(out, b"L", u64::from(l.0))
+        }
+        Look::Package(s) => push_letter(out, names, s, b"p"),
+        Look::Placed(s) => push_letter(out, names, s, b"v"),
+        Look::GoesOn(s) => push_letter(out, names, s, b"g"),
+        Look::Idle(s) => push_letter(out, names, s, b"i"),
+        Look::Section(s) => push_letter(out, names, s, b"c"),
     }
+}
+
+fn push_letter(out: &mut Vec<u8>, names: bool, s: SpaceNo, letter: &[u8]) -> Result<(), AllocError>
+    ensures { OnOk result (out.new.items ≡ out.old.items ++ named names s letter.now) }
+{
+    push_space(out, names, s)?;
+    out.extend_from_slice(letter)
+}
+
+// Appends the space of a word, where it is asked for.
+fn push_space(out: &mut Vec<u8>, names: bool, s: SpaceNo) -> Result<(), AllocError>
+    ensures { OnOk result (out.new.items ≡ out.old.items ++ named names s []) }
+{
+    if names {
+        push_numbered(out, b"", u64::from(s.0))?;
+        return out.extend_from_slice(b":");
+    }
+    Ok(())
 }
 
 /// Appends what a processor does in words.
@@ -53,6 +72,8 @@ pub(crate) fn push_look_title(out: &mut Vec<u8>, look: Look) -> Result<(), Alloc
         Look::Thread(s, t) => push_of_space_numbered(out, s, b": thread ", u64::from(t.0)),
         Look::Package(s) => push_of_space(out, s, b": the package"),
         Look::List(s, l) => push_of_space_numbered(out, s, b": the package, list ", u64::from(l.0)),
+        Look::Placed(s) => push_of_space(out, s, b": a virtual processor is placed"),
+        Look::GoesOn(s) => push_of_space(out, s, b": a virtual processor goes on"),
         Look::Idle(s) => push_of_space(out, s, b": a look in vain"),
         Look::Section(s) => push_of_space(out, s, b": a section in its copy"),
     }
@@ -108,30 +129,25 @@ pub(crate) fn mark_class(what: &Record) -> &'static [u8]
 }
 
 /// Appends the word of a record's mark.
-pub(crate) fn push_mark_word(
-    out: &mut Vec<u8>,
-    x: u64,
-    y: u64,
-    what: &Record,
-) -> Result<(), AllocError>
-    ensures { OnOk result (out.new.items ≡ out.old.items ++ text_at (codes "m") x y (mark_word what.now)) }
+pub(crate) fn push_mark_word(out: &mut Vec<u8>, what: &Record) -> Result<(), AllocError>
+    ensures { OnOk result (out.new.items ≡ out.old.items ++ mark_word what.now) }
 {
     match *what {
-        Record::Line(_) => push_words(out, b"m", x, y, b"line"),
-        Record::Stop(..) => push_words(out, b"m", x, y, b"stop"),
-        Record::Block(..) => push_words(out, b"m", x, y, b"block"),
-        Record::Unblock(..) => push_words(out, b"m", x, y, b"ret"),
-        Record::Up(_, a) => push_numbered_words(out, b"m", x, y, b"up ", a.0),
-        Record::Told(Note::Add(p)) => push_numbered_words(out, b"m", x, y, b"+P", u64::from(p.0)),
-        Record::Told(Note::Preempted(a)) => push_numbered_words(out, b"m", x, y, b"pre", a.0),
-        Record::Told(Note::Blocked(a)) => push_numbered_words(out, b"m", x, y, b"blk", a.0),
-        Record::Told(Note::Unblocked(a)) => push_numbered_words(out, b"m", x, y, b"ret", a.0),
-        Record::Want(..) => push_words(out, b"m", x, y, b"hint"),
-        Record::Take(..) => push_words(out, b"m", x, y, b"take"),
-        Record::Free(..) => push_words(out, b"m", x, y, b"free"),
-        Record::Spin(_) => push_words(out, b"m", x, y, b"spin"),
-        Record::Fetch(_) => push_words(out, b"m", x, y, b"ftch"),
-        Record::Fetched(_) => push_words(out, b"m", x, y, b"page"),
-        _ => push_words(out, b"m", x, y, b"-"),
+        Record::Line(_) => out.extend_from_slice(b"line"),
+        Record::Stop(..) => out.extend_from_slice(b"stop"),
+        Record::Block(..) => out.extend_from_slice(b"block"),
+        Record::Unblock(..) => out.extend_from_slice(b"ret"),
+        Record::Up(_, a) => push_numbered(out, b"up ", a.0),
+        Record::Told(Note::Add(p)) => push_numbered(out, b"+P", u64::from(p.0)),
+        Record::Told(Note::Preempted(a)) => push_numbered(out, b"pre", a.0),
+        Record::Told(Note::Blocked(a)) => push_numbered(out, b"blk", a.0),
+        Record::Told(Note::Unblocked(a)) => push_numbered(out, b"ret", a.0),
+        Record::Want(_, n) => push_numbered(out, b"want ", u64::from(n)),
+        Record::Take(..) => out.extend_from_slice(b"take"),
+        Record::Free(..) => out.extend_from_slice(b"free"),
+        Record::Spin(_) => out.extend_from_slice(b"spin"),
+        Record::Fetch(_) => out.extend_from_slice(b"ftch"),
+        Record::Fetched(_) => out.extend_from_slice(b"page"),
+        _ => out.extend_from_slice(b"-"),
     }
 }
