@@ -7,6 +7,7 @@ ghost use Rattle.sa_picture.specs.Losses.{losses_at, is_loss_of, is_loss, are_lo
 use sa_text::{Line, Lines, Pieces, read_number};
 
 /// The trace text of an input: the input without the lines of losses at its end, where what follows the trace is nothing else.
+#[tactic(auto, unfolding(crate::specs::Losses::trace_part))]
 pub(crate) fn trace_part(input: &[u8]) -> &[u8]
     ensures part { result.now ≡ trace_part input.now }
     ensures short { length result.now ≤ length input.now }

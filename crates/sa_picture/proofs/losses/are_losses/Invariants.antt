@@ -4,8 +4,8 @@ use Rattle.sa_text.specs.Line.{lines_of}
 use Rattle.sa_picture.specs.Losses.{is_loss}
 use Rattle.sa_picture.proofs.losses.are_losses.Given as goal
 
-abbrev pub invariant-loop : goal.invariant-loop
-invariant-loop l = (l.lines.text ≡ l.text) × (list_all (is_loss l.text) l.lines.left ≡ list_all (is_loss l.text) (lines_of l.text))
+abbrev pub invariant-loop-line : goal.invariant-loop-line
+invariant-loop-line l = (l.lines.text ≡ l.text) × (list_all (is_loss l.text) l.lines.left ≡ list_all (is_loss l.text) (lines_of l.text))
 
-abbrev pub decreases-loop : goal.decreases-loop
-decreases-loop l = length l.lines.left
+abbrev pub decreases-loop-line : goal.decreases-loop-line
+decreases-loop-line l = length l.lines.left
