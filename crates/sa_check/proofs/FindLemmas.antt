@@ -8,21 +8,21 @@ use Rattle.sa_laws.specs.declared.rule.Rule.TheVariants.{Numbered, Stepwise, Tol
 use Rattle.sa_laws.specs.Event.{Event}
 use Rattle.sa_laws.specs.Readings.{Readings}
 use Rattle.sa_laws.specs.Ends.{LastLine}
-use Rattle.sa_laws.specs.Rules.{fast_threads, Holds, HoldEach, Breaks, rules, rules_before}
+use Rattle.sa_laws.specs.Rules.{UserRules, Holds, HoldEach, Breaks, rules, rules_before}
 
-module _ (w : WorkloadView) (r : Readings) (e : Event) (last : Option LastLine) (found : Rule → Bool)
-    (each : (rule : Rule) → IsTrue (found rule) ↔ Holds fast_threads w rule r e last) where
+module _ (u : UserRules) (w : WorkloadView) (r : Readings) (e : Event) (last : Option LastLine) (found : Rule → Bool)
+    (each : (rule : Rule) → IsTrue (found rule) ↔ Holds u w rule r e last) where
   abbrev pub Outcome : Option Rule → Type 0
-  Outcome o = MatchOption o (HoldEach fast_threads w rules r e last) (Breaks fast_threads w r e last)
+  Outcome o = MatchOption o (HoldEach u w rules r e last) (Breaks u w r e last)
 
-  hold-more : (list : List Rule) (rule : Rule) → HoldEach fast_threads w list r e last → Holds fast_threads w rule r e last
-      → HoldEach fast_threads w (list ++ rule ∷ []) r e last
+  hold-more : (list : List Rule) (rule : Rule) → HoldEach u w list r e last → Holds u w rule r e last
+      → HoldEach u w (list ++ rule ∷ []) r e last
   hold-more [] rule all one = (one, tt)
   hold-more (x ∷ xs) rule all one = (all.0, hold-more xs rule all.1 one)
 
   -- one rule more
-  step : (rule : Rule) (rest : List Rule) → (HoldEach fast_threads w (rules_before rule ++ rule ∷ []) r e last → Outcome (find (λ x. not (found x)) rest))
-      → HoldEach fast_threads w (rules_before rule) r e last → Outcome (find (λ x. not (found x)) (rule ∷ rest))
+  step : (rule : Rule) (rest : List Rule) → (HoldEach u w (rules_before rule ++ rule ∷ []) r e last → Outcome (find (λ x. not (found x)) rest))
+      → HoldEach u w (rules_before rule) r e last → Outcome (find (λ x. not (found x)) (rule ∷ rest))
   step rule rest more held = by (found rule) refl where
     by : (b : Bool) → found rule ≡ b → Outcome (if not b then Some rule else find (λ x. not (found x)) rest)
     by true is = more (hold-more (rules_before rule) rule held ((each rule).0 is))

@@ -9,7 +9,10 @@ use Rattle.sa_laws.specs.History.{event_begun}
 use Rattle.sa_laws.specs.Opening.{IsNumbered}
 use Rattle.sa_laws.specs.Step.{AreSteps}
 use Rattle.sa_laws.specs.Ends.{LastLine}
-use Rattle.sa_laws.specs.Rules.{Law, fast_threads, Holds}
+use Rattle.sa_laws.specs.Rules.{Law, Holds}
+use Rattle.sa_base.specs.declared.number.ActNo.{ActNo}
+use Rattle.sa_check_moment.specs.declared.rules.Rules.{Rules}
+use Rattle.sa_check_moment.specs.Rules.{rules_of}
 use Rattle.sa_check_moment.specs.Seen.{Seen, at_event}
 use Rattle.sa_check.specs.declared.begin.Beginning.{Beginning}
 use Rattle.sa_check.specs.declared.end.Ending.{Ending}
@@ -48,11 +51,11 @@ or-0 (suc n) false holds = absurd (no (holds (omega arith))) where
 abbrev pub beginning_of : Seen → Event → Seen
 beginning_of m e = record m { readings = event_begun m.workload e m.readings }
 
-module _ (m : Seen) (e : Event) (last : Option LastLine) (b : Beginning) (laws : RecordsFound) (due : DueFound) (ending : Ending)
+module _ (m : Seen) (e : Event) (last : Option LastLine) (b : Beginning) (laws : RecordsFound) (running : Option ActNo) (due : DueFound) (ending : Ending)
     (numbered : IsNumbered m.workload m.readings e) (steps : AreSteps m.workload e.number e.proc (event_begun m.workload e m.readings) e.records)
-    (begins : IsBeginning m e b) (read : IsFoundOf (beginning_of m e) e laws) (places : IsDueFound (beginning_of m e) e due)
+    (begins : IsBeginning m e b) (read : IsFoundOf (beginning_of m e) e laws) (places : IsDueFound (beginning_of m e) e running due)
     (ends : IsEnding (after m e) e.number last ending) where
-  pub each : (rule : Rule) → IsTrue (found_of (findings_of e.number b laws due ending) rule) ↔ Holds fast_threads m.workload rule m.readings e last
+  pub each : (rule : Rule) → IsTrue (found_of (findings_of e.number b laws due ending) rule) ↔ Holds (rules_of m.rules) m.workload rule m.readings e last
   each Numbered = (λ _. numbered, λ _. refl)
   each Stepwise = (λ _. record { steps = steps }, λ _. refl)
   each ToldOnce = (λ yes. record { told = read.told_once.0 yes }, λ holds. read.told_once.1 holds.told)
@@ -93,7 +96,7 @@ module _ (m : Seen) (e : Event) (last : Option LastLine) (b : Beginning) (laws :
   each DemandAnnounced = begins.demand_announced
   each TurnsTaken = begins.turns_taken
   each LocksKept = begins.locks_kept
-  each OrderKept = (λ yes. record { run = begins.order_kept.0 yes }, λ holds. begins.order_kept.1 holds.run)
+  each OrderKept = begins.order_kept
   each EndTold = ends.end_told
 
 -- a list in which nothing was found is empty
@@ -108,8 +111,8 @@ something-found xs true is none = absurd (is.0 refl none)
 something-found xs false is none = refl
 
 -- what is decided as an event begins, of the moment before it
-pub at-beginning : (L : Law) (m next : Seen) (e : Event) (found : Bool) → next ≡ at_event e.number e.proc m
-    → (next.readings ≡ event_begun next.workload e m.readings → (IsTrue found ↔ L next.workload m.readings e))
-    → IsTrue found ↔ L m.workload m.readings e
+pub at-beginning : (L : Rules → Law) (m next : Seen) (e : Event) (found : Bool) → next ≡ at_event e.number e.proc m
+    → (next.readings ≡ event_begun next.workload e m.readings → (IsTrue found ↔ L next.rules next.workload m.readings e))
+    → IsTrue found ↔ L m.rules m.workload m.readings e
 at-beginning L m next e found begins decided =
-    subst (λ (s : Seen). (s.readings ≡ event_begun s.workload e m.readings → (IsTrue found ↔ L s.workload m.readings e))) begins decided refl
+    subst (λ (s : Seen). (s.readings ≡ event_begun s.workload e m.readings → (IsTrue found ↔ L s.rules s.workload m.readings e))) begins decided refl

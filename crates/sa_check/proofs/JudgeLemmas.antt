@@ -9,7 +9,9 @@ use Rattle.sa_laws.specs.Readings.{Readings}
 use Rattle.sa_laws.specs.Opening.{IsNumbered}
 use Rattle.sa_laws.specs.Step.{AreSteps}
 use Rattle.sa_laws.specs.Ends.{LastLine}
-use Rattle.sa_laws.specs.Rules.{fast_threads, HoldEach, Breaks, rules}
+use Rattle.sa_laws.specs.Rules.{UserRules, HoldEach, Breaks, rules}
+use Rattle.sa_base.specs.declared.number.ActNo.{ActNo}
+use Rattle.sa_check_moment.specs.Rules.{rules_of}
 use Rattle.sa_check_moment.specs.Seen.{Seen, at_event, at_end}
 use Rattle.sa_check.specs.declared.begin.Beginning.{Beginning}
 use Rattle.sa_check.specs.declared.end.Ending.{Ending}
@@ -24,12 +26,12 @@ use Rattle.sa_check.proofs.FindLemmas.{first-is}
 use Rattle.sa_check.proofs.QuietLemmas.{quiet-records, quiet-settled, quiet-wants-due, quiet-aims-due}
 use Rattle.sa_check.proofs.FoundLemmas.{beginning_of, each}
 
-pub numbering-breaks : (w : WorkloadView) (r : Readings) (e : Event) (last : Option LastLine) (found : Bool) → (IsTrue found ↔ IsNumbered w r e) → found ≡ false
-    → Breaks fast_threads w r e last Numbered
-numbering-breaks w r e last found is fails = record { earlier = tt; broken = λ holds. let yes = is.1 holds in cc }
+pub numbering-breaks : (u : UserRules) (w : WorkloadView) (r : Readings) (e : Event) (last : Option LastLine) (found : Bool) → (IsTrue found ↔ IsNumbered w r e) → found ≡ false
+    → Breaks u w r e last Numbered
+numbering-breaks u w r e last found is fails = record { earlier = tt; broken = λ holds. let yes = is.1 holds in cc }
 
 pub step-breaks : (m start : Seen) (e : Event) (last : Option LastLine) → IsNumbered m.workload m.readings e → start ≡ at_event e.number e.proc m
-    → (AreSteps start.workload e.number e.proc start.readings e.records → ⊥) → Breaks fast_threads m.workload m.readings e last Stepwise
+    → (AreSteps start.workload e.number e.proc start.readings e.records → ⊥) → Breaks (rules_of m.rules) m.workload m.readings e last Stepwise
 step-breaks m start e last numbered begins none =
     let none' = subst (λ (s : Seen). AreSteps s.workload e.number e.proc s.readings e.records → ⊥) begins none in
     record { earlier = (numbered, tt); broken = λ holds. none' holds.steps }
@@ -41,29 +43,29 @@ ended-is m start through next e begins reads ends =
     ends ∙ ap (at_end m.readings e.number e.proc e.records) (reads ∙ ap (λ (s : Seen). behind_some s e e.records) begins)
 
 -- what the first rule that was not found says, or that there is none
-abbrev pub FirstIs : WorkloadView → Readings → Event → Option LastLine → Option Rule → Type 0
-FirstIs w r e last first = MatchOption first (HoldEach fast_threads w rules r e last) (Breaks fast_threads w r e last)
+abbrev pub FirstIs : UserRules → WorkloadView → Readings → Event → Option LastLine → Option Rule → Type 0
+FirstIs u w r e last first = MatchOption first (HoldEach u w rules r e last) (Breaks u w r e last)
 
-pub outcome : (m start next : Seen) (e : Event) (last : Option LastLine) (b : Beginning) (through : ReadThrough) (ending : Ending)
-    → IsNumbered m.workload m.readings e → IsBeginning m e b → start ≡ at_event e.number e.proc m → IsReadThrough start e through
+pub outcome : (m start next : Seen) (e : Event) (last : Option LastLine) (b : Beginning) (running : Option ActNo) (through : ReadThrough) (ending : Ending)
+    → IsNumbered m.workload m.readings e → IsBeginning m e b → start ≡ at_event e.number e.proc m → IsReadThrough start e running through
     → next ≡ after m e → IsEnding next e.number last ending
-    → FirstIs m.workload m.readings e last (find (λ rule. not (found_of (findings_of e.number b through.laws through.due ending) rule)) rules)
-outcome m start next e last b through ending numbered begins starts read ends after_it =
-    let read' : IsReadThrough (beginning_of m e) e through = subst (λ (s : Seen). IsReadThrough s e through) starts read in
+    → FirstIs (rules_of m.rules) m.workload m.readings e last (find (λ rule. not (found_of (findings_of e.number b through.laws through.due ending) rule)) rules)
+outcome m start next e last b running through ending numbered begins starts read ends after_it =
+    let read' : IsReadThrough (beginning_of m e) e running through = subst (λ (s : Seen). IsReadThrough s e running through) starts read in
     let after' : IsEnding (after m e) e.number last ending = subst (λ (s : Seen). IsEnding s e.number last ending) ends after_it in
-    first-is m.workload m.readings e last (λ rule. found_of (findings_of e.number b through.laws through.due ending) rule)
-    (each m e last b through.laws through.due ending numbered read'.steps begins read'.laws read'.due after')
+    first-is (rules_of m.rules) m.workload m.readings e last (λ rule. found_of (findings_of e.number b through.laws through.due ending) rule)
+    (each m e last b through.laws running through.due ending numbered read'.steps begins read'.laws read'.due after')
 
 -- the first rule that breaks is this one, or none, where these findings give it
-pub judged-so : (m start next : Seen) (e : Event) (last : Option LastLine) (b : Beginning) (through : ReadThrough) (ending : Ending)
-    → IsNumbered m.workload m.readings e → IsBeginning m e b → start ≡ at_event e.number e.proc m → IsReadThrough start e through
+pub judged-so : (m start next : Seen) (e : Event) (last : Option LastLine) (b : Beginning) (running : Option ActNo) (through : ReadThrough) (ending : Ending)
+    → IsNumbered m.workload m.readings e → IsBeginning m e b → start ≡ at_event e.number e.proc m → IsReadThrough start e running through
     → next ≡ after m e → IsEnding next e.number last ending
     → (f : Findings) (first : Option Rule) → f ≡ findings_of e.number b through.laws through.due ending → first ≡ find (λ rule. not (found_of f rule)) rules
-    → FirstIs m.workload m.readings e last first
-judged-so m start next e last b through ending numbered begins starts read ends after_it f first is found =
-    subst (λ (o : Option Rule). FirstIs m.workload m.readings e last o)
+    → FirstIs (rules_of m.rules) m.workload m.readings e last first
+judged-so m start next e last b running through ending numbered begins starts read ends after_it f first is found =
+    subst (λ (o : Option Rule). FirstIs (rules_of m.rules) m.workload m.readings e last o)
     (sym (found ∙ ap (λ (g : Findings). find (λ rule. not (found_of g rule)) rules) is))
-    (outcome m start next e last b through ending numbered begins starts read ends after_it)
+    (outcome m start next e last b running through ending numbered begins starts read ends after_it)
 
 -- a quiet event, after an event that left all as it must be
 pub quiet-from : (m start : Seen) (e : Event) → IsNumbered m.workload m.readings e → WasSettled m.workload m.readings → start ≡ at_event e.number e.proc m
@@ -80,4 +82,4 @@ quiet-from m start e numbered settled begins quiet =
 pub settled-behind : (m next : Seen) (e : Event) → IsNumbered m.workload m.readings e → WasSettled m.workload m.readings
     → is_quiet m.workload m.readings e ≡ true → next ≡ after m e → IsSettled next.workload e.number next.readings
 settled-behind m next e numbered settled quiet ends =
-    subst (λ (s : Seen). IsSettled s.workload e.number s.readings) (sym ends) (quiet-settled m.workload m.readings e numbered.number settled quiet)
+    subst (λ (s : Seen). IsSettled s.workload e.number s.readings) (sym ends) (quiet-settled m.workload m.readings e numbered.number settled quiet (rules_of m.rules).inside)

@@ -6,6 +6,7 @@ pub mod RecordLemmas
 pub mod FoundLemmas
 pub mod QuietLemmas
 pub mod QuietLines
+pub mod UrgedLemmas
 pub mod JudgeLemmas
 pub mod WalkLemmas
 pub mod ReadLemmas

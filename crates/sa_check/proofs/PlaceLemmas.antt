@@ -4,7 +4,7 @@ use Rattle.std.specs.Prelude.{IsTrue, take_while}
 use Rattle.std.proofs.lemmas.Bool.{cases_eq}
 use Rattle.std.proofs.lemmas.List.Folds.{length-prefix_len}
 use Rattle.sa_base.specs.declared.record.Record.{Record}
-use Rattle.sa_laws.specs.Shape.{before_aims, before_wants, is_no_aim, is_no_want}
+use Rattle.sa_laws.specs.Shape.{before_aims, before_wants, own_part, is_no_aim, is_no_want, is_own}
 use Rattle.sa_check.specs.Places.{FoundAt}
 
 take-run : (test : Record → Bool) (xs : List Record) → take (length (take_while test xs)) xs ≡ take_while test xs
@@ -16,6 +16,10 @@ take-before-wants (x ∷ xs) = ap (λ ys. x ∷ ys) (take-run is_no_want xs)
 
 pub take-before-aims : (xs : List Record) → take (length (before_aims xs)) xs ≡ before_aims xs
 take-before-aims xs = take-run is_no_aim xs
+
+pub take-own : (xs : List Record) → take (length (own_part xs)) xs ≡ own_part xs
+take-own [] = refl
+take-own (x ∷ xs) = ap (λ ys. x ∷ ys) (take-run is_own xs)
 
 -- what was found at its place stays found after it
 pub found-behind : (due place : ℕ) (before now : Bool) (P Q : Type 0) → FoundAt due place P before now → (place ≡ due → (P ↔ Q))

@@ -1,11 +1,11 @@
 -- A quiet event leaves owners, shares, wants and what is told in time as they were.
-use Rattle.std.proofs.Common.{◌≡◌, ℕ, zero, suc, ◌-◌, ◌≤◌, refl, sym, ◌∙◌, ap, subst, inl, inr, arith, Bool, true, false, List, [], ◌∷◌, map, length, take, Option, Some, None}
+use Rattle.std.proofs.Common.{◌≡◌, ℕ, zero, suc, ◌+◌, ◌-◌, ◌≤◌, refl, sym, ◌∙◌, ap, subst, inl, inr, arith, Bool, true, false, List, [], ◌∷◌, map, length, take, drop, Option, Some, None}
 use Rattle.std.specs.Prelude.{◌==◌, nat_lt, not, ◌&&◌, ◌||◌, slice_index, slice_index_or, if◌then◌else◌, is_none, slice_set}
 use Rattle.std.specs.List.{list_all, list_any, prefix_len}
 use Rattle.std.specs.Option.{option_map}
 use Rattle.std.proofs.lemmas.Bool.{cases_eq, and_parts}
 use Rattle.std.proofs.lemmas.Bool.Decides.{eqb_tells, nat_tests}
-use Rattle.std.proofs.lemmas.List.{set-get_or}
+use Rattle.std.proofs.lemmas.List.{set-get_or, drop_all}
 use Rattle.sa_base.specs.declared.number.ProcNo.{ProcNo}
 use Rattle.sa_base.specs.declared.number.SpaceNo.{SpaceNo}
 use Rattle.sa_base.specs.declared.number.ThreadNo.{ThreadNo}
@@ -27,14 +27,16 @@ use Rattle.sa_laws.specs.Life.{Life}
 use Rattle.sa_laws.specs.declared.rule.Rule.TheVariants.{Numbered, ToldInTime, WhereOwned, WantCause, SharesCovered}
 use Rattle.sa_laws.specs.Readings.{Readings, running_of, life_of, line_of, demand_of, untold_of, space_of_life, must_hear, was_idle}
 use Rattle.sa_laws.specs.Ends.{LastLine}
-use Rattle.sa_laws.specs.Rules.{fast_threads, HoldEach, rules}
+use Rattle.sa_laws.specs.Rules.{UserRules, HoldEach, rules}
 use Rattle.sa_laws.specs.Record.{after_record, with_life}
-use Rattle.sa_laws.specs.History.{is_inside, event_begun, after_records, behind_all, is_step, is_up, with_step, with_up, stepped, arisen, after_event}
-use Rattle.sa_laws.specs.Shape.{is_no_aim, is_no_want, is_other_line, aims_in, wants_in, others_of, before_aims, before_wants, before_lines, front_part}
+use Rattle.sa_laws.specs.History.{Test, event_begun, after_records, behind_all, is_step, is_up, with_step, with_up, stepped, arisen, after_event}
+use Rattle.sa_laws.specs.Shape.{is_no_aim, is_no_want, is_other_line, aims_in, wants_in, others_of, before_aims, before_wants, before_lines, front_part, is_own, closing_part}
 use Rattle.sa_laws.specs.Closing.{claims_of, spaces_of, must_want, want_one, wants_due, first_space, shares_at, aims_due}
 use Rattle.sa_laws.specs.Upcalls.{RecordLaw, EachRecord, TellsOnce, NamesTheLife, TellsAllThen, GivesUpcallThen, RaisesLine, IsPrompt}
 use Rattle.sa_laws.proofs.Records.{number-kept}
 use Rattle.sa_histories.proofs.FirstBreaks.{holds-each}
+use Rattle.sa_ranks.specs.Inside.{has_entry}
+use Rattle.sa_check_moment.specs.Urged.{is_closed, asks_last}
 use Rattle.sa_check.specs.Quiet.{is_quiet_record, keeps_first, is_quiet, IsSettled, WasSettled}
 
 -- what holds of each quiet kind holds of each quiet record
@@ -114,12 +116,12 @@ same-both r q s a b = record {
 }
 
 -- what a change keeps of a life
-option-kept : {A : Type 0} (f : Life → Life) (g : Life → A) → ((x : Life) → g (f x) ≡ g x) → (life : Option Life)
+pub option-kept : {A : Type 0} (f : Life → Life) (g : Life → A) → ((x : Life) → g (f x) ≡ g x) → (life : Option Life)
     → option_map g (option_map f life) ≡ option_map g life
 option-kept f g keeps None = refl
 option-kept f g keeps (Some x) = ap Some (keeps x)
 
-life-kept : {A : Type 0} (f : Life → Life) (g : Life → A) → ((x : Life) → g (f x) ≡ g x) → (at : Option ActNo) (lives : ℕ → Option Life) (a : ActNo)
+pub life-kept : {A : Type 0} (f : Life → Life) (g : Life → A) → ((x : Life) → g (f x) ≡ g x) → (at : Option ActNo) (lives : ℕ → Option Life) (a : ActNo)
     → option_map g (with_life f at lives a.0) ≡ option_map g (lives a.0)
 life-kept f g keeps None lives a = refl
 life-kept f g keeps (Some b) lives a = elim (cases_eq a.0 b.0) [
@@ -203,29 +205,29 @@ same-begun w e r low = record {
   lines = ap (slice_set r.lines e.proc.0) (sym low) ∙ set-get_or r.lines e.proc.0 None;
 }
 
-module _ {A : Type 0} (g : Life → A) (w : WorkloadView) (r : Readings) (e : Event) (q : Readings)
-    (steps : (first : Record) (x : Life) → g (stepped is_inside w r e q first x) ≡ g x) (rises : (x : Life) → g (arisen is_inside w r e q x) ≡ g x) where
+module _ {A : Type 0} (g : Life → A) (test : Test) (w : WorkloadView) (r : Readings) (e : Event) (q : Readings)
+    (steps : (first : Record) (x : Life) → g (stepped test w r e q first x) ≡ g x) (rises : (x : Life) → g (arisen test w r e q x) ≡ g x) where
   step-kept : (records : List Record) (lives : ℕ → Option Life) (a : ActNo)
-      → option_map g (with_step is_inside w r e q records lives a.0) ≡ option_map g (lives a.0)
+      → option_map g (with_step test w r e q records lives a.0) ≡ option_map g (lives a.0)
   step-kept [] lives a = refl
   step-kept (first ∷ others) lives a = at (is_step first) where
-    at : (b : Bool) → option_map g ((if b then with_life (stepped is_inside w r e q first) (running_of r e.proc) lives else lives) a.0)
+    at : (b : Bool) → option_map g ((if b then with_life (stepped test w r e q first) (running_of r e.proc) lives else lives) a.0)
         ≡ option_map g (lives a.0)
-    at true = life-kept (stepped is_inside w r e q first) g (steps first) (running_of r e.proc) lives a
+    at true = life-kept (stepped test w r e q first) g (steps first) (running_of r e.proc) lives a
     at false = refl
 
-  up-kept : (lives : ℕ → Option Life) (a : ActNo) → option_map g (with_up is_inside w r e q lives a.0) ≡ option_map g (lives a.0)
+  up-kept : (lives : ℕ → Option Life) (a : ActNo) → option_map g (with_up test w r e q lives a.0) ≡ option_map g (lives a.0)
   up-kept lives a = at (list_any is_up e.records) where
-    at : (b : Bool) → option_map g ((if b then with_life (arisen is_inside w r e q) (running_of q e.proc) lives else lives) a.0) ≡ option_map g (lives a.0)
-    at true = life-kept (arisen is_inside w r e q) g rises (running_of q e.proc) lives a
+    at : (b : Bool) → option_map g ((if b then with_life (arisen test w r e q) (running_of q e.proc) lives else lives) a.0) ≡ option_map g (lives a.0)
+    at true = life-kept (arisen test w r e q) g rises (running_of q e.proc) lives a
     at false = refl
 
-  end-kept : (a : ActNo) → option_map g (with_up is_inside w r e q (with_step is_inside w r e q e.records q.lives) a.0) ≡ option_map g (q.lives a.0)
-  end-kept a = up-kept (with_step is_inside w r e q e.records q.lives) a ∙ step-kept e.records q.lives a
+  end-kept : (a : ActNo) → option_map g (with_up test w r e q (with_step test w r e q e.records q.lives) a.0) ≡ option_map g (q.lives a.0)
+  end-kept a = up-kept (with_step test w r e q e.records q.lives) a ∙ step-kept e.records q.lives a
 
-same-event : (w : WorkloadView) (r : Readings) (e : Event) → line_of r e.proc ≡ None → list_all is_quiet_record e.records ≡ true
-    → IsSame r (after_event is_inside w r e)
-same-event w r e low h =
+same-event : (test : Test) (w : WorkloadView) (r : Readings) (e : Event) → line_of r e.proc ≡ None → list_all is_quiet_record e.records ≡ true
+    → IsSame r (after_event test w r e)
+same-event test w r e low h =
     let q = behind_all w e r in
     let here = same-both r (event_begun w e r) q (same-begun w e r low) (same-records w e.number e.proc (event_begun w e r) e.records h) in
     record {
@@ -236,8 +238,8 @@ same-event w r e low h =
       running = here.running;
       lines = here.lines;
       untold = here.untold;
-      spaces = λ a. end-kept (λ (x : Life). x.space) w r e q (λ first x. refl) (λ x. refl) a ∙ here.spaces a;
-      idles = λ a. end-kept (λ (x : Life). x.idle) w r e q (λ first x. refl) (λ x. refl) a ∙ here.idles a;
+      spaces = λ a. end-kept (λ (x : Life). x.space) test w r e q (λ first x. refl) (λ x. refl) a ∙ here.spaces a;
+      idles = λ a. end-kept (λ (x : Life). x.idle) test w r e q (λ first x. refl) (λ x. refl) a ∙ here.idles a;
     }
 
 -- where this is the same, the shares are
@@ -372,9 +374,9 @@ module _ (w : WorkloadView) (r : Readings) (e : Event) (numbered : e.number ≡ 
       was (e.number - 1) (omega (arith, numbered, some))
 
   -- after a quiet event all is as it must be
-  pub quiet-settled : IsSettled w e.number (after_event is_inside w r e)
-  quiet-settled =
-      settled-same w (e.number - 1) e.number r (after_event is_inside w r e) first.1 (same-event w r e low (quiet-records w r e quiet)) before
+  pub quiet-settled : (test : Test) → IsSettled w e.number (after_event test w r e)
+  quiet-settled test =
+      settled-same w (e.number - 1) e.number r (after_event test w r e) first.1 (same-event test w r e low (quiet-records w r e quiet)) before
 
   -- at each moment of a quiet event all is as it must be
   during : (xs : List Record) → list_all is_quiet_record xs ≡ true → IsSettled w e.number (after_records w e.number e.proc (event_begun w e r) xs)
@@ -398,19 +400,19 @@ module _ (w : WorkloadView) (r : Readings) (e : Event) (numbered : e.number ≡ 
       quiet-wants (others_of e.records) (quiet-others e.records records) ∙ sym (ap (map want_one) (none-left (must_want q) (spaces_of w) now.wants))
 
 -- where each rule held at the last event, all is as it must be
-pub settled-next : (w : WorkloadView) (r : Readings) (e : Event) (last : Option LastLine) → HoldEach fast_threads w rules r e last
-    → WasSettled w (after_event is_inside w r e)
-settled-next w r e last held n is =
-    let numbered = (holds-each fast_threads w r e last Numbered held).number in
+pub settled-next : (u : UserRules) (w : WorkloadView) (r : Readings) (e : Event) (last : Option LastLine) → HoldEach u w rules r e last
+    → WasSettled w (after_event u.inside w r e)
+settled-next u w r e last held n is =
+    let numbered = (holds-each u w r e last Numbered held).number in
     let counted = number-kept w e.number e.proc (event_begun w e r) e.records in
     let same : e.number ≡ n = omega (arith, numbered, counted, is) in
-    let settled : IsSettled w e.number (after_event is_inside w r e) = record {
-      owned = (holds-each fast_threads w r e last WhereOwned held).owned;
-      covered = (holds-each fast_threads w r e last SharesCovered held).covered;
-      wants = (holds-each fast_threads w r e last WantCause held).none;
-      prompt = (holds-each fast_threads w r e last ToldInTime held).prompt;
+    let settled : IsSettled w e.number (after_event u.inside w r e) = record {
+      owned = (holds-each u w r e last WhereOwned held).owned;
+      covered = (holds-each u w r e last SharesCovered held).covered;
+      wants = (holds-each u w r e last WantCause held).none;
+      prompt = (holds-each u w r e last ToldInTime held).prompt;
     } in
-    subst (λ k. IsSettled w k (after_event is_inside w r e)) same settled
+    subst (λ k. IsSettled w k (after_event u.inside w r e)) same settled
 
 -- the laws of records say nothing of a quiet one
 pub once-holds : (r : Readings) (rest : List Record) (x : Record) → is_quiet_record x ≡ true → TellsOnce r x rest
@@ -460,3 +462,28 @@ lines-whole last (x ∷ xs) h =
 pub front-whole : (xs : List Record) → list_all is_quiet_record xs ≡ true → front_part xs ≡ xs
 front-whole [] h = refl
 front-whole (x ∷ xs) h = ap (λ ys. x ∷ ys) (lines-whole (Some x) xs (and_parts (is_quiet_record x) (list_all is_quiet_record xs) h).1)
+
+-- a quiet event has no closing
+own-run : (x : Record) → is_quiet_record x ≡ true → is_own x ≡ true
+own-run =
+    quiet-cases (λ x. is_own x ≡ true) (λ s t i. refl) (λ s t value. refl) (λ s t. refl) (λ s t. refl) (λ s t. refl) (λ s t. refl) (λ s l t. refl)
+    (λ s l t. refl) refl (λ l. refl) refl
+
+own-count : (xs : List Record) → list_all is_quiet_record xs ≡ true → take (prefix_len is_own xs) xs ≡ xs
+own-count [] h = refl
+own-count (x ∷ xs) h =
+    let each = and_parts (is_quiet_record x) (list_all is_quiet_record xs) h in
+    ap (λ b. take (if b then 1 + prefix_len is_own xs else 0) (x ∷ xs)) (own-run x each.0)
+    ∙ (let one : 1 + prefix_len is_own xs ≡ suc (prefix_len is_own xs) = omega arith in ap (λ n. take n (x ∷ xs)) one)
+    ∙ ap (λ ys. x ∷ ys) (own-count xs each.1)
+
+pub quiet-asks : (xs : List Record) → list_all is_quiet_record xs ≡ true → asks_last xs ≡ true
+quiet-asks [] h = refl
+quiet-asks (x ∷ xs) h =
+    let own = own-count xs (and_parts (is_quiet_record x) (list_all is_quiet_record xs) h).1 in
+    let all : closing_part (x ∷ xs) ≡ [] = ap (λ (ys : List Record). drop (length (x ∷ ys)) (x ∷ xs)) own ∙ drop_all (length (x ∷ xs)) (x ∷ xs) (omega arith) in
+    or-true (has_entry (x ∷ xs)) (is_closed (closing_part (x ∷ xs))) (ap is_closed all)
+  where
+    or-true : (a b : Bool) → b ≡ true → (a || b) ≡ true
+    or-true true b is = refl
+    or-true false b is = is

@@ -6,7 +6,7 @@ use Rattle.sa_laws.specs.declared.rule.Rule.TheVariants.{Numbered, Stepwise, Tol
 use Rattle.sa_laws.specs.Event.{Event}
 use Rattle.sa_laws.specs.Readings.{Readings}
 use Rattle.sa_laws.specs.Ends.{LastLine}
-use Rattle.sa_laws.specs.Rules.{fast_threads, Holds}
+use Rattle.sa_laws.specs.Rules.{UserRules, Holds}
 use Rattle.sa_check.specs.declared.findings.Findings.{Findings}
 
 abbrev pub found_of : Findings → Rule → Bool
@@ -28,5 +28,5 @@ found_of f OrderKept = f.order_kept
 found_of f EndTold = f.end_told
 
 -- what was found is so
-pub record IsFound (w : WorkloadView) (r : Readings) (e : Event) (last : Option LastLine) (f : Findings) : Type 0 where
-  pub each : (rule : Rule) → IsTrue (found_of f rule) ↔ Holds fast_threads w rule r e last
+pub record IsFound (u : UserRules) (w : WorkloadView) (r : Readings) (e : Event) (last : Option LastLine) (f : Findings) : Type 0 where
+  pub each : (rule : Rule) → IsTrue (found_of f rule) ↔ Holds u w rule r e last

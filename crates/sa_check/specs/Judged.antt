@@ -1,9 +1,10 @@
 -- How an event is judged.
 use Rattle.std.specs.Prelude.{◌≡◌, ℕ, ◌==◌, ◌&&◌, ◌||◌, Option}
 use Rattle.sa_laws.specs.Event.{Event}
-use Rattle.sa_laws.specs.History.{is_inside, after_event}
+use Rattle.sa_laws.specs.History.{after_event}
 use Rattle.sa_laws.specs.Ends.{LastLine}
-use Rattle.sa_laws.specs.Rules.{fast_threads, HoldEach, Breaks, rules}
+use Rattle.sa_laws.specs.Rules.{HoldEach, Breaks, rules}
+use Rattle.sa_check_moment.specs.Rules.{rules_of}
 use Rattle.sa_check_moment.specs.Seen.{Seen, seen}
 use Rattle.sa_check.specs.declared.begin.Beginning.{Beginning}
 use Rattle.sa_check.specs.declared.end.Ending.{Ending}
@@ -34,13 +35,13 @@ findings_of number beginning laws due ending = record {
 
 -- the moment after an event
 abbrev pub after : Seen → Event → Seen
-after m e = record m { readings = after_event is_inside m.workload m.readings e }
+after m e = record m { readings = after_event (rules_of m.rules).inside m.workload m.readings e }
 
 -- each rule holds, and this is the moment after it; or this rule is the first that does not hold
 pub record IsRightAt (m : Seen) (e : Event) (last : Option LastLine) (moment : Seen) : Type 0 where
-  pub holds : HoldEach fast_threads m.workload rules m.readings e last
+  pub holds : HoldEach (rules_of m.rules) m.workload rules m.readings e last
   pub next : moment ≡ after m e
 
 abbrev pub Judges : Seen → Event → Option LastLine → Judged → Type 0
 Judges m e last (Right moment) = IsRightAt m e last (seen moment)
-Judges m e last (Broken rule) = Breaks fast_threads m.workload m.readings e last rule
+Judges m e last (Broken rule) = Breaks (rules_of m.rules) m.workload m.readings e last rule

@@ -1,18 +1,20 @@
 -- What is found while the records of an event are read.
-use Rattle.std.specs.Prelude.{◌≡◌, ◌↔◌, List, IsTrue, Option, Some, None}
+use Rattle.std.specs.Prelude.{◌≡◌, ◌↔◌, false, List, IsTrue, Option, Some, None}
 use Rattle.sa_base.specs.declared.number.ProcNo.{ProcNo}
+use Rattle.sa_base.specs.declared.number.ActNo.{ActNo}
 use Rattle.sa_base.specs.declared.record.Record.{Record}
 use Rattle.sa_laws.specs.Event.{Event}
 use Rattle.sa_laws.specs.Readings.{Readings}
 use Rattle.sa_laws.specs.History.{after_records}
-use Rattle.sa_laws.specs.Shape.{before_aims, before_wants, front_part}
+use Rattle.sa_laws.specs.Shape.{before_aims, before_wants, front_part, own_part}
 use Rattle.sa_laws.specs.Step.{AreSteps}
 use Rattle.sa_laws.specs.Upcalls.{RecordLaw, EachRecord, TellsOnce, NamesTheLife, TellsAllThen, GivesUpcallThen, RaisesLine}
 use Rattle.sa_check_moment.specs.Seen.{Seen, seen}
+use Rattle.sa_check_moment.specs.Urged.{asks_last}
 use Rattle.sa_check.specs.declared.places.DueFound.{DueFound}
 use Rattle.sa_check.specs.declared.records.RecordsFound.{RecordsFound}
 use Rattle.sa_check.specs.declared.records.ReadThrough.{ReadThrough}
-use Rattle.sa_check.specs.Places.{WantsAreDue, AimsAreDue, LinesAreDue}
+use Rattle.sa_check.specs.Places.{WantsAreDue, AimsAreDue, LinesAreDue, urged_at}
 
 -- one record more
 pub record FoundMore (r : Readings) (p : ProcNo) (what : Record) (rest : List Record) (before now : RecordsFound) : Type 0 where
@@ -37,19 +39,20 @@ pub record IsFoundOf (m : Seen) (e : Event) (found : RecordsFound) : Type 0 wher
 abbrev pub behind_some : Seen → Event → List Record → Seen
 behind_some m e records = record m { readings = after_records m.workload e.number e.proc m.readings records }
 
--- what is due at the places
-pub record IsDueFound (m : Seen) (e : Event) (found : DueFound) : Type 0 where
+-- what is due at the places, and whether a pair existed behind the event's own part, where pairs are asked for there
+pub record IsDueFound (m : Seen) (e : Event) (running : Option ActNo) (found : DueFound) : Type 0 where
   pub wants : IsTrue found.wants ↔ WantsAreDue (behind_some m e (before_wants e.records)) e
   pub aims : IsTrue found.aims ↔ AimsAreDue (behind_some m e (before_aims e.records)) e
   pub lines : IsTrue found.lines ↔ LinesAreDue (behind_some m e (front_part e.records)) e
+  pub urged : asks_last e.records ≡ false → (IsTrue found.urged ↔ IsTrue (urged_at (behind_some m e (own_part e.records)) running))
 
 -- the records are steps of the abstract machine, and all is found of them; or they are not all steps
-pub record IsReadThrough (m : Seen) (e : Event) (through : ReadThrough) : Type 0 where
+pub record IsReadThrough (m : Seen) (e : Event) (running : Option ActNo) (through : ReadThrough) : Type 0 where
   pub steps : AreSteps m.workload e.number e.proc m.readings e.records
   pub moment : seen through.moment ≡ behind_some m e e.records
   pub laws : IsFoundOf m e through.laws
-  pub due : IsDueFound m e through.due
+  pub due : IsDueFound m e running through.due
 
-abbrev pub ReadsRecords : Seen → Event → Option ReadThrough → Type 0
-ReadsRecords m e None = AreSteps m.workload e.number e.proc m.readings e.records → ⊥
-ReadsRecords m e (Some through) = IsReadThrough m e through
+abbrev pub ReadsRecords : Seen → Event → Option ActNo → Option ReadThrough → Type 0
+ReadsRecords m e running None = AreSteps m.workload e.number e.proc m.readings e.records → ⊥
+ReadsRecords m e running (Some through) = IsReadThrough m e running through

@@ -6,34 +6,32 @@ use Rattle.sa_assign.specs.Aims.{aimed}
 use Rattle.sa_laws.specs.Event.{Event}
 use Rattle.sa_laws.specs.Readings.{Readings, space_of_life}
 use Rattle.sa_laws.specs.Closing.{shares_at, must_want}
-use Rattle.sa_laws.specs.Upcalls.{IsPrompt, InterruptIsNext, FirstLineIsAsked}
+use Rattle.sa_laws.specs.Upcalls.{OwnLines, IsPrompt, InterruptIsNext, FirstLineIsAsked}
 use Rattle.sa_laws.specs.Shape.{aims_in, last_lines}
-use Rattle.sa_laws.specs.Rules.{NoLines}
 use Rattle.sa_spaces.specs.Workload.{WorkloadView}
 use Rattle.sa_base.specs.declared.number.ProcNo.{ProcNo}
 use Rattle.sa_base.specs.declared.record.Record.{Record}
-use Rattle.sa_laws.specs.Demand.{DemandIsAnnounced}
-use Rattle.sa_laws.specs.Turns.{IsStep, TurnsAreTaken}
-use Rattle.sa_laws.specs.Locks.{LocksAreKept, RunsNext}
+use Rattle.sa_laws.specs.Turns.{TurnsAreTaken}
 use Rattle.sa_laws.specs.Ends.{LastLine, EndIsTold}
+use Rattle.sa_check_moment.specs.Rules.{rules_of}
 use Rattle.sa_check_moment.specs.Seen.{Seen}
 use Rattle.sa_check.specs.declared.begin.Beginning.{Beginning}
 use Rattle.sa_check.specs.declared.end.LastTold.{LastTold}
 use Rattle.sa_check.specs.declared.end.Ending.{Ending}
 
 -- no line is asked for that is not, and no aim comes after the first of the last lines
-pub record LinesAreInPlace (w : WorkloadView) (r : Readings) (p : ProcNo) (records : List Record) : Type 0 where
-  pub first : FirstLineIsAsked NoLines w r p records
+pub record LinesAreInPlace (Asked : OwnLines) (w : WorkloadView) (r : Readings) (p : ProcNo) (records : List Record) : Type 0 where
+  pub first : FirstLineIsAsked Asked w r p records
   pub order : aims_in (last_lines records) ≡ []
 
 -- on the moment before the event
 pub record IsBeginning (m : Seen) (e : Event) (found : Beginning) : Type 0 where
-  pub demand_announced : IsTrue found.demand_announced ↔ DemandIsAnnounced m.workload m.readings e
-  pub order_kept : IsTrue found.order_kept ↔ RunsNext m.readings e.proc e.records
+  pub demand_announced : IsTrue found.demand_announced ↔ (rules_of m.rules).Demand m.workload m.readings e
+  pub order_kept : IsTrue found.order_kept ↔ (rules_of m.rules).Order m.workload m.readings e
   pub interrupt_next : IsTrue found.interrupt_next ↔ InterruptIsNext m.workload m.readings e
-  pub turns_taken : IsTrue found.turns_taken ↔ TurnsAreTaken IsStep m.workload m.readings e
-  pub locks_kept : IsTrue found.locks_kept ↔ LocksAreKept m.workload m.readings e
-  pub lines : IsTrue found.lines ↔ LinesAreInPlace m.workload m.readings e.proc e.records
+  pub turns_taken : IsTrue found.turns_taken ↔ TurnsAreTaken (rules_of m.rules).Steps m.workload m.readings e
+  pub locks_kept : IsTrue found.locks_kept ↔ (rules_of m.rules).Locks m.workload m.readings e
+  pub lines : IsTrue found.lines ↔ LinesAreInPlace (rules_of m.rules).Lines m.workload m.readings e.proc e.records
 
 -- what the last line tells, and if one is given
 abbrev pub told_line : LastTold → LastLine

@@ -1,19 +1,17 @@
 // What is found as an event begins.
 ghost use Rattle.std.specs.Prelude.{◌≡◌, ◌↔◌, IsTrue};
-ghost use Rattle.sa_base.specs.declared.number.ProcNo.{ProcNo};
-ghost use Rattle.sa_spaces.specs.Workload.{WorkloadView};
-ghost use Rattle.sa_laws.specs.Upcalls.{FirstLineIsAsked};
-ghost use Rattle.sa_laws.specs.Rules.{NoLines};
-ghost use Rattle.sa_laws.specs.Readings.{Readings, running_of};
+ghost use Rattle.sa_laws.specs.Readings.{running_of};
+ghost use Rattle.sa_check_moment.specs.Rules.{rules_of};
 ghost use Rattle.sa_check_moment.specs.Seen.{seen, at_event, lowers};
 ghost use Rattle.sa_check.specs.Items.{told_event};
 ghost use Rattle.sa_check.specs.Sides.{IsBeginning, LinesAreInPlace};
 
 use crate::event::TraceEvent;
-use sa_base::Record;
+use sa_base::{ProcNo, Record};
 use sa_check_moment::{Moment, Start};
 use sa_check_rules::{
-    demand_is_announced, interrupt_is_next, locks_are_kept, order_is_kept, turns_are_taken,
+    demand_is_announced, first_is_asked, interrupt_is_next, locks_are_kept, order_is_kept,
+    turns_are_taken,
 };
 use sa_check_shapes::{has_aims, last_lines};
 
@@ -42,6 +40,7 @@ pub(crate) fn begin(moment: &mut Moment, event: &TraceEvent) -> Beginning
     let start = moment.before(p, records);
     let demand_announced = demand_is_announced(moment, number, p, records);
     let order_kept = order_is_kept(moment, p, records);
+    let lines = lines_are_in_place(moment, p, records);
     let raised = moment.line(p).is_some();
     moment.begin(number, p);
     Beginning {
@@ -51,25 +50,14 @@ pub(crate) fn begin(moment: &mut Moment, event: &TraceEvent) -> Beginning
         interrupt_next: interrupt_is_next(moment, raised, number, p, records),
         turns_taken: turns_are_taken(moment, raised, number, p, records),
         locks_kept: locks_are_kept(moment, number, p, records),
-        lines: lines_are_in_place(records),
+        lines,
     }
 }
 
-// No line is asked for, and no aim comes after the first of the last lines.
-fn lines_are_in_place(records: &[Record]) -> bool
-    ensures { (w : WorkloadView) (r : Readings) (p : ProcNo)
-        → (IsTrue result ↔ LinesAreInPlace w r p records.now) }
+// A line with which the event begins is asked for, and no aim comes after the first of the last lines.
+fn lines_are_in_place(moment: &Moment, p: ProcNo, records: &[Record]) -> bool
+    ensures { let m = seen moment.now in
+        IsTrue result ↔ LinesAreInPlace (rules_of m.rules).Lines m.workload m.readings p records.now }
 {
-    first_is_asked(records) && !has_aims(last_lines(records))
-}
-
-// The event does not begin with a line: FastThreads asks for none.
-fn first_is_asked(records: &[Record]) -> bool
-    ensures { (w : WorkloadView) (r : Readings) (p : ProcNo)
-        → (IsTrue result ↔ FirstLineIsAsked NoLines w r p records.now) }
-{
-    match records {
-        [Record::Line(_), ..] => false,
-        _ => true,
-    }
+    first_is_asked(moment, p, records) && !has_aims(last_lines(records))
 }

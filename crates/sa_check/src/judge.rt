@@ -15,6 +15,7 @@ use crate::findings::Findings;
 use crate::places::DueFound;
 use crate::quiet::{is_quiet, read_quiet};
 use crate::records::{ReadThrough, RecordsFound, read_records};
+use sa_base::ActNo;
 use sa_check_closing::is_numbered;
 use sa_check_moment::Moment;
 use sa_laws::Rule;
@@ -60,12 +61,16 @@ fn judge_numbered(
     let quiet = is_quiet(&moment, event);
     let mut now = moment;
     let beginning = begin(&mut now, event);
-    let Some(through) = read_event(alloc, now, event, quiet)? else {
+    let Some(through) = read_event(alloc, now, event, beginning.start.running, quiet)? else {
         return Ok(Judged::Broken(Rule::Stepwise));
     };
-    let after = through
-        .moment
-        .finish(event.number, event.proc, event.records, beginning.start)?;
+    let after = through.moment.finish(
+        event.number,
+        event.proc,
+        event.records,
+        beginning.start,
+        through.due.urged,
+    )?;
     let ending = look_after(&after, event.number, last, quiet);
     let findings = findings_of(event.number, beginning, through.laws, through.due, ending);
     match findings.first_broken() {
@@ -74,21 +79,22 @@ fn judge_numbered(
     }
 }
 
-// Reads the records of an event, quiet or not, on the moment as it begins. `None` exactly where one of them is no step of
+// Reads the records of an event, quiet or not, on the moment as it begins; this life ran before it. `None` exactly where one of them is no step of
 // the abstract machine.
 fn read_event(
     alloc: Global,
     moment: Moment,
     event: &TraceEvent,
+    running: Option<ActNo>,
     quiet: bool,
 ) -> Result<Option<ReadThrough>, AllocError>
     requires { quiet ≡ true → IsQuietFrom (seen moment) (told_event event.now) }
-    ensures { IfOk result (ReadsRecords (seen moment) (told_event event.now)) }
+    ensures { IfOk result (ReadsRecords (seen moment) (told_event event.now) running) }
 {
     if quiet {
-        read_quiet(alloc, moment, event)
+        read_quiet(alloc, moment, event, running)
     } else {
-        read_records(alloc, moment, event)
+        read_records(alloc, moment, event, running)
     }
 }
 

@@ -14,5 +14,6 @@ mod trace;
 mod verdict;
 
 pub use line::{verdict_line, word};
+pub use sa_check_moment::Rules;
 pub use trace::check;
 pub use verdict::Verdict;

@@ -1,16 +1,17 @@
 // What is written of a verdict.
 ghost use Rattle.std.specs.Prelude.{◌≡◌, ◌++◌, IfOk, OnOk};
 ghost use Rattle.sa_check.specs.declared.verdict.Verdict.TheVariants.{Broken};
-ghost use Rattle.sa_check.specs.Line.{word_of, line_of};
+ghost use Rattle.sa_check.specs.Line.{demand_word, word_of, line_of};
 
 use crate::verdict::Verdict;
+use sa_check_moment::Rules;
 use sa_laws::Rule;
 use sa_text::print_number;
 use std::alloc::{AllocError, Global};
 
-/// The word of a rule.
-pub fn word(rule: Rule) -> &'static [u8]
-    ensures { result.now ≡ word_of rule }
+/// The word of a rule by which a trace was judged.
+pub fn word(rules: Rules, rule: Rule) -> &'static [u8]
+    ensures { result.now ≡ word_of rules rule }
 {
     match rule {
         Rule::Numbered => b"D11",
@@ -24,7 +25,7 @@ pub fn word(rule: Rule) -> &'static [u8]
         Rule::LineCause => b"U7",
         Rule::WantCause => b"U8",
         Rule::SharesCovered => b"L1",
-        Rule::DemandAnnounced => b"L2",
+        Rule::DemandAnnounced => demand_word(rules),
         Rule::TurnsTaken => b"L3",
         Rule::LocksKept => b"L4",
         Rule::OrderKept => b"L5",
@@ -32,25 +33,35 @@ pub fn word(rule: Rule) -> &'static [u8]
     }
 }
 
-/// The line that says the verdict, with its line feed. Its only error is want of memory.
-pub fn verdict_line(alloc: Global, verdict: Verdict) -> Result<Vec<u8>, AllocError>
-    ensures { IfOk result (λ line. line.items ≡ line_of verdict) }
+// The word of the rule that speaks of demand, and with thread priorities of pairs.
+fn demand_word(rules: Rules) -> &'static [u8]
+    ensures { result.now ≡ demand_word rules }
+{
+    match rules {
+        Rules::FastThreads => b"L2",
+        Rules::Priorities => b"L6",
+    }
+}
+
+/// The line that says the verdict by these rules, with its line feed. Its only error is want of memory.
+pub fn verdict_line(alloc: Global, rules: Rules, verdict: Verdict) -> Result<Vec<u8>, AllocError>
+    ensures { IfOk result (λ line. line.items ≡ line_of rules verdict) }
 {
     let mut out = Vec::new(alloc);
     match verdict {
         Verdict::Legal => out.extend_from_slice(b"legal\n")?,
-        Verdict::Broken { event, rule } => push_broken(&mut out, event, rule)?,
+        Verdict::Broken { event, rule } => push_broken(&mut out, rules, event, rule)?,
     }
     Ok(out)
 }
 
 // Appends the line of a first break.
-fn push_broken(out: &mut Vec<u8>, event: u64, rule: Rule) -> Result<(), AllocError>
-    ensures { OnOk result (out.new.items ≡ out.old.items ++ line_of (Broken event rule)) }
+fn push_broken(out: &mut Vec<u8>, rules: Rules, event: u64, rule: Rule) -> Result<(), AllocError>
+    ensures { OnOk result (out.new.items ≡ out.old.items ++ line_of rules (Broken event rule)) }
 {
     out.extend_from_slice(b"broken ")?;
     print_number(event, out)?;
     out.extend_from_slice(b" ")?;
-    out.extend_from_slice(word(rule))?;
+    out.extend_from_slice(word(rules, rule))?;
     out.extend_from_slice(b"\n")
 }

@@ -1,23 +1,24 @@
 // The places in an event at which wants, aims and lines are due.
 ghost use Rattle.std.specs.Prelude.{◌≡◌, ◌≤◌, length, IfOk};
-ghost use Rattle.sa_laws.specs.Shape.{before_wants, before_aims, front_part};
+ghost use Rattle.sa_laws.specs.Shape.{before_wants, before_aims, front_part, own_part};
 ghost use Rattle.sa_check_moment.specs.Seen.{seen};
 ghost use Rattle.sa_check.specs.Items.{told_event};
 ghost use Rattle.sa_check.specs.Places.{DueMore};
 
 use crate::event::TraceEvent;
-use sa_base::Record;
+use sa_base::{ActNo, Record};
 use sa_check_closing::{are_aims_due, are_lines_due, are_wants_due};
 use sa_check_moment::Moment;
-use sa_check_shapes::{before_aims, before_wants, front_part, last_lines, others_of};
+use sa_check_shapes::{before_aims, before_wants, front_part, last_lines, others_of, own_part};
 use std::alloc::{AllocError, Global};
 
-/// Behind how many records of an event wants, aims and lines are due.
+/// Behind how many records of an event wants, aims and lines are due, and its own part ends.
 #[derive(Clone, Copy, Debug)]
 pub(crate) struct Places {
     pub(crate) wants: usize,
     pub(crate) aims: usize,
     pub(crate) lines: usize,
+    pub(crate) own: usize,
 }
 
 impl Places {
@@ -26,21 +27,25 @@ impl Places {
         ensures wants { result.wants ≡ length (before_wants records.now) }
         ensures aims { result.aims ≡ length (before_aims records.now) }
         ensures lines { result.lines ≡ length (front_part records.now) }
+        ensures own { result.own ≡ length (own_part records.now) }
     {
         Places {
             wants: before_wants(records).len(),
             aims: before_aims(records).len(),
             lines: front_part(records).len(),
+            own: own_part(records).len(),
         }
     }
 }
 
-/// The wants, aims and lines of an event are those that are due at their places.
+/// The wants, aims and lines of an event are those that are due at their places; and behind its own part, by rules of
+/// ranks, a pair existed of the space of the life that ran before it.
 #[derive(Clone, Copy, Debug)]
 pub(crate) struct DueFound {
     pub(crate) wants: bool,
     pub(crate) aims: bool,
     pub(crate) lines: bool,
+    pub(crate) urged: bool,
 }
 
 impl DueFound {
@@ -50,20 +55,22 @@ impl DueFound {
             wants: true,
             aims: true,
             lines: true,
+            urged: false,
         }
     }
 
-    /// The same at this place, on the moment there.
+    /// The same at this place, on the moment there; this life ran before the event.
     pub(crate) fn and(
         self,
         alloc: Global,
         moment: &Moment,
         event: &TraceEvent,
+        running: Option<ActNo>,
         places: Places,
         place: usize,
     ) -> Result<Self, AllocError>
         ensures { IfOk result
-            (DueMore (seen moment.now) (told_event event.now) places place self) }
+            (DueMore (seen moment.now) (told_event event.now) running places place self) }
     {
         let records = event.records;
         let wants = if place == places.wants {
@@ -81,6 +88,16 @@ impl DueFound {
         } else {
             self.lines
         };
-        Ok(DueFound { wants, aims, lines })
+        let urged = if place == places.own {
+            moment.is_urged(running)
+        } else {
+            self.urged
+        };
+        Ok(DueFound {
+            wants,
+            aims,
+            lines,
+            urged,
+        })
     }
 }

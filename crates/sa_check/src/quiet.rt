@@ -9,7 +9,7 @@ ghost use Rattle.sa_check.specs.Records.{ReadsRecords};
 use crate::event::TraceEvent;
 use crate::places::DueFound;
 use crate::records::{ReadThrough, RecordsFound};
-use sa_base::Record;
+use sa_base::{ActNo, Record};
 use sa_check_closing::{are_lines_due, first_space};
 use sa_check_moment::Moment;
 use sa_spaces::Workload;
@@ -66,10 +66,11 @@ pub(crate) fn read_quiet(
     alloc: Global,
     moment: Moment,
     event: &TraceEvent,
+    running: Option<ActNo>,
 ) -> Result<Option<ReadThrough>, AllocError>
     requires quiet { list_all is_quiet_record event.now.records.now ≡ true }
     requires none { NothingIsDue (seen moment) (told_event event.now) }
-    ensures { IfOk result (ReadsRecords (seen moment) (told_event event.now)) }
+    ensures { IfOk result (ReadsRecords (seen moment) (told_event event.now) running) }
 {
     let records = event.records;
     let mut now = moment;
@@ -87,6 +88,7 @@ pub(crate) fn read_quiet(
             wants: true,
             aims: true,
             lines,
+            urged: false,
         },
     }))
 }

@@ -6,7 +6,7 @@ ghost use Rattle.sa_check.specs.Records.{FoundMore, ReadsRecords};
 
 use crate::event::TraceEvent;
 use crate::places::{DueFound, Places};
-use sa_base::{ProcNo, Record};
+use sa_base::{ActNo, ProcNo, Record};
 use sa_check_moment::Moment;
 use sa_check_rules::{gives_upcall, names_the_life, raises_line, tells_all, tells_once};
 use std::alloc::{AllocError, Global};
@@ -61,14 +61,15 @@ pub(crate) struct ReadThrough {
     pub(crate) due: DueFound,
 }
 
-/// Reads the records of an event, on the moment as it begins. `None` exactly where one of them is no step of the
+/// Reads the records of an event, on the moment as it begins; this life ran before it. `None` exactly where one of them is no step of the
 /// abstract machine.
 pub(crate) fn read_records(
     alloc: Global,
     moment: Moment,
     event: &TraceEvent,
+    running: Option<ActNo>,
 ) -> Result<Option<ReadThrough>, AllocError>
-    ensures { IfOk result (ReadsRecords (seen moment) (told_event event.now)) }
+    ensures { IfOk result (ReadsRecords (seen moment) (told_event event.now) running) }
 {
     let records = event.records;
     let places = Places::of(records);
@@ -76,14 +77,14 @@ pub(crate) fn read_records(
     let mut laws = RecordsFound::new();
     let mut due = DueFound::new();
     for (i, what) in records.iter().enumerate() {
-        due = due.and(alloc, &now, event, places, i)?;
+        due = due.and(alloc, &now, event, running, places, i)?;
         if !now.allows(event.proc, what) {
             return Ok(None);
         }
         laws = laws.and(&now, event.proc, what, &records[i + 1..]);
         now = now.read(event.number, event.proc, what)?;
     }
-    let due = due.and(alloc, &now, event, places, records.len())?;
+    let due = due.and(alloc, &now, event, running, places, records.len())?;
     Ok(Some(ReadThrough {
         moment: now,
         laws,

@@ -2,6 +2,7 @@ ghost use Rattle.std.specs.Prelude.{◌≡◌, [], ◌∷◌, IfOk};
 ghost use Rattle.sa_trace.specs.Reading.{read_of};
 ghost use Rattle.sa_trace.specs.Reader.{left, in_front, with_said};
 ghost use Rattle.sa_check_moment.specs.Seen.{seen, event};
+ghost use Rattle.sa_check_moment.specs.Rules.{rules_of};
 ghost use Rattle.sa_check.specs.Sides.{line_told};
 ghost use Rattle.sa_check.specs.Gathered.{line_said};
 ghost use Rattle.sa_check.specs.Judged.{Judges};
@@ -13,23 +14,28 @@ use crate::event::{TraceEvent, gather};
 use crate::judge::{Judged, judge};
 use crate::verdict::Verdict;
 use sa_base::{Item, Record, Unread};
-use sa_check_moment::Moment;
+use sa_check_moment::{Moment, Rules};
 use sa_laws::Rule;
 use sa_spaces::Workload;
 use sa_trace::{Reader, Said};
 use std::alloc::{AllocError, Global};
 
-/// What the trace text is beside the workload: `Legal` exactly where it is right, and `Broken` with exactly its first
-/// break. `Bad` exactly where these bytes are the text of no trace: a bad line comes before every break.
+/// What the trace text is beside the workload, by these rules: `Legal` exactly where it is right, and `Broken` with exactly
+/// its first break. `Bad` exactly where these bytes are the text of no trace: a bad line comes before every break.
 ///
 /// `OutOfMemory` where memory runs out, and where a semaphore's count would pass 2^32 - 1, or the I/Os begun 2^64 - 1.
 /// Each event is judged as its lines are read, so memory does not grow with the number of items.
-pub fn check(alloc: Global, workload: &Workload, text: &[u8]) -> Result<Verdict, Unread>
-    ensures { IsChecked workload.now (read_of text.now) result }
+pub fn check(
+    alloc: Global,
+    rules: Rules,
+    workload: &Workload,
+    text: &[u8],
+) -> Result<Verdict, Unread>
+    ensures { IsChecked (rules_of rules) workload.now (read_of text.now) result }
 {
     let mut reader = Reader::new(text);
     match reader.next().map_err(Unread::Bad)? {
-        Said::Next(first) => judge_events(alloc, workload, &mut reader, first),
+        Said::Next(first) => judge_events(alloc, rules, workload, &mut reader, first),
         Said::Last(..) => Ok(Verdict::Broken {
             event: 0,
             rule: Rule::Numbered,
@@ -41,13 +47,14 @@ pub fn check(alloc: Global, workload: &Workload, text: &[u8]) -> Result<Verdict,
 // read on and no more is judged, since a bad line comes before these.
 fn judge_events(
     alloc: Global,
+    rules: Rules,
     workload: &Workload,
     reader: &mut Reader,
     first: Item,
 ) -> Result<Verdict, Unread>
-    ensures { IsChecked workload.now (in_front (first ∷ []) (left reader.old)) result }
+    ensures { IsChecked (rules_of rules) workload.now (in_front (first ∷ []) (left reader.old)) result }
 {
-    let mut moment = Moment::start(alloc, workload)?;
+    let mut moment = Moment::start(alloc, rules, workload)?;
     let mut records = Vec::new(alloc);
     let mut said = Said::Next(first);
     while let Said::Next(item) = said {

@@ -9,7 +9,7 @@ ghost use Rattle.sa_check_closing.specs.Wanting.{wanting};
 use crate::aims::aims_due;
 use crate::records::are_same;
 use sa_base::{ProcNo, Record, SpaceNo};
-use sa_check_moment::Moment;
+use sa_check_moment::{Moment, Rules};
 use sa_check_shapes::Aimed;
 use sa_spaces::Workload;
 use std::alloc::{AllocError, Global};
@@ -86,11 +86,11 @@ fn first_wants(alloc: Global, workload: &Workload) -> Result<Vec<Record>, AllocE
     Ok(records)
 }
 
-// The moment after these wants.
+// The moment after these wants; it is the same by all rules.
 fn wanting(alloc: Global, workload: &Workload) -> Result<Moment, AllocError>
     ensures { IfOk result (λ m. seen m ≡ wanting workload.now) }
 {
-    let mut moment = Moment::start(alloc, workload)?;
+    let mut moment = Moment::start(alloc, Rules::FastThreads, workload)?;
     for s in 0..workload.spaces().len() {
         moment = moment.read(0, ProcNo(0), &Record::Want(SpaceNo(s as u16), 1))?;
     }

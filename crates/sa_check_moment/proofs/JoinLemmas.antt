@@ -17,6 +17,7 @@ use Rattle.sa_check_lives.proofs.ReadLemmas.{records-read}
 use Rattle.sa_replay.specs.Replayed.{roused_by}
 use Rattle.sa_check_ios.specs.Ready.{with_ready}
 use Rattle.sa_check_ios.specs.PendingView.{PendingView, pending_of}
+use Rattle.sa_check_moment.specs.declared.rules.Rules.{Rules}
 use Rattle.sa_check_moment.specs.Board.{BoardView, board_of, noted}
 use Rattle.sa_check_moment.specs.Seen.{Seen, Kept, joined, seen, behind_record}
 use Rattle.sa_check_moment.specs.Reading.{ReadsPush, ReadsList, begun_by, pending_after, ready_after}
@@ -57,27 +58,28 @@ parts w e p r (Spin l) for_push is = refl
 parts w e p r Tick for_push is = refl
 
 -- a moment of these parts
-abbrev whole : WorkloadView → ℕ → State → BoardView → LivesView → PendingView → List (List Listed) → Option Record → Option SpaceNo → Seen
-whole w number state board lives pending ready last moved =
-    record { workload = w; readings = joined number state board lives pending ready last moved }
+abbrev whole : Rules → WorkloadView → ℕ → State → BoardView → LivesView → PendingView → List (List Listed) → Option Record → Option SpaceNo → Seen
+whole rules w number state board lives pending ready last moved =
+    record { rules = rules; workload = w; readings = joined number state board lives pending ready last moved }
 
 -- is seen as another, where it was put together from the same
-pub seen-as : (n : Kept) (w : WorkloadView) (number : ℕ) (state : State) (board : BoardView) (lives : LivesView) (pending : PendingView)
+pub seen-as : (n : Kept) (rules : Rules) (w : WorkloadView) (number : ℕ) (state : State) (board : BoardView) (lives : LivesView) (pending : PendingView)
     (ready : List (List Listed)) (last : Option Record) (moved : Option SpaceNo)
-    → n.workload ≡ w → n.number ≡ number → n.state ≡ state → n.board ≡ board → lives_of n.lives ≡ lives → n.pending ≡ pending → n.ready ≡ ready → n.last ≡ last
+    → n.rules ≡ rules → n.workload ≡ w → n.number ≡ number → n.state ≡ state → n.board ≡ board → lives_of n.lives ≡ lives → n.pending ≡ pending → n.ready ≡ ready → n.last ≡ last
     → n.moved ≡ moved
-    → seen n ≡ whole w number state board lives pending ready last moved
+    → seen n ≡ whole rules w number state board lives pending ready last moved
 unfolding seen
-seen-as n w number state board lives pending ready last moved a b c d f g h i j =
-    ap (λ x. whole x n.number n.state n.board (lives_of n.lives) n.pending n.ready n.last n.moved) a
-    ∙ ap (λ x. whole w x n.state n.board (lives_of n.lives) n.pending n.ready n.last n.moved) b
-    ∙ ap (λ x. whole w number x n.board (lives_of n.lives) n.pending n.ready n.last n.moved) c
-    ∙ ap (λ x. whole w number state x (lives_of n.lives) n.pending n.ready n.last n.moved) d
-    ∙ ap (λ x. whole w number state board x n.pending n.ready n.last n.moved) f
-    ∙ ap (λ x. whole w number state board lives x n.ready n.last n.moved) g
-    ∙ ap (λ x. whole w number state board lives pending x n.last n.moved) h
-    ∙ ap (λ x. whole w number state board lives pending ready x n.moved) i
-    ∙ ap (λ x. whole w number state board lives pending ready last x) j
+seen-as n rules w number state board lives pending ready last moved of a b c d f g h i j =
+    ap (λ x. whole x n.workload n.number n.state n.board (lives_of n.lives) n.pending n.ready n.last n.moved) of
+    ∙ ap (λ x. whole rules x n.number n.state n.board (lives_of n.lives) n.pending n.ready n.last n.moved) a
+    ∙ ap (λ x. whole rules w x n.state n.board (lives_of n.lives) n.pending n.ready n.last n.moved) b
+    ∙ ap (λ x. whole rules w number x n.board (lives_of n.lives) n.pending n.ready n.last n.moved) c
+    ∙ ap (λ x. whole rules w number state x (lives_of n.lives) n.pending n.ready n.last n.moved) d
+    ∙ ap (λ x. whole rules w number state board x n.pending n.ready n.last n.moved) f
+    ∙ ap (λ x. whole rules w number state board lives x n.ready n.last n.moved) g
+    ∙ ap (λ x. whole rules w number state board lives pending x n.last n.moved) h
+    ∙ ap (λ x. whole rules w number state board lives pending ready x n.moved) i
+    ∙ ap (λ x. whole rules w number state board lives pending ready last x) j
 
 -- the list matters at a ready alone
 listed-as : (r : Readings) (p : ProcNo) (x : Record) (list : ProcNo) (ready : List (List Listed)) → ReadsList r p x list
@@ -113,17 +115,17 @@ pub record IsReadWith (m : Kept) (p : ProcNo) (x : Record) (for_push : Bool) (ne
   pub listed : ReadsList (seen m).readings p x list
 
 pub read-whole : (m n : Kept) (e : ℕ) (p : ProcNo) (x : Record) (for_push : Bool) (new_io : Option Blocking) (list : ProcNo) (roused : List ThreadNo)
-    → IsReadWith m p x for_push new_io list → n.workload ≡ m.workload → n.number ≡ m.number → n.state ≡ changed m.workload p m.state x
+    → IsReadWith m p x for_push new_io list → n.rules ≡ m.rules → n.workload ≡ m.workload → n.number ≡ m.number → n.state ≡ changed m.workload p m.state x
     → roused ≡ roused_by m.workload m.state x → n.board ≡ noted e p m.last x m.board
     → lives_of n.lives ≡ recorded roused for_push p x (lives_of m.lives) → n.pending ≡ pending_after new_io e x m.pending
     → n.ready ≡ ready_after list x m.ready → n.last ≡ Some x → n.moved ≡ moved_after m.moved x → seen n ≡ behind_record e p x (seen m)
 unfolding seen
-read-whole m n e p x for_push new_io list roused is workload number state woken board lives pending ready last moved =
+read-whole m n e p x for_push new_io list roused is of workload number state woken board lives pending ready last moved =
     let r = (seen m).readings in
-    seen-as n m.workload r.number (changed m.workload p r.state x) (noted e p r.last x (board_of r))
+    seen-as n m.rules m.workload r.number (changed m.workload p r.state x) (noted e p r.last x (board_of r))
     (recorded (roused_by m.workload r.state x) for_push p x (read_of r))
     (pending_after (begun_by m.workload r x) e x (pending_of r)) (ready_after (first_list (life_on r p) p) x r.ready) (Some x) (moved_after r.moved x)
-    workload number state board (lives ∙ ap (λ (threads : List ThreadNo). recorded threads for_push p x (lives_of m.lives)) woken)
+    of workload number state board (lives ∙ ap (λ (threads : List ThreadNo). recorded threads for_push p x (lives_of m.lives)) woken)
     (pending ∙ ap (λ (b : Option Blocking). pending_after b e x m.pending) is.begins)
     (ready ∙ listed-as r p x list m.ready is.listed) last moved
-    ∙ ap (λ (s : Readings). let whole : Seen = record { workload = m.workload; readings = s } in whole) (sym (parts m.workload e p r x for_push is.push))
+    ∙ ap (λ (s : Readings). let whole : Seen = record { rules = m.rules; workload = m.workload; readings = s } in whole) (sym (parts m.workload e p r x for_push is.push))

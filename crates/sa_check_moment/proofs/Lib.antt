@@ -4,3 +4,4 @@ pub mod JoinLemmas
 pub mod ListedLemmas
 pub mod OpenLemmas
 pub mod PageLemmas
+pub mod LevelLemmas

@@ -16,6 +16,7 @@ use Rattle.sa_laws.specs.Readings.{Readings, space_of_life}
 use Rattle.sa_laws.specs.Record.{after_record, without_note, is_other_note}
 use Rattle.sa_laws.proofs.Lengths.{with-length, without-length}
 use Rattle.sa_laws.proofs.Spaces.{placed-owners}
+use Rattle.sa_check_moment.specs.declared.rules.Rules.{Rules}
 use Rattle.sa_check_moment.specs.Seen.{Seen, opened, behind_record}
 use Rattle.sa_check_moment.specs.Listed.{IsListed}
 
@@ -166,8 +167,8 @@ kept w e p r (Spin l) = same (lists_of r)
 kept w e p r Tick = same (lists_of r)
 
 -- before any record, where an event begins, after a record, and where an event ends
-pub listed-opened : (w : WorkloadView) → IsListed (opened w)
-listed-opened w = record {
+pub listed-opened : (rules : Rules) (w : WorkloadView) → IsListed (opened rules w)
+listed-opened rules w = record {
   owners = length-replicate w.processors None;
   aims = length-replicate w.processors None;
   lines = length-replicate w.processors None;

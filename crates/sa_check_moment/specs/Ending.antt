@@ -1,29 +1,50 @@
 -- What the end of an event changes in the lives.
-use Rattle.std.specs.Prelude.{Bool, true, false, not, if◌then◌else◌, List, [], ◌∷◌, Option, Some, None}
+use Rattle.std.specs.Prelude.{◌≡◌, Bool, true, false, not, ◌&&◌, ◌||◌, if◌then◌else◌, List, [], ◌∷◌, Option, Some, None}
 use Rattle.std.specs.List.{list_any}
 use Rattle.sa_base.specs.declared.number.ProcNo.{ProcNo}
 use Rattle.sa_base.specs.declared.number.ActNo.{ActNo}
 use Rattle.sa_base.specs.declared.record.Record.{Record}
 use Rattle.sa_base.specs.declared.record.Record.TheVariants.{Ins, Block, Want, Idle}
-use Rattle.sa_spaces.specs.Workload.{WorkloadView}
 use Rattle.sa_laws.specs.State.{thread_at}
 use Rattle.sa_laws.specs.Life.{Life}
 use Rattle.sa_laws.specs.Readings.{Readings, life_if, life_on}
-use Rattle.sa_laws.specs.History.{is_inside, is_step, is_up, is_free, is_running_or_blocked}
+use Rattle.sa_laws.specs.Event.{Event}
+use Rattle.sa_laws.specs.History.{is_inside, behind_all, is_step, is_up, is_free, is_running_or_blocked}
 use Rattle.sa_check_lives.specs.declared.change.Scan.{Scan}
 use Rattle.sa_check_lives.specs.declared.change.Scan.TheVariants.{More, Same, Over}
 use Rattle.sa_check_lives.specs.declared.change.Stepped.{Stepped}
 use Rattle.sa_check_lives.specs.Change.{stepped_by, arisen_by}
 use Rattle.sa_check_lives.specs.View.{LivesView, changed, changed_on}
-use Rattle.sa_check_moment.specs.Seen.{event}
+use Rattle.sa_ranks.specs.Pairs.{has_pair}
+use Rattle.sa_check_moment.specs.declared.rules.Rules.{Rules}
+use Rattle.sa_check_moment.specs.declared.rules.Rules.TheVariants.{FastThreads, Priorities}
+use Rattle.sa_check_moment.specs.Seen.{Seen, event}
+use Rattle.sa_check_moment.specs.Urged.{asks_last, IsUrged}
 
 -- FastThreads' test looks neither at the moment before the event nor at the event
-abbrev pub is_in : WorkloadView → Readings → Bool → Life → Bool
-is_in w r settled life = is_inside w r (event 0 (record { 0 = 0 }) []) r settled life
+abbrev pub is_inside_at : Seen → Bool → Life → Bool
+is_inside_at m settled life = is_inside m.workload m.readings (event 0 (record { 0 = 0 }) []) m.readings settled life
 
-abbrev pub is_in_if : WorkloadView → Readings → Bool → Option Life → Bool
-is_in_if w r settled None = false
-is_in_if w r settled (Some life) = is_in w r settled life
+-- by rules of ranks: a pair of the life's space exists where pairs are asked for, after these records or before their last
+abbrev pub owes_by : Rules → Seen → List Record → Bool → Life → Bool
+owes_by FastThreads m records urged life = false
+owes_by Priorities m records urged life = if asks_last records then has_pair m.workload m.readings life.space else urged
+
+abbrev pub owes_pair : Seen → List Record → Bool → Life → Bool
+owes_pair m records urged life = owes_by m.rules m records urged life
+
+-- the life is in, at the end of an own event with these records that settled it or did not
+abbrev pub is_in : Seen → Bool → List Record → Bool → Life → Bool
+is_in m settled records urged life = is_inside_at m settled life || (settled && owes_pair m records urged life)
+
+abbrev pub is_in_if : Seen → Bool → List Record → Bool → Option Life → Bool
+is_in_if m settled records urged None = false
+is_in_if m settled records urged (Some life) = is_in m settled records urged life
+
+-- the moment is that after the records of an event, before which this was read, and what is known of pairs is so
+pub record IsOver (before : Readings) (e : Event) (urged : Bool) (m : Seen) : Type 0 where
+  pub moment : m.readings ≡ behind_all m.workload e before
+  pub pairs : IsUrged m.rules m.workload before e m.readings urged
 
 -- a step settles its life, and what becomes of its scans, where its want lowers the demand or does not
 abbrev pub settles_by : Bool → Readings → Record → Bool
@@ -39,20 +60,21 @@ scan_by low (Want s n) = if low then Same else Over
 scan_by low _ = Over
 
 -- what a step makes of the life of this number, if the event is one
-abbrev pub step_with : WorkloadView → Bool → Readings → Option ActNo → Record → Stepped
-step_with w low r a first = record {
+abbrev pub step_with : Seen → Bool → Option ActNo → Bool → List Record → Record → Stepped
+step_with m low a urged records first = record {
   freed = is_free first;
   scan = scan_by low first;
-  inside = is_in_if w r (settles_by low r first) (life_if r a);
+  inside = is_in_if m (settles_by low m.readings first) records urged (life_if m.readings a);
 }
 
-abbrev pub step_by : WorkloadView → Bool → Readings → Option ActNo → List Record → Option Stepped
-step_by w low r a [] = None
-step_by w low r a (first ∷ others) = if is_step first then Some (step_with w low r a first) else None
+abbrev pub step_by : Seen → Bool → Option ActNo → Bool → List Record → Option Stepped
+step_by m low a urged [] = None
+step_by m low a urged (first ∷ others) =
+    if is_step first then Some (step_with m low a urged (first ∷ others) first) else None
 
 -- whether the life of an up is in, if the event has one
-abbrev pub up_by : WorkloadView → Readings → ProcNo → List Record → Option Bool
-up_by w r p records = if list_any is_up records then Some (is_in_if w r true (life_on r p)) else None
+abbrev pub up_by : Seen → ProcNo → Bool → List Record → Option Bool
+up_by m p urged records = if list_any is_up records then Some (is_in_if m true records urged (life_on m.readings p)) else None
 
 abbrev pub stepped_if : Option Stepped → Option ActNo → LivesView → LivesView
 stepped_if None a v = v

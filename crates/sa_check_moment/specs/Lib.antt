@@ -2,5 +2,8 @@ pub mod Board
 pub mod Ending
 pub mod KeptFields
 pub mod Listed
+pub mod Level
 pub mod Reading
+pub mod Rules
 pub mod Seen
+pub mod Urged

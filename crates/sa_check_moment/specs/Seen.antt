@@ -1,4 +1,4 @@
--- What is read of a history of a workload at a moment, and what an event's end needs of the moment before the event.
+-- What is read of a history of a workload at a moment, by whose rules it is judged, and what an event's end needs of the moment before the event.
 use Rattle.std.specs.Prelude.{ℕ, Bool, false, nat_lt, List, [], ◌∷◌, Option}
 use Rattle.sa_base.specs.declared.number.ProcNo.{ProcNo}
 use Rattle.sa_base.specs.declared.number.SpaceNo.{SpaceNo}
@@ -9,17 +9,21 @@ use Rattle.sa_laws.specs.Event.{Event}
 use Rattle.sa_laws.specs.State.{State}
 use Rattle.sa_laws.specs.Readings.{Readings, Listed, opening_readings, demand_of}
 use Rattle.sa_laws.specs.Record.{after_record}
-use Rattle.sa_laws.specs.History.{event_begun, ended, is_inside}
+use Rattle.sa_laws.specs.History.{event_begun, ended}
 use Rattle.sa_check_lives.specs.View.{LivesView, Stored, lives_of}
 use Rattle.sa_check_ios.specs.PendingView.{PendingView}
+use Rattle.sa_check_moment.specs.declared.rules.Rules.{Rules}
+use Rattle.sa_check_moment.specs.Rules.{rules_of}
 use Rattle.sa_check_moment.specs.Board.{BoardView}
 
 pub record Seen : Type 0 where
+  pub rules : Rules
   pub workload : WorkloadView
   pub readings : Readings
 
 -- a moment as it is stored: the same, in which the lives in use are in a table
 pub record Kept : Type 0 where
+  pub rules : Rules
   pub workload : WorkloadView
   pub number : ℕ
   pub state : State
@@ -54,13 +58,14 @@ joined number state board lives pending ready last moved = record {
 
 unfoldable pub seen : Kept → Seen
 seen m = record {
+  rules = m.rules;
   workload = m.workload;
   readings = joined m.number m.state m.board (lives_of m.lives) m.pending m.ready m.last m.moved;
 }
 
 -- before any record
-abbrev pub opened : WorkloadView → Seen
-opened w = record { workload = w; readings = opening_readings w }
+abbrev pub opened : Rules → WorkloadView → Seen
+opened rules w = record { rules = rules; workload = w; readings = opening_readings w }
 
 -- an event of this number and processor with these records
 abbrev pub event : ℕ → ProcNo → List Record → Event
@@ -75,7 +80,7 @@ behind_record number p what m = record m { readings = after_record m.workload nu
 
 abbrev pub at_end : Readings → ℕ → ProcNo → List Record → Seen → Seen
 at_end before number p records m =
-    record m { readings = ended is_inside m.workload before (event number p records) m.readings }
+    record m { readings = ended (rules_of m.rules).inside m.workload before (event number p records) m.readings }
 
 -- the first record is a want of less than the space announced before
 abbrev pub lowers : Readings → List Record → Bool

@@ -2,8 +2,11 @@
 #![tactic(auto)]
 
 mod board;
+mod level;
 mod moment;
+mod rules;
 mod start;
 
 pub use moment::Moment;
+pub use rules::Rules;
 pub use start::Start;

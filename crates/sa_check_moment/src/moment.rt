@@ -17,9 +17,13 @@ ghost use Rattle.sa_check_moment.specs.Listed.{IsListed};
 ghost use Rattle.sa_check_moment.specs.Seen.{seen, opened};
 
 mod finish;
+mod ranks;
 mod read;
+mod show;
 
 use crate::board::Board;
+use crate::level::Level;
+use crate::rules::Rules;
 use sa_base::{ActNo, BULK_RETURN, Note, ProcNo, Record, SpaceNo, ThreadNo};
 use sa_check_ios::{ListedThread, Pending, ReadyLists};
 use sa_check_lives::{KeptLife, ListLock, Lives};
@@ -50,14 +54,15 @@ struct Parts {
     pending: Pending,
     ready: ReadyLists,
     board: Board,
+    level: Level,
     number: u64,
     last: Option<Record>,
     moved: Option<SpaceNo>,
 }
 
 impl Model for Moment {
-    ghost use Rattle.sa_check_moment.specs.Seen.{Kept, seen};
-    ghost use Rattle.sa_check_moment.specs.Listed.{IsListed};
+    ghost use Rattle.sa_check_moment.specs.Seen.{Kept};
+    ghost use Rattle.sa_check_moment.specs.Listed.{IsMoment};
 
     ghost Value = { Kept };
 
@@ -65,13 +70,13 @@ impl Model for Moment {
 
     ghost view = { kept_of };
 
-    ghost invariant = { λ m. IsListed (seen (kept_of m)) };
+    ghost invariant = { IsMoment };
 }
 
 impl Moment {
-    /// Before any record of a trace of this workload. Fails only where memory runs out.
-    pub fn start(alloc: Global, workload: &Workload) -> Result<Moment, AllocError>
-        ensures { IfOk result (λ m. seen m ≡ opened workload.now) }
+    /// Before any record of a trace of this workload, which is judged by these rules. Fails only where memory runs out.
+    pub fn start(alloc: Global, rules: Rules, workload: &Workload) -> Result<Moment, AllocError>
+        ensures { IfOk result (λ m. seen m ≡ opened rules workload.now) }
     {
         let processors = usize::from(workload.processors());
         let spaces = workload.spaces().len();
@@ -81,6 +86,7 @@ impl Moment {
             pending: Pending::new(alloc, workload)?,
             lives: Lives::new(alloc, workload.processors(), spaces as u16)?,
             replay: Replay::start(alloc, workload)?,
+            level: Level::new(alloc, rules, spaces)?,
             number: 0,
             last: None,
             moved: None,
@@ -460,8 +466,8 @@ impl Moment {
         self.parts.lives.must_be_told(note)
     }
 
-    // The ready threads of the space, in the order of their ready records.
-    fn listed(&self, s: SpaceNo) -> &[ListedThread]
+    /// The ready threads of the space, in the order of their ready records.
+    pub fn listed(&self, s: SpaceNo) -> &[ListedThread]
         ensures { result.now ≡ ready_of (seen self.now).readings s }
     {
         self.parts.ready.listed(s)

@@ -9,8 +9,8 @@ use sa_check_lives::KeptLife;
 use sa_check_moment::Moment;
 use sa_check_shapes::{is_step, parted};
 
-/// Demand is announced, at an event of this number and processor with these records, on the moment before it.
-pub fn demand_is_announced(moment: &Moment, number: u64, p: ProcNo, records: &[Record]) -> bool
+// Demand is announced, at an event of this number and processor with these records, on the moment before it.
+pub(crate) fn is_announced(moment: &Moment, number: u64, p: ProcNo, records: &[Record]) -> bool
     ensures { let m = seen moment.now in
         IsTrue result ↔ DemandIsAnnounced m.workload m.readings (event number p records.now) }
 {
@@ -43,7 +43,7 @@ fn is_free(moment: &Moment, life: &KeptLife, first: Record) -> bool
 }
 
 // Only a life that is out or owes nothing begins a step so.
-fn is_bound(moment: &Moment, life: &KeptLife, first: Record) -> bool
+pub(crate) fn is_bound(moment: &Moment, life: &KeptLife, first: Record) -> bool
     ensures { result ≡ is_bound (seen moment.now).readings life.now first }
 {
     match first {

@@ -12,8 +12,13 @@ use sa_check_lives::{KeptLife, ListLock};
 use sa_check_moment::Moment;
 use sa_check_shapes::{is_back, is_step, own_part, parted, stands_alone};
 
-/// List locks, at an event of this number and processor with these records, on the moment as it begins.
-pub fn locks_are_kept(moment: &Moment, number: u64, p: ProcNo, records: &[Record]) -> bool
+// List locks, at an event of this number and processor with these records, on the moment as it begins.
+pub(crate) fn list_locks_are_kept(
+    moment: &Moment,
+    number: u64,
+    p: ProcNo,
+    records: &[Record],
+) -> bool
     ensures { let m = seen moment.now in let e = event number p records.now in
         (r : Readings) → m.readings ≡ event_begun m.workload e r
         → (IsTrue result ↔ LocksAreKept m.workload r e) }
@@ -47,14 +52,14 @@ fn keeps_locks_if(moment: &Moment, p: ProcNo, first: Record) -> bool
 }
 
 // A back is due: a continued lock was freed.
-fn back_is_due(life: &KeptLife) -> bool
+pub(crate) fn back_is_due(life: &KeptLife) -> bool
     ensures { result ≡ back_is_due life.now }
 {
     life.cont() && life.freed()
 }
 
 // The operation on ready lists keeps to its rule.
-fn keeps_locks(moment: &Moment, p: ProcNo, life: &KeptLife, first: Record) -> bool
+pub(crate) fn keeps_locks(moment: &Moment, p: ProcNo, life: &KeptLife, first: Record) -> bool
     ensures { let m = seen moment.now in
         IsTrue result ↔ KeepsLocks m.workload m.readings p life.now first }
 {

@@ -8,8 +8,8 @@ use sa_base::{ProcNo, Record, SpaceNo, ThreadNo};
 use sa_check_moment::Moment;
 use sa_check_shapes::parted;
 
-/// List order, at an event of this processor with these records, on the moment before it.
-pub fn order_is_kept(moment: &Moment, p: ProcNo, records: &[Record]) -> bool
+// List order, at an event of this processor with these records, on the moment before it.
+pub(crate) fn lists_are_in_order(moment: &Moment, p: ProcNo, records: &[Record]) -> bool
     ensures { IsTrue result ↔ RunsNext (seen moment.now).readings p records.now }
 {
     match parted(records) {

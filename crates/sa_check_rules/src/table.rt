@@ -13,7 +13,7 @@ use sa_check_moment::Moment;
 use sa_check_shapes::{are_of_locks, is_ins_of, is_passage, parted};
 
 // The records are those of a step of the life that runs on the processor.
-pub(crate) fn is_step(moment: &Moment, p: ProcNo, records: &[Record]) -> bool
+pub(crate) fn is_fast_step(moment: &Moment, p: ProcNo, records: &[Record]) -> bool
     ensures { let m = seen moment.now in
         IsTrue result ↔ IsStep m.workload m.readings p records.now }
 {
@@ -27,7 +27,13 @@ pub(crate) fn is_step(moment: &Moment, p: ProcNo, records: &[Record]) -> bool
 }
 
 // The records are those of a step of this life.
-fn is_step_of(moment: &Moment, p: ProcNo, a: ActNo, life: &KeptLife, records: &[Record]) -> bool
+pub(crate) fn is_step_of(
+    moment: &Moment,
+    p: ProcNo,
+    a: ActNo,
+    life: &KeptLife,
+    records: &[Record],
+) -> bool
     ensures { let m = seen moment.now in
         IsTrue result ↔ StepIn m.workload m.readings p (Some a) (Some life.now) records.now }
 {
@@ -88,7 +94,7 @@ fn can_hint(moment: &Moment, s: SpaceNo, life: &KeptLife, n: u16) -> bool
 }
 
 // A raising hint: the life has nothing, and less than its space can use was announced.
-fn can_raise(moment: &Moment, life: &KeptLife, n: u16) -> bool
+pub(crate) fn can_raise(moment: &Moment, life: &KeptLife, n: u16) -> bool
     ensures { let m = seen moment.now in
         IsTrue result ↔ CanRaise m.workload m.readings life.now n }
 {

@@ -4,10 +4,11 @@ ghost use Rattle.sa_instr.specs.Local.{local_answer};
 ghost use Rattle.sa_instr.specs.declared.answer.Local.TheVariants.{Went};
 ghost use Rattle.sa_laws.specs.Readings.{Readings, line_of, owner_of};
 ghost use Rattle.sa_laws.specs.History.{event_begun};
-ghost use Rattle.sa_laws.specs.Turns.{IsStep, IsTickOrStep, IsLocalIns, IsTurn, TurnsAreTaken};
+ghost use Rattle.sa_laws.specs.Turns.{IsTickOrStep, IsLocalIns, IsTurn, TurnsAreTaken};
+ghost use Rattle.sa_check_moment.specs.Rules.{rules_of};
 ghost use Rattle.sa_check_moment.specs.Seen.{seen, event};
 
-use crate::table::is_step;
+use crate::user_level::is_step;
 use sa_base::{ProcNo, Record};
 use sa_check_moment::Moment;
 use sa_check_shapes::{closing_part, is_closing, is_interrupt, is_over, own_part, parted};
@@ -24,7 +25,7 @@ pub fn turns_are_taken(
 ) -> bool
     ensures { let m = seen moment.now in let e = event number p records.now in
         (r : Readings) → m.readings ≡ event_begun m.workload e r → raised ≡ is_some (line_of r p)
-        → (IsTrue result ↔ TurnsAreTaken IsStep m.workload r e) }
+        → (IsTrue result ↔ TurnsAreTaken (rules_of m.rules).Steps m.workload r e) }
 {
     number == 0
         || (is_turn(moment, raised, number, p, own_part(records))
@@ -34,7 +35,7 @@ pub fn turns_are_taken(
 // The first that applies of an interrupt, a completion, a tick, and a step.
 fn is_turn(moment: &Moment, raised: bool, number: u64, p: ProcNo, records: &[Record]) -> bool
     ensures { let m = seen moment.now in
-        IsTrue result ↔ IsTurn IsStep raised number m.workload m.readings p records.now }
+        IsTrue result ↔ IsTurn (rules_of m.rules).Steps raised number m.workload m.readings p records.now }
 {
     if raised {
         return is_interrupt(records);
@@ -50,7 +51,7 @@ fn is_turn(moment: &Moment, raised: bool, number: u64, p: ProcNo, records: &[Rec
 // A tick of a processor that nobody owns, else a step.
 fn is_tick_or_step(moment: &Moment, p: ProcNo, records: &[Record]) -> bool
     ensures { let m = seen moment.now in
-        IsTrue result ↔ IsTickOrStep IsStep (owner_of m.readings p) m.workload m.readings p records.now }
+        IsTrue result ↔ IsTickOrStep (rules_of m.rules).Steps (owner_of m.readings p) m.workload m.readings p records.now }
 {
     if moment.owner(p).is_some() {
         return is_step(moment, p, records);

@@ -6,14 +6,18 @@ ghost use Rattle.std.specs.List.{list_any};
 ghost use Rattle.sa_laws.specs.Readings.{Readings, running_of, life_if};
 ghost use Rattle.sa_laws.specs.History.{is_up, is_running_or_blocked};
 ghost use Rattle.sa_check_lives.specs.View.{lives_of};
-ghost use Rattle.sa_check_moment.specs.Seen.{seen, at_end, lowers};
-ghost use Rattle.sa_check_moment.specs.Ending.{is_in, is_in_if, settles_by, scan_by, step_with, step_by, up_by, stepped_if, arisen_if};
+ghost use Rattle.sa_check_moment.specs.Seen.{seen, event, at_end, lowers};
+ghost use Rattle.sa_check_moment.specs.declared.rules.Rules.TheVariants.{Priorities};
+ghost use Rattle.sa_check_moment.specs.Urged.{asks_last};
+ghost use Rattle.sa_check_moment.specs.Ending.{IsOver, is_inside_at, owes_by, owes_pair, is_in, is_in_if, settles_by, scan_by, step_with, step_by, up_by, stepped_if, arisen_if};
 
 use crate::moment::{Moment, Parts};
+use crate::rules::Rules;
 use crate::start::Start;
 use sa_base::{ActNo, ProcNo, Record};
 use sa_check_lives::{KeptLife, Lives, Scan, Stepped};
-use sa_check_shapes::is_step;
+use sa_check_ranks::has_entry;
+use sa_check_shapes::{closing_part, is_step};
 use sa_laws::Place;
 use std::alloc::AllocError;
 
@@ -29,21 +33,23 @@ impl Moment {
         }
     }
 
-    /// The event of this number and processor with these records is over; `start` is what was seen before it. Fails
-    /// where memory runs out, and where a count would not fit 64 bits.
+    /// The event of this number and processor with these records is over; `start` is what was seen before it, and `urged`
+    /// tells whether a pair existed where pairs are asked for before its last record. Fails where memory runs out, and where a count would not fit 64 bits.
     pub fn finish(
         mut self,
         number: u64,
         p: ProcNo,
         records: &[Record],
         start: Start,
+        urged: bool,
     ) -> Result<Moment, AllocError>
         ensures { (before : Readings) → start.running ≡ running_of before p → start.lowers ≡ lowers before records.now
+            → IsOver before (event number p records.now) urged (seen self)
             → IfOk result (λ m. seen m ≡ at_end before number p records.now (seen self)) }
     {
         let _event = number;
-        let step = self.step_by(records, start);
-        let up = self.up_by(p, records);
+        let step = self.step_by(records, start, urged);
+        let up = self.up_by(p, records, urged);
         let parts: &mut Parts = &mut self.parts;
         parts.number = end_event(&mut parts.lives, parts.number, start.running, step, p, up)?;
         parts.last = None;
@@ -62,15 +68,14 @@ impl Moment {
     }
 
     // What becomes of the life that ran before the event, if the event is a step of it.
-    fn step_by(&self, records: &[Record], start: Start) -> Option<Stepped>
-        ensures { let m = seen self.now in
-            result ≡ step_by m.workload start.lowers m.readings start.running records.now }
+    fn step_by(&self, records: &[Record], start: Start, urged: bool) -> Option<Stepped>
+        ensures { result ≡ step_by (seen self.now) start.lowers start.running urged records.now }
     {
         match records {
             [] => None,
             [first, ..] => {
                 if is_step(*first) {
-                    Some(self.step_with(first, start))
+                    Some(self.step_with(first, records, start, urged))
                 } else {
                     None
                 }
@@ -78,23 +83,29 @@ impl Moment {
         }
     }
 
-    fn step_with(&self, first: &Record, start: Start) -> Stepped
-        ensures { let m = seen self.now in
-            result ≡ step_with m.workload start.lowers m.readings start.running first.now }
+    // The same of an event that begins with this record.
+    fn step_with(&self, first: &Record, records: &[Record], start: Start, urged: bool) -> Stepped
+        ensures { result
+            ≡ step_with (seen self.now) start.lowers start.running urged records.now first.now }
     {
         Stepped {
             freed: matches!(*first, Record::Free(..)),
             scan: scan_by(start.lowers, first),
-            inside: self.is_in_if(self.settles_by(start.lowers, first), start.running),
+            inside: self.is_in_if(
+                self.settles_by(start.lowers, first),
+                start.running,
+                records,
+                urged,
+            ),
         }
     }
 
     // Whether the life of the event's up is in, if there is one.
-    fn up_by(&self, p: ProcNo, records: &[Record]) -> Option<bool>
-        ensures { result ≡ up_by (seen self.now).workload (seen self.now).readings p records.now }
+    fn up_by(&self, p: ProcNo, records: &[Record], urged: bool) -> Option<bool>
+        ensures { result ≡ up_by (seen self.now) p urged records.now }
     {
         if has_up(records) {
-            Some(self.is_in_if(true, self.running(p)))
+            Some(self.is_in_if(true, self.running(p), records, urged))
         } else {
             None
         }
@@ -113,22 +124,51 @@ impl Moment {
     }
 
     // The life of this number is in, if it is in use.
-    fn is_in_if(&self, settled: bool, a: Option<ActNo>) -> bool
-        ensures { result ≡ is_in_if (seen self.now).workload (seen self.now).readings settled
+    fn is_in_if(&self, settled: bool, a: Option<ActNo>, records: &[Record], urged: bool) -> bool
+        ensures { result ≡ is_in_if (seen self.now) settled records.now urged
             (life_if (seen self.now).readings a) }
     {
         match a {
             None => false,
             Some(a) => match self.life(a) {
                 None => false,
-                Some(life) => self.is_in(settled, life),
+                Some(life) => self.is_in(settled, life, records, urged),
             },
         }
     }
 
-    // The life is in, at the end of an own event that settled it or did not.
-    fn is_in(&self, settled: bool, life: &KeptLife) -> bool
-        ensures { result ≡ is_in (seen self.now).workload (seen self.now).readings settled life.now }
+    // The life is in, at the end of an own event with these records that settled it or did not.
+    fn is_in(&self, settled: bool, life: &KeptLife, records: &[Record], urged: bool) -> bool
+        ensures { result ≡ is_in (seen self.now) settled records.now urged life.now }
+    {
+        self.is_inside(settled, life) || (settled && self.owes_pair(life, records, urged))
+    }
+
+    // By rules of ranks: a pair of the life's space exists where pairs are asked for.
+    fn owes_pair(&self, life: &KeptLife, records: &[Record], urged: bool) -> bool
+        ensures { result ≡ owes_pair (seen self.now) records.now urged life.now }
+    {
+        match self.rules() {
+            Rules::FastThreads => false,
+            Rules::Priorities => self.pair_is_found(life, records, urged),
+        }
+    }
+
+    // A pair of the life's space exists where pairs are asked for.
+    fn pair_is_found(&self, life: &KeptLife, records: &[Record], urged: bool) -> bool
+        requires { (seen self.now).rules ≡ Priorities }
+        ensures { result ≡ owes_by Priorities (seen self.now) records.now urged life.now }
+    {
+        if asks_last(records) {
+            self.has_pair(life.space())
+        } else {
+            urged
+        }
+    }
+
+    // The life is in by FastThreads' test.
+    fn is_inside(&self, settled: bool, life: &KeptLife) -> bool
+        ensures { result ≡ is_inside_at (seen self.now) settled life.now }
     {
         life.has_lock()
             || life.cont()
@@ -136,6 +176,13 @@ impl Moment {
             || (settled && self.demand(life.space()) < self.usable(life.space()))
             || (settled && self.carried(life.proc()).is_none() && self.many_taken(life.space()))
     }
+}
+
+// Pairs are asked for after all these records of an event.
+fn asks_last(records: &[Record]) -> bool
+    ensures { result ≡ asks_last records.now }
+{
+    has_entry(records) || closing_part(records).is_empty()
 }
 
 // A thread there runs or is blocked.

@@ -12,9 +12,11 @@ ghost use Rattle.sa_check_lives.specs.Recorded.{IsForPush, recorded};
 ghost use Rattle.sa_replay.specs.Replayed.{after};
 ghost use Rattle.sa_replay.specs.Needs.{CanChange, NeedsWith, Sees, seen_of};
 ghost use Rattle.sa_devices.specs.Pages.{HasPage};
+ghost use Rattle.sa_check_moment.specs.Level.{ReadsLevel};
 ghost use Rattle.sa_check_moment.specs.Seen.{seen, at_event, behind_record};
 ghost use Rattle.sa_check_moment.specs.Reading.{ReadsPush, ReadsList, begun_by, ended_by, pending_after, ready_after};
 
+use crate::level::Level;
 use crate::moment::{Moment, Parts};
 use sa_base::{ActNo, Item, PACKAGE_PAGE, ProcNo, Record, SpaceNo, ThreadNo};
 use sa_check_ios::{Pending, ReadyLists};
@@ -87,6 +89,7 @@ impl Moment {
         let parts: &mut Parts = &mut self.parts;
         parts.board.note(number, p, parts.last, what);
         read_parts(
+            &mut parts.level,
             &mut parts.replay,
             &mut parts.lives,
             &mut parts.pending,
@@ -299,8 +302,9 @@ fn moved_after(moved: Option<SpaceNo>, what: &Record) -> Option<SpaceNo>
     }
 }
 
-// Reads a record part by part: the state, the lives, the I/Os and pages, and the ready threads.
+// Reads a record part by part: what is kept for the rules, the state, the lives, the I/Os and pages, and the ready threads.
 fn read_parts(
+    level: &mut Level,
     replay: &mut Replay,
     lives: &mut Lives,
     pending: &mut Pending,
@@ -310,6 +314,7 @@ fn read_parts(
 ) -> Result<(), AllocError>
     requires can { CanChange replay.old.workload item.proc replay.old.state item.what }
     requires page { IfSome before.new_io (λ b. HasPage b.kind) }
+    ensures level { OnOk result (ReadsLevel replay.old.state item.what level.old level.new) }
     ensures replay { OnOk result (replay.new ≡ after item.proc replay.old item.what) }
     ensures lives { OnOk result (lives_of lives.new
         ≡ recorded replay.new.roused before.for_push item.proc item.what (lives_of lives.old)) }
@@ -317,6 +322,7 @@ fn read_parts(
         ≡ pending_after before.new_io item.event item.what pending.old) }
     ensures ready { OnOk result (ready.new ≡ ready_after before.list item.what ready.old) }
 {
+    level.read(replay, &item.what)?;
     read_pending(pending, item.event, &item.what, before.new_io)?;
     read_ready(ready, &item.what, before.list)?;
     replay.change(item.proc, &item.what)?;

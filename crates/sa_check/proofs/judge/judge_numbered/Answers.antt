@@ -1,4 +1,5 @@
 use Rattle.std.proofs.Common.{◌≡◌, sym, ◌∙◌, subst, Option, Some, None}
+use Rattle.sa_check_moment.specs.Rules.{rules_of}
 use Rattle.sa_check_moment.specs.Seen.{seen}
 use Rattle.sa_check.specs.declared.records.ReadThrough.{ReadThrough}
 use Rattle.sa_check.specs.Items.{told_event}
@@ -6,6 +7,7 @@ use Rattle.sa_check.specs.Records.{ReadsRecords, IsReadThrough}
 use Rattle.sa_check.specs.Judged.{after}
 use Rattle.sa_check.specs.Sides.{line_told}
 use Rattle.sa_check.proofs.JudgeLemmas.{step-breaks, ended-is, FirstIs, judged-so, quiet-from, settled-behind}
+use Rattle.sa_check.proofs.UrgedLemmas.{over-is}
 use Rattle.sa_check.proofs.judge.judge_numbered.Goals as goal
 
 pub read_event-requires : goal.read_event-requires
@@ -18,12 +20,14 @@ look_after-ending-requires c = λ quiet.
     let m = seen c.args.moment in
     let start = seen c.begin-beginning.new.moment in
     let e = told_event c.args.event.now in
+    let running = c.begin-beginning.result.start.running in
     let through = c.in-Some.through in
     let is : c.in_ok-through.field-0 ≡ Some through = c.in-Some.is in
-    let read : IsReadThrough start e through = subst (λ (o : Option ReadThrough). ReadsRecords start e o) is c.in_ok-through.ensures in
+    let read : IsReadThrough start e running through = subst (λ (o : Option ReadThrough). ReadsRecords start e running o) is c.in_ok-through.ensures in
     let next : seen c.in_ok-after.after ≡ after m e =
     ended-is m start (seen through.moment) (seen c.in_ok-after.after) e c.begin-beginning.ensures.event_begun read.moment
-    (c.in_ok-after.ensures m.readings c.begin-beginning.ensures.running c.begin-beginning.ensures.lowers) in
+    (c.in_ok-after.ensures m.readings c.begin-beginning.ensures.running c.begin-beginning.ensures.lowers
+    (over-is m start e running through c.begin-beginning.ensures.event_begun c.begin-beginning.ensures.running read)) in
     settled-behind m (seen c.in_ok-after.after) e c.requires.numbered c.requires.settled (sym c.is_quiet-quiet.ensures ∙ quiet) next
 
 pub returns-in_default : goal.returns-in_default
@@ -31,22 +35,25 @@ returns-in_default c =
     let m = seen c.args.moment in
     let start = seen c.begin-beginning.new.moment in
     let e = told_event c.args.event.now in
+    let running = c.begin-beginning.result.start.running in
     step-breaks m start e (line_told c.args.last) c.requires.numbered c.begin-beginning.ensures.event_begun
-    (subst (λ (o : Option ReadThrough). ReadsRecords start e o) c.in_default.is c.in_ok-through.ensures)
+    (subst (λ (o : Option ReadThrough). ReadsRecords start e running o) c.in_default.is c.in_ok-through.ensures)
 
 pub returns-in-None : goal.returns-in-None
 returns-in-None c =
     let m = seen c.args.moment in
     let start = seen c.begin-beginning.new.moment in
     let e = told_event c.args.event.now in
+    let running = c.begin-beginning.result.start.running in
     let through = c.in-Some.through in
     let is : c.in_ok-through.field-0 ≡ Some through = c.in-Some.is in
-    let read : IsReadThrough start e through = subst (λ (o : Option ReadThrough). ReadsRecords start e o) is c.in_ok-through.ensures in
+    let read : IsReadThrough start e running through = subst (λ (o : Option ReadThrough). ReadsRecords start e running o) is c.in_ok-through.ensures in
     let next : seen c.in_ok-after.after ≡ after m e =
     ended-is m start (seen through.moment) (seen c.in_ok-after.after) e c.begin-beginning.ensures.event_begun read.moment
-    (c.in_ok-after.ensures m.readings c.begin-beginning.ensures.running c.begin-beginning.ensures.lowers) in
-    let all : FirstIs m.workload m.readings e (line_told c.args.last) None =
-    judged-so m start (seen c.in_ok-after.after) e (line_told c.args.last) c.begin-beginning.result through c.look_after-ending.result
+    (c.in_ok-after.ensures m.readings c.begin-beginning.ensures.running c.begin-beginning.ensures.lowers
+    (over-is m start e running through c.begin-beginning.ensures.event_begun c.begin-beginning.ensures.running read)) in
+    let all : FirstIs (rules_of m.rules) m.workload m.readings e (line_told c.args.last) None =
+    judged-so m start (seen c.in_ok-after.after) e (line_told c.args.last) c.begin-beginning.result running through c.look_after-ending.result
     c.requires.numbered c.begin-beginning.ensures.found c.begin-beginning.ensures.event_begun read next c.look_after-ending.ensures
     c.findings_of-findings.result None c.findings_of-findings.ensures c.in-None.ensures in
     record { holds = all; next = next }
@@ -56,14 +63,16 @@ returns-in-Some-first_broken c =
     let m = seen c.args.moment in
     let start = seen c.begin-beginning.new.moment in
     let e = told_event c.args.event.now in
+    let running = c.begin-beginning.result.start.running in
     let through = c.in-Some.through in
     let is : c.in_ok-through.field-0 ≡ Some through = c.in-Some.is in
-    let read : IsReadThrough start e through = subst (λ (o : Option ReadThrough). ReadsRecords start e o) is c.in_ok-through.ensures in
+    let read : IsReadThrough start e running through = subst (λ (o : Option ReadThrough). ReadsRecords start e running o) is c.in_ok-through.ensures in
     let next : seen c.in_ok-after.after ≡ after m e =
     ended-is m start (seen through.moment) (seen c.in_ok-after.after) e c.begin-beginning.ensures.event_begun read.moment
-    (c.in_ok-after.ensures m.readings c.begin-beginning.ensures.running c.begin-beginning.ensures.lowers) in
-    let all : FirstIs m.workload m.readings e (line_told c.args.last) (Some c.in-Some-first_broken.rule) =
-    judged-so m start (seen c.in_ok-after.after) e (line_told c.args.last) c.begin-beginning.result through c.look_after-ending.result
+    (c.in_ok-after.ensures m.readings c.begin-beginning.ensures.running c.begin-beginning.ensures.lowers
+    (over-is m start e running through c.begin-beginning.ensures.event_begun c.begin-beginning.ensures.running read)) in
+    let all : FirstIs (rules_of m.rules) m.workload m.readings e (line_told c.args.last) (Some c.in-Some-first_broken.rule) =
+    judged-so m start (seen c.in_ok-after.after) e (line_told c.args.last) c.begin-beginning.result running through c.look_after-ending.result
     c.requires.numbered c.begin-beginning.ensures.found c.begin-beginning.ensures.event_begun read next c.look_after-ending.ensures
     c.findings_of-findings.result (Some c.in-Some-first_broken.rule) c.findings_of-findings.ensures c.in-Some-first_broken.ensures in
     all

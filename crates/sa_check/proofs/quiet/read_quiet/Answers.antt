@@ -1,4 +1,4 @@
-use Rattle.std.proofs.Common.{◌≡◌, ◌↔◌, ◌+◌, List, [], ◌∷◌, length, take, drop, get_or, refl, sym, ◌∙◌, ap, subst, arith}
+use Rattle.std.proofs.Common.{◌≡◌, ◌↔◌, ◌+◌, List, [], ◌∷◌, length, true, false, take, drop, get_or, refl, sym, ◌∙◌, ap, subst, arith}
 use Rattle.std.proofs.Math.Seq.{take-length}
 use Rattle.std.proofs.lemmas.List.{drop_more, drop_all}
 use Rattle.sa_base.specs.declared.record.Record.{Record}
@@ -11,7 +11,7 @@ use Rattle.sa_check_moment.specs.Seen.{seen}
 use Rattle.sa_check.specs.Items.{told_event}
 use Rattle.sa_check.specs.Records.{behind_some}
 use Rattle.sa_check.proofs.RecordLemmas.{steps-more, no-step, moment-more, tail-whole, no_record}
-use Rattle.sa_check.proofs.QuietLemmas.{each-quiet, once-holds, named-holds, all-holds, upcall-holds, heard-holds}
+use Rattle.sa_check.proofs.QuietLemmas.{each-quiet, once-holds, named-holds, all-holds, upcall-holds, heard-holds, quiet-asks}
 use Rattle.sa_check.proofs.QuietLines.{quiet-lines}
 use Rattle.sa_check.proofs.quiet.read_quiet.Goals as goal
 
@@ -72,6 +72,7 @@ returns c =
         heard = (λ _. each-quiet RaisesLine heard-holds m.workload e.number e.proc m.readings e.records quiet, λ _. found.heard);
       };
       due = record {
+        urged = λ early. absurd (let clash : true ≡ false = sym (quiet-asks e.records quiet) ∙ early in cc);
         wants = (λ _. c.requires.none.wants, λ _. refl);
         aims = (λ _. c.requires.none.aims, λ _. refl);
         lines = quiet-lines now m e c.in_ok-lines.lines quiet here

@@ -1,16 +1,17 @@
 use Rattle.std.proofs.Common.{◌≡◌, ◌+◌, List, [], ◌∷◌, length, take, drop, get_or, refl, sym, ◌∙◌, ap, subst, arith}
+use Rattle.std.specs.Prelude.{IsTrue}
 use Rattle.std.proofs.Math.Seq.{take-length}
 use Rattle.std.proofs.lemmas.List.{drop_more, drop_all}
 use Rattle.sa_base.specs.declared.record.Record.{Record}
 use Rattle.sa_laws.specs.Step.{AreSteps}
-use Rattle.sa_laws.specs.Shape.{before_aims, before_wants, front_part}
+use Rattle.sa_laws.specs.Shape.{before_aims, before_wants, front_part, own_part}
 use Rattle.sa_laws.specs.Upcalls.{TellsOnce, NamesTheLife, TellsAllThen, GivesUpcallThen, RaisesLine}
 use Rattle.sa_check_shapes.proofs.PartLemmas.{take-front}
 use Rattle.sa_check_moment.specs.Seen.{seen}
 use Rattle.sa_check.specs.Items.{told_event}
-use Rattle.sa_check.specs.Places.{WantsAreDue, AimsAreDue, LinesAreDue}
+use Rattle.sa_check.specs.Places.{WantsAreDue, AimsAreDue, LinesAreDue, urged_at}
 use Rattle.sa_check.specs.Records.{FoundMore, behind_some}
-use Rattle.sa_check.proofs.PlaceLemmas.{take-before-wants, take-before-aims, found-behind}
+use Rattle.sa_check.proofs.PlaceLemmas.{take-before-wants, take-before-aims, take-own, found-behind}
 use Rattle.sa_check.proofs.RecordLemmas.{rest-first, rest-more, rest-all, steps-more, no-step, moment-more, at-place, part-within, tail-whole, no_record}
 use Rattle.sa_check.proofs.records.read_records.Goals as goal
 
@@ -29,6 +30,7 @@ loop-i-init c =
       wants = λ below. absurd (omega arith);
       aims = λ below. absurd (omega arith);
       lines = λ below. absurd (omega arith);
+      urged = λ below. absurd (omega arith);
     }
 
 pub read-requires : goal.read-requires
@@ -75,6 +77,8 @@ loop-i-preserved c =
           (at-place (λ s. AimsAreDue s e) now m e i _ (before_aims e.records) old.moment places.ensures.aims (take-before-aims e.records)) old.aims;
       lines = found-behind places.result.lines i _ _ _ _ due.lines
           (at-place (λ s. LinesAreDue s e) now m e i _ (front_part e.records) old.moment places.ensures.lines (take-front e.records)) old.lines;
+      urged = found-behind places.result.own i _ _ _ _ due.urged
+          (at-place (λ s. IsTrue (urged_at s c.args.running)) now m e i _ (own_part e.records) old.moment places.ensures.own (take-own e.records)) old.urged;
     }
 
 pub returns : goal.returns
@@ -92,6 +96,7 @@ returns c =
     let places = c.of-places in
     let wants_within = part-within e.records (before_wants e.records) _ places.ensures.wants (take-before-wants e.records) in
     let aims_within = part-within e.records (before_aims e.records) _ places.ensures.aims (take-before-aims e.records) in
+    let own_within = part-within e.records (own_part e.records) _ places.ensures.own (take-own e.records) in
     let lines_within = part-within e.records (front_part e.records) _ places.ensures.lines (take-front e.records) in
     record {
       steps = old.steps.same.0 (subst (λ (left : List Record). AreSteps now.workload e.number e.proc now.readings left) (sym none) tt);
@@ -113,5 +118,8 @@ returns c =
         lines = found-behind places.result.lines n _ _ _ _ due.lines
             (at-place (λ s. LinesAreDue s e) now m e n _ (front_part e.records) here places.ensures.lines (take-front e.records))
             (λ past. old.lines (omega arith)) (omega arith);
+        urged = λ early. found-behind places.result.own n _ _ _ _ due.urged
+            (at-place (λ s. IsTrue (urged_at s c.args.running)) now m e n _ (own_part e.records) here places.ensures.own (take-own e.records))
+            (λ past. old.urged (omega arith)) (omega arith);
       };
     }

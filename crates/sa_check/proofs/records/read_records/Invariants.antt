@@ -1,10 +1,10 @@
 use Rattle.std.proofs.Common.{◌≡◌, ◌↔◌, ◌<◌, drop, take}
 use Rattle.std.specs.Prelude.{IsTrue}
-use Rattle.sa_laws.specs.Shape.{before_aims, before_wants, front_part}
+use Rattle.sa_laws.specs.Shape.{before_aims, before_wants, front_part, own_part}
 use Rattle.sa_laws.specs.Upcalls.{TellsOnce, NamesTheLife, TellsAllThen, GivesUpcallThen, RaisesLine}
 use Rattle.sa_check_moment.specs.Seen.{seen}
 use Rattle.sa_check.specs.Items.{told_event}
-use Rattle.sa_check.specs.Places.{WantsAreDue, AimsAreDue, LinesAreDue}
+use Rattle.sa_check.specs.Places.{WantsAreDue, AimsAreDue, LinesAreDue, urged_at}
 use Rattle.sa_check.specs.Records.{behind_some}
 use Rattle.sa_check.proofs.RecordLemmas.{Rest, StepsRest}
 use Rattle.sa_check.proofs.records.read_records.Given as goal
@@ -25,5 +25,6 @@ invariant-loop-i l =
       heard : Rest RaisesLine (seen l.now) m e rest l.laws.heard;
       wants : l.places.wants < l.i → (IsTrue l.due.wants ↔ WantsAreDue (behind_some m e (before_wants e.records)) e);
       aims : l.places.aims < l.i → (IsTrue l.due.aims ↔ AimsAreDue (behind_some m e (before_aims e.records)) e);
+      urged : l.places.own < l.i → (IsTrue l.due.urged ↔ IsTrue (urged_at (behind_some m e (own_part e.records)) l.fn.running));
       lines : l.places.lines < l.i → (IsTrue l.due.lines ↔ LinesAreDue (behind_some m e (front_part e.records)) e);
     }

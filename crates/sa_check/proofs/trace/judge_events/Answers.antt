@@ -5,6 +5,7 @@ use Rattle.sa_base.specs.declared.refusal.Unread.{Unread}
 use Rattle.sa_trace.specs.declared.line.Said.{Said}
 use Rattle.sa_trace.specs.declared.line.Said.TheVariants.{Next}
 use Rattle.sa_trace.specs.Reader.{left, in_front, with_said}
+use Rattle.sa_check_moment.specs.Rules.{rules_of}
 use Rattle.sa_check_moment.specs.Seen.{Seen, seen, event}
 use Rattle.sa_check.specs.declared.judge.Judged.{Judged}
 use Rattle.sa_check.specs.declared.judge.Judged.TheVariants as judged_as
@@ -27,8 +28,8 @@ returns-in_err-said c =
     let whole = in_front (c.args.first ∷ []) (left c.args.reader.now) in
     let p = err_from_is_err_and c.from_residual-in_err-said.result c.from_residual-in_err-said.ensures.1 in
     rw (p.1, p.2) (
-    bad-ahead w r item before (left c.gather.new.reader) whole c.gather.new.records.items c.in_err-said.field-0.0 c.in_err-said.ensures.gathers
-    (λ a comes. c.loop-said.invariant.rest a (subst (λ (s : Said). Comes w r (with_said s before) a) (sym c.in-Next.is) comes)))
+    bad-ahead c.args.rules w r item before (left c.gather.new.reader) whole c.gather.new.records.items c.in_err-said.field-0.0 c.in_err-said.ensures.gathers
+    (λ a comes. c.loop-said.invariant.rest a (subst (λ (s : Said). Comes c.args.rules w r (with_said s before) a) (sym c.in-Next.is) comes)))
 
 pub loop-said-preserved : goal.loop-said-preserved
 loop-said-preserved c =
@@ -45,12 +46,13 @@ loop-said-preserved c =
     subst (λ (j : Judged). Judges m (event item.event item.proc c.deref.result.now) last j) c.in-Ok-Right.field-0-is c.in-Ok-Right.ensures in
     let right = subst (λ (rs : List Record). Judges m (event item.event item.proc rs) last (judged_as.Right c.in-Ok-Right.after)) c.deref.ensures.value here in
     record {
+      rules = ap (λ (s : Seen). s.rules) right.next ∙ c.loop-said.invariant.rules;
       workload = ap (λ (s : Seen). s.workload) right.next ∙ c.loop-said.invariant.workload;
-      settled = subst (λ (s : Seen). WasSettled s.workload s.readings) (sym right.next) (settled-next m.workload m.readings e last right.holds);
+      settled = subst (λ (s : Seen). WasSettled s.workload s.readings) (sym right.next) (settled-next (rules_of m.rules) m.workload m.readings e last right.holds);
       rest = λ a comes. c.loop-said.invariant.rest a
-          (subst (λ (s : Said). Comes w m.readings (with_said s before) a) (sym c.in-Next.is)
-          (right-event w m next item before after records c.in_ok-said.said last a c.in_ok-said.ensures.gathers
-          c.loop-said.invariant.workload c.last_told.ensures right comes));
+          (subst (λ (s : Said). Comes c.args.rules w m.readings (with_said s before) a) (sym c.in-Next.is)
+          (right-event c.args.rules w m next item before after records c.in_ok-said.said last a c.in_ok-said.ensures.gathers
+          c.loop-said.invariant.rules c.loop-said.invariant.workload c.last_told.ensures right comes));
     }
 
 pub returns-in-Ok-Broken : goal.returns-in-Ok-Broken
@@ -68,11 +70,11 @@ returns-in-Ok-Broken c =
     subst (λ (j : Judged). Judges m (event item.event item.proc c.deref.result.now) last j) c.in-Ok-Broken.field-0-is c.in-Ok-Broken.ensures in
     let breaks = subst (λ (rs : List Record). Judges m (event item.event item.proc rs) last (judged_as.Broken rule)) c.deref.ensures.value here in
     let has = c.in_ok-said.ensures.gathers in
-    subst (λ (one : Result Verdict Unread). IsChecked w whole one) (sym c.unless_bad.ensures)
-    (break-found w m.readings (with_said (Next item) before) (with_said c.in_ok-said.said after) c.args.first (left c.args.reader.now) (Broken item.event rule)
-    (broken-event w m item before after records c.in_ok-said.said last rule has c.loop-said.invariant.workload c.last_told.ensures breaks)
-    (λ bad is. bad-event w m.readings item before after records c.in_ok-said.said bad has is)
-    (λ a comes. c.loop-said.invariant.rest a (subst (λ (s : Said). Comes w m.readings (with_said s before) a) (sym c.in-Next.is) comes)))
+    subst (λ (one : Result Verdict Unread). IsChecked (rules_of c.args.rules) w whole one) (sym c.unless_bad.ensures)
+    (break-found c.args.rules w m.readings (with_said (Next item) before) (with_said c.in_ok-said.said after) c.args.first (left c.args.reader.now) (Broken item.event rule)
+    (broken-event c.args.rules w m item before after records c.in_ok-said.said last rule has c.loop-said.invariant.rules c.loop-said.invariant.workload c.last_told.ensures breaks)
+    (λ bad is. bad-event c.args.rules w m.readings item before after records c.in_ok-said.said bad has is)
+    (λ a comes. c.loop-said.invariant.rest a (subst (λ (s : Said). Comes c.args.rules w m.readings (with_said s before) a) (sym c.in-Next.is) comes)))
 
 pub returns-in-Err : goal.returns-in-Err
 returns-in-Err c =
@@ -82,15 +84,15 @@ returns-in-Err c =
     let before = left c.loop-said.reader in
     let after = left c.gather.new.reader in
     let whole = in_front (c.args.first ∷ []) (left c.args.reader.now) in
-    subst (λ (one : Result Verdict Unread). IsChecked w whole one) (sym c.unless_bad-in-Err.ensures)
-    (none-found w r (with_said (Next item) before) (with_said c.in_ok-said.said after) whole
-    (λ bad is. bad-event w r item before after c.gather.new.records.items c.in_ok-said.said bad c.in_ok-said.ensures.gathers is)
-    (λ a comes. c.loop-said.invariant.rest a (subst (λ (s : Said). Comes w r (with_said s before) a) (sym c.in-Next.is) comes)))
+    subst (λ (one : Result Verdict Unread). IsChecked (rules_of c.args.rules) w whole one) (sym c.unless_bad-in-Err.ensures)
+    (none-found c.args.rules w r (with_said (Next item) before) (with_said c.in_ok-said.said after) whole
+    (λ bad is. bad-event c.args.rules w r item before after c.gather.new.records.items c.in_ok-said.said bad c.in_ok-said.ensures.gathers is)
+    (λ a comes. c.loop-said.invariant.rest a (subst (λ (s : Said). Comes c.args.rules w r (with_said s before) a) (sym c.in-Next.is) comes)))
 
 pub returns : goal.returns
 returns c =
     let w = c.args.workload.now in
     let r = (seen c.loop-said.moment).readings in
-    judged w c.args.first (left c.args.reader.now) Legal
+    judged c.args.rules w c.args.first (left c.args.reader.now) Legal
     (c.loop-said.invariant.rest (Ok Legal)
-    (subst (λ (s : Said). Comes w r (with_said s (left c.loop-said.reader)) (Ok Legal)) (sym c.in_default.is) (Legal, refl, refl)))
+    (subst (λ (s : Said). Comes c.args.rules w r (with_said s (left c.loop-said.reader)) (Ok Legal)) (sym c.in_default.is) (Legal, refl, refl)))

@@ -13,10 +13,11 @@ abbrev pub invariant-loop-said : goal.invariant-loop-said
 invariant-loop-said l =
     let w = l.fn.workload in
     record {
+      rules : (seen l.moment).rules ≡ l.fn.rules;
       workload : (seen l.moment).workload ≡ w;
       settled : WasSettled (seen l.moment).workload (seen l.moment).readings;
-      rest : (a : Result Verdict Bad) → Comes w (seen l.moment).readings (with_said l.said (left l.reader)) a
-          → Comes w (opening_readings w) (in_front (l.fn.first ∷ []) (left l.fn.reader)) a;
+      rest : (a : Result Verdict Bad) → Comes l.fn.rules w (seen l.moment).readings (with_said l.said (left l.reader)) a
+          → Comes l.fn.rules w (opening_readings w) (in_front (l.fn.first ∷ []) (left l.fn.reader)) a;
     }
 
 abbrev pub decreases-loop-said : goal.decreases-loop-said

@@ -25,6 +25,7 @@ loop-s-preserved c =
     let now = seen c.loop-s.moment in
     let next = seen c.in_ok-moment-2.moment in
     record {
+      rules = ap (λ (m : Seen). m.rules) c.in_ok-moment-2.ensures ∙ c.loop-s.invariant.rules;
       workload = ap (λ (m : Seen). m.workload) c.in_ok-moment-2.ensures ∙ c.loop-s.invariant.workload;
       readings =
           want-more c.args.workload.now now next c.loop-s.s

@@ -9,10 +9,12 @@ use Rattle.sa_replay.proofs.NeedLemmas.{can-change}
 use Rattle.sa_check_moment.specs.Board.{noted}
 use Rattle.sa_check_moment.specs.declared.moment.Parts.{Parts}
 use Rattle.sa_check_moment.specs.KeptFields.{kept_in}
+use Rattle.sa_check_moment.specs.Level.{rules_in, IsKeptFor, ReadsLevel}
 use Rattle.sa_check_moment.specs.Listed.{IsListed}
 use Rattle.sa_check_moment.specs.Seen.{Seen, Kept, seen, behind_record}
 use Rattle.sa_check_moment.specs.Reading.{pending_after, ready_after}
 use Rattle.sa_check_moment.proofs.JoinLemmas.{read-whole, IsReadWith}
+use Rattle.sa_check_moment.proofs.LevelLemmas.{reads-rules, kept-behind}
 use Rattle.sa_check_moment.proofs.ListedLemmas.{listed-behind}
 use Rattle.sa_check_moment.proofs.moment.Moment.read.Goals as goal
 
@@ -30,6 +32,7 @@ whole : (c : goal.After-self-4-1) → let fields : Parts = record {
   pending = c.read_parts.new.pending;
   ready = c.read_parts.new.ready;
   board = c.note.new.self;
+  level = c.read_parts.new.level;
   number = c.deref_mut-parts.result.now.number;
   last = Some c.args.what.now;
   moved = c.moved_after-parts.result;
@@ -57,13 +60,31 @@ whole c =
     let ready : c.read_parts.new.ready ≡ ready_after c.list_at.result x m.ready =
     c.in_ok-read_parts.ensures.ready ∙ ap (λ (k : Kept). ready_after c.list_at.result x k.ready) same in
     let moved : c.moved_after-parts.result ≡ moved_after m.moved x = c.moved_after-parts.ensures ∙ ap (λ (k : Kept). moved_after k.moved x) same in
-    read-whole m _ c.args.number p x c.push_at.result c.begun_by.result c.list_at.result c.read_parts.new.replay.roused with workload
+    let of : rules_in c.read_parts.new.level ≡ m.rules =
+    reads-rules parts.replay.state x parts.level c.read_parts.new.level c.in_ok-read_parts.ensures.level ∙ ap (λ (k : Kept). k.rules) same in
+    read-whole m _ c.args.number p x c.push_at.result c.begun_by.result c.list_at.result c.read_parts.new.replay.roused with of workload
     (ap (λ (k : Kept). k.number) same) state roused board lives pending ready refl moved
 
 pub invariant_of-self : goal.invariant_of-self
+unfolding seen
 invariant_of-self c =
-    let old : IsListed (seen c.args.self) = subst (λ (k : Kept). IsListed (seen k)) c.self.view_is c.self.invariant in
-    subst (λ (m : Seen). IsListed m) (sym (whole c)) (listed-behind c.args.number c.args.p c.args.what.now (seen c.args.self) old)
+    let m = c.args.self in
+    let x = c.args.what.now in
+    let p = c.args.p in
+    let parts = c.deref_mut-parts.result.now in
+    let new = c.read_parts.new.level in
+    let same = ap kept_in c.deref_mut-parts.ensures.value ∙ c.self.view_is in
+    let old : IsListed (seen m) = subst (λ (k : Kept). IsListed (seen k)) c.self.view_is c.self.invariant.listed in
+    let kept : IsKeptFor parts.level (kept_in parts).state (kept_in parts).ready =
+    subst (λ (k : Parts). IsKeptFor k.level (kept_in k).state (kept_in k).ready) (sym c.deref_mut-parts.ensures.value) c.self.invariant.kept in
+    let before : IsKeptFor parts.level m.state m.ready = subst (λ (k : Kept). IsKeptFor parts.level k.state k.ready) same kept in
+    let read : ReadsLevel m.state x parts.level new =
+    subst (λ (k : Kept). ReadsLevel k.state x parts.level new) same c.in_ok-read_parts.ensures.level in
+    let after = kept-behind m.workload c.args.number p (seen m).readings x parts.level new c.requires read before in
+    record {
+      listed = subst (λ (s : Seen). IsListed s) (sym (whole c)) (listed-behind c.args.number p x (seen m) old);
+      kept = subst (λ (s : Seen). IsKeptFor new s.readings.state s.readings.ready) (sym (whole c)) after;
+    }
 
 pub returns : goal.returns
 returns c = whole c

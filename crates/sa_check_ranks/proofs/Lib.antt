@@ -1,0 +1,4 @@
+pub mod Keeping
+pub mod Rows
+pub mod Histories
+pub mod Best

@@ -1,0 +1,18 @@
+use Rattle.std.proofs.Common.{◌≡◌, ◌↔◌, ℕ, subst, false, true}
+use Rattle.std.specs.Prelude.{IsTrue}
+use Rattle.sa_check_moment.specs.declared.rules.Rules.{Rules}
+use Rattle.sa_check_moment.specs.Rules.{rules_of}
+use Rattle.sa_check_moment.specs.Seen.{seen, event}
+use Rattle.sa_check_rules.proofs.user_level.is_step.Goals as goal
+
+pub returns-in-FastThreads : goal.returns-in-FastThreads
+returns-in-FastThreads c =
+    let m = seen c.args.moment.now in
+    subst (λ (k : Rules). IsTrue c.is_fast_step.result ↔ (rules_of k).Steps m.workload m.readings c.args.p c.args.records.now) c.in-FastThreads.ensures
+    c.is_fast_step.ensures
+
+pub returns-in-Priorities : goal.returns-in-Priorities
+returns-in-Priorities c =
+    let m = seen c.args.moment.now in
+    subst (λ (k : Rules). IsTrue c.is_ranked_step.result ↔ (rules_of k).Steps m.workload m.readings c.args.p c.args.records.now) c.in-Priorities.ensures
+    c.is_ranked_step.ensures
