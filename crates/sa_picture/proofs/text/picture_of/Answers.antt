@@ -1,6 +1,5 @@
-use Rattle.std.proofs.Common.{rules, ◌≡◌, List, ℕ, Ok, Err, subst, arith, sym, ap, ◌∙◌}
+use Rattle.std.proofs.Common.{rules, ◌≡◌, List, ℕ, Ok, subst, arith}
 use Rattle.sa_trace.specs.Reading.{read_of, told}
-use Rattle.sa_picture.specs.Losses.{trace_part}
 use Rattle.sa_picture.proofs.text.picture_of.Goals as goal
 
 pub returns-in-Ok-Some-clause-ok : goal.returns-in-Ok-Some-clause-ok
