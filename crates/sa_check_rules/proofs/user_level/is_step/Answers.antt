@@ -1,8 +1,8 @@
-use Rattle.std.proofs.Common.{◌≡◌, ◌↔◌, ℕ, subst, false, true}
+use Rattle.std.proofs.Common.{◌↔◌, subst}
 use Rattle.std.specs.Prelude.{IsTrue}
 use Rattle.sa_check_moment.specs.declared.rules.Rules.{Rules}
 use Rattle.sa_check_moment.specs.Rules.{rules_of}
-use Rattle.sa_check_moment.specs.Seen.{seen, event}
+use Rattle.sa_check_moment.specs.Seen.{seen}
 use Rattle.sa_check_rules.proofs.user_level.is_step.Goals as goal
 
 pub returns-in-FastThreads : goal.returns-in-FastThreads

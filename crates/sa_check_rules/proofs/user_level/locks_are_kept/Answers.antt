@@ -1,4 +1,4 @@
-use Rattle.std.proofs.Common.{◌≡◌, ◌↔◌, ℕ, subst, false, true}
+use Rattle.std.proofs.Common.{◌↔◌, subst}
 use Rattle.std.specs.Prelude.{IsTrue}
 use Rattle.sa_check_moment.specs.declared.rules.Rules.{Rules}
 use Rattle.sa_check_moment.specs.Rules.{rules_of}
