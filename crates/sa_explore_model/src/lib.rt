@@ -1,0 +1,7 @@
+//! What a search through every order of turns keeps and answers, as plain data, and the theorem that a search that goes breadth first
+//! answers for every run.
+#![tactic(auto)]
+
+mod answer;
+
+pub use answer::{Explored, Extent, Found, State};

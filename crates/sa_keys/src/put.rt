@@ -1,0 +1,68 @@
+// Codes of numbers.
+#![tactic(auto, using(std::proofs::Common::append_assoc, crate::proofs::Loops::range_more, crate::proofs::Loops::list_more))]
+
+ghost use Rattle.std.specs.Prelude.{◌≡◌, ◌++◌, OnOk};
+ghost use Rattle.sa_keys.specs.Codes.{number, flag, list, number_or_none};
+ghost use Rattle.sa_keys.specs.Key.{thread_key};
+
+use sa_base::ThreadNo;
+use std::alloc::AllocError;
+
+/// Adds the bytes of a number. Fails only where memory runs out.
+#[tactic(auto, using(std::proofs::Common::append_assoc), unfolding(crate::specs::Codes::number))]
+pub fn put_number(key: &mut Vec<u8>, n: u64) -> Result<(), AllocError>
+    ensures { OnOk result (key.new.items ≡ key.old.items ++ number n) }
+{
+    if n < 254 {
+        key.push(n as u8)?;
+        return Ok(());
+    }
+    if n < 1 << 16 {
+        key.push(254)?;
+        key.extend_from_slice(&(n as u16).to_le_bytes())?;
+        return Ok(());
+    }
+    key.push(255)?;
+    key.extend_from_slice(&n.to_le_bytes())?;
+    Ok(())
+}
+
+/// Adds the byte of a flag. Fails only where memory runs out.
+pub fn put_flag(key: &mut Vec<u8>, is: bool) -> Result<(), AllocError>
+    ensures { OnOk result (key.new.items ≡ key.old.items ++ flag is) }
+{
+    key.push(if is { 1 } else { 0 })?;
+    Ok(())
+}
+
+/// Adds the bytes of a number that may be missing. Fails only where memory runs out.
+pub fn put_optional_number(key: &mut Vec<u8>, n: Option<u16>) -> Result<(), AllocError>
+    ensures { OnOk result (key.new.items ≡ key.old.items ++ number_or_none n) }
+{
+    match n {
+        None => put_number(key, 0),
+        Some(n) => put_number(key, u64::from(n) + 1),
+    }
+}
+
+/// Adds the bytes of a thread, if there is one. Fails only where memory runs out.
+pub fn put_thread(key: &mut Vec<u8>, thread: Option<ThreadNo>) -> Result<(), AllocError>
+    ensures { OnOk result (key.new.items ≡ key.old.items ++ thread_key thread) }
+{
+    match thread {
+        None => put_optional_number(key, None),
+        Some(t) => put_optional_number(key, Some(t.0)),
+    }
+}
+
+/// Adds the bytes of numbers, behind how many they are. Fails only where memory runs out.
+#[tactic(auto, using(std::proofs::Common::append_assoc, crate::proofs::Loops::list_more), unfolding(crate::specs::Codes::list))]
+pub fn put_numbers(numbers: &[u32], key: &mut Vec<u8>) -> Result<(), AllocError>
+    ensures { OnOk result (key.new.items ≡ key.old.items ++ list number numbers.now) }
+{
+    put_number(key, numbers.len() as u64)?;
+    for n in numbers {
+        put_number(key, u64::from(*n))?;
+    }
+    Ok(())
+}
