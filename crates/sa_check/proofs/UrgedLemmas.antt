@@ -1,5 +1,5 @@
 -- What is known of pairs at the end of an event, where they are asked for before its last record.
-use Rattle.std.proofs.Common.{◌≡◌, ◌↔◌, ℕ, zero, suc, refl, sym, ◌∙◌, ap, subst, inl, inr, Bool, true, false, List, [], ◌∷◌, ◌++◌, length, take, drop, Option, Some, None}
+use Rattle.std.proofs.Common.{◌≡◌, ◌↔◌, ℕ, zero, suc, refl, sym, ◌∙◌, ap, subst, Bool, true, false, List, [], ◌∷◌, ◌++◌, length, take, drop, Option, Some, None}
 use Rattle.std.specs.Prelude.{IsTrue, ◌||◌, if◌then◌else◌}
 use Rattle.std.specs.List.{list_any, prefix_len}
 use Rattle.std.specs.Option.{option_map}
@@ -23,11 +23,10 @@ use Rattle.sa_histories.proofs.Appended.{records-append}
 use Rattle.sa_check_moment.specs.declared.rules.Rules.{Rules}
 use Rattle.sa_check_moment.specs.declared.rules.Rules.TheVariants.{Priorities}
 use Rattle.sa_check_moment.specs.Seen.{Seen, seen, at_event}
-use Rattle.sa_check_moment.specs.Urged.{urged_by, is_closed, asks_last, IsUrged}
+use Rattle.sa_check_moment.specs.Urged.{urged_by, is_closed, asks_last}
 use Rattle.sa_check_moment.specs.Ending.{IsOver}
 use Rattle.sa_check.specs.declared.records.ReadThrough.{ReadThrough}
-use Rattle.sa_check.specs.Places.{urged_at}
-use Rattle.sa_check.specs.Records.{behind_some, IsReadThrough}
+use Rattle.sa_check.specs.Records.{IsReadThrough}
 use Rattle.sa_check.proofs.QuietLemmas.{life-kept}
 
 abbrev space_of : Option Life → Option SpaceNo
