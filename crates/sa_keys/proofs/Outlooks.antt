@@ -8,30 +8,9 @@ use Rattle.sa_base.specs.declared.number.ThreadNo.{ThreadNo}
 use Rattle.sa_base.specs.declared.limits.TheConstants.{MAX_SPACES}
 use Rattle.sa_outlook.specs.Nameless.{PlainStopped, NamelessNote, NamelessKind, NamelessIo}
 use Rattle.sa_outlook.specs.Outlook.{Outlook}
-use Rattle.sa_keys.specs.Codes.{IsPrefixCode, number, flag, number_or_none, optional, list}
-use Rattle.sa_keys.specs.Key.{thread_key, space_no_key, stopped_key, note_key, kind_key, io_key, processor_key, space_key, taken_key, key_of}
-use Rattle.sa_keys.proofs.Codes.{number-code, flag-code, number_or_none-code, optional-code, list-code, tagged-code, apart4}
-
--- a number with a name of its own, if it is there
-pub thread-code : IsPrefixCode thread_key
-thread-code s t r q same =
-    let e = number_or_none-code (option_map (λ (n : ThreadNo). n.0) s) (option_map (λ (n : ThreadNo). n.0) t) r q same in (go s t e.0, e.1)
-  where
-    go : (s t : Option ThreadNo) → option_map (λ (n : ThreadNo). n.0) s ≡ option_map (λ (n : ThreadNo). n.0) t → s ≡ t
-    go None None is = refl
-    go (Some a) (Some b) is = let e : a.0 ≡ b.0 = cc in ap (λ (n : ℕ). Some (let t : ThreadNo = record { 0 = n } in t)) e
-    go None (Some b) is = absurd (let e : None ≡ Some b.0 = is in cc)
-    go (Some a) None is = absurd (let e : Some a.0 ≡ None = is in cc)
-
-pub space_no-code : IsPrefixCode space_no_key
-space_no-code s t r q same =
-    let e = number_or_none-code (option_map (λ (n : SpaceNo). n.0) s) (option_map (λ (n : SpaceNo). n.0) t) r q same in (go s t e.0, e.1)
-  where
-    go : (s t : Option SpaceNo) → option_map (λ (n : SpaceNo). n.0) s ≡ option_map (λ (n : SpaceNo). n.0) t → s ≡ t
-    go None None is = refl
-    go (Some a) (Some b) is = let e : a.0 ≡ b.0 = cc in ap (λ (n : ℕ). Some (let t : SpaceNo = record { 0 = n } in t)) e
-    go None (Some b) is = absurd (let e : None ≡ Some b.0 = is in cc)
-    go (Some a) None is = absurd (let e : Some a.0 ≡ None = is in cc)
+use Rattle.sa_codes.specs.Codes.{IsPrefixCode, number, flag, thread_key, space_no_key, optional, list}
+use Rattle.sa_keys.specs.Key.{stopped_key, note_key, kind_key, io_key, processor_key, space_key, taken_key, key_of}
+use Rattle.sa_codes.proofs.Codes.{number-code, flag-code, number_or_none-code, thread-code, space_no-code, optional-code, list-code, tagged-code, apart4}
 
 -- codes of n numbers, each of which tells a fact
 pub each-tells : (f g : ℕ → List ℕ) (P : ℕ → Type 0) → ((p : ℕ) (r s : List ℕ) → f p ++ r ≡ g p ++ s → P p × (r ≡ s))

@@ -1,20 +1,10 @@
 -- The key of a machine: the bytes of its outlook.
-use Rattle.std.specs.Prelude.{ℕ, false, List, ◌++◌, length, Option, None, slice_index, slice_index_or}
+use Rattle.std.specs.Prelude.{ℕ, false, List, ◌++◌, length, None, slice_index, slice_index_or}
 use Rattle.std.specs.List.{flat_map, range_with_len}
-use Rattle.std.specs.Option.{option_map}
-use Rattle.sa_base.specs.declared.number.SpaceNo.{SpaceNo}
-use Rattle.sa_base.specs.declared.number.ThreadNo.{ThreadNo}
 use Rattle.sa_base.specs.declared.limits.TheConstants.{MAX_SPACES}
 use Rattle.sa_outlook.specs.Nameless.{PlainStopped, NamelessNote, NamelessKind, NamelessIo}
 use Rattle.sa_outlook.specs.Outlook.{Outlook}
-use Rattle.sa_keys.specs.Codes.{number, flag, number_or_none, optional, list}
-
--- numbers that may be missing
-abbrev pub thread_key : Option ThreadNo → List ℕ
-thread_key t = number_or_none (option_map (λ n. n.0) t)
-
-abbrev pub space_no_key : Option SpaceNo → List ℕ
-space_no_key s = number_or_none (option_map (λ n. n.0) s)
+use Rattle.sa_codes.specs.Codes.{number, flag, number_or_none, thread_key, space_no_key, optional, list}
 
 -- `ctx` is the code of what matters of a context
 module _ {D : Type 0} (ctx : D → List ℕ) where

@@ -2,9 +2,9 @@
 //! those with equal keys have equal outlooks.
 #![tactic(auto)]
 
+mod key;
 mod keyed;
 pub mod laws;
-mod put;
 
+pub use key::key;
 pub use keyed::Keyed;
-pub use put::{put_flag, put_number, put_numbers, put_optional_number, put_thread};

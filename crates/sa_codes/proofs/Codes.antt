@@ -4,7 +4,7 @@ use Rattle.std.specs.Int.{to_le_bytes, from_le_bytes, w16, w64}
 use Rattle.std.specs.List.{flat_map}
 use Rattle.std.proofs.lemmas.Bool.{ltb-true, lt-ltb, le-ltb}
 use Rattle.std.proofs.lemmas.Nat.{from_le_bytes-to_le_bytes_2, from_le_bytes-to_le_bytes_8}
-use Rattle.sa_keys.specs.Codes.{IsPrefixCode, number, flag, number_or_none, optional, list, kept_before, trimmed, padded}
+use Rattle.sa_codes.specs.Codes.{IsPrefixCode, number, flag, number_or_none, optional, list, kept_before, trimmed, padded}
 
 -- what can be read back is a prefix code
 pub code-read : {A : Type 0} (code : A → List ℕ) (read : List ℕ → A × List ℕ) → ((x : A) (r : List ℕ) → read (code x ++ r) ≡ (x, r)) → IsPrefixCode code
@@ -168,3 +168,24 @@ tagged-code tag body tells code is x y r s same =
     let tags = number-code (tag x) (tag y) (body x ++ r) (body y ++ s)
     (sym (append_assoc (number (tag x)) (body x) r) ∙ parts ∙ append_assoc (number (tag y)) (body y) s) in
     tells x y r s tags.0 tags.1
+
+-- a number with a name of its own, if it is there
+pub thread-code : IsPrefixCode thread_key
+thread-code s t r q same =
+    let e = number_or_none-code (option_map (λ (n : ThreadNo). n.0) s) (option_map (λ (n : ThreadNo). n.0) t) r q same in (go s t e.0, e.1)
+  where
+    go : (s t : Option ThreadNo) → option_map (λ (n : ThreadNo). n.0) s ≡ option_map (λ (n : ThreadNo). n.0) t → s ≡ t
+    go None None is = refl
+    go (Some a) (Some b) is = let e : a.0 ≡ b.0 = cc in ap (λ (n : ℕ). Some (let t : ThreadNo = record { 0 = n } in t)) e
+    go None (Some b) is = absurd (let e : None ≡ Some b.0 = is in cc)
+    go (Some a) None is = absurd (let e : Some a.0 ≡ None = is in cc)
+
+pub space_no-code : IsPrefixCode space_no_key
+space_no-code s t r q same =
+    let e = number_or_none-code (option_map (λ (n : SpaceNo). n.0) s) (option_map (λ (n : SpaceNo). n.0) t) r q same in (go s t e.0, e.1)
+  where
+    go : (s t : Option SpaceNo) → option_map (λ (n : SpaceNo). n.0) s ≡ option_map (λ (n : SpaceNo). n.0) t → s ≡ t
+    go None None is = refl
+    go (Some a) (Some b) is = let e : a.0 ≡ b.0 = cc in ap (λ (n : ℕ). Some (let t : SpaceNo = record { 0 = n } in t)) e
+    go None (Some b) is = absurd (let e : None ≡ Some b.0 = is in cc)
+    go (Some a) None is = absurd (let e : Some a.0 ≡ None = is in cc)

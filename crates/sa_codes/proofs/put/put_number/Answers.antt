@@ -1,7 +1,7 @@
 use Rattle.std.proofs.Common.{◌≡◌, ◌∷◌, ◌++◌, [], List, ℕ, ap, sym, ◌∙◌, append_assoc, arith}
 use Rattle.std.specs.Int.{to_le_bytes, w16, w64}
-use Rattle.sa_keys.proofs.Codes.{number-small, number-middle, number-large}
-use Rattle.sa_keys.proofs.put.put_number.Goals as goal
+use Rattle.sa_codes.proofs.Codes.{number-small, number-middle, number-large}
+use Rattle.sa_codes.proofs.put.put_number.Goals as goal
 
 pub returns-then-n-lt254 : goal.returns-then-n-lt254
 returns-then-n-lt254 c =

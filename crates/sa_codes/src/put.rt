@@ -2,10 +2,9 @@
 #![tactic(auto, using(std::proofs::Common::append_assoc, crate::proofs::Loops::range_more, crate::proofs::Loops::list_more))]
 
 ghost use Rattle.std.specs.Prelude.{◌≡◌, ◌++◌, OnOk};
-ghost use Rattle.sa_keys.specs.Codes.{number, flag, list, number_or_none};
-ghost use Rattle.sa_keys.specs.Key.{thread_key};
+ghost use Rattle.sa_codes.specs.Codes.{number, flag, list, number_or_none, thread_key, space_no_key};
 
-use sa_base::ThreadNo;
+use sa_base::{SpaceNo, ThreadNo};
 use std::alloc::AllocError;
 
 /// Adds the bytes of a number. Fails only where memory runs out.
@@ -52,6 +51,16 @@ pub fn put_thread(key: &mut Vec<u8>, thread: Option<ThreadNo>) -> Result<(), All
     match thread {
         None => put_optional_number(key, None),
         Some(t) => put_optional_number(key, Some(t.0)),
+    }
+}
+
+/// Adds the bytes of a space, if there is one. Fails only where memory runs out.
+pub fn put_space(key: &mut Vec<u8>, space: Option<SpaceNo>) -> Result<(), AllocError>
+    ensures { OnOk result (key.new.items ≡ key.old.items ++ space_no_key space) }
+{
+    match space {
+        None => put_optional_number(key, None),
+        Some(s) => put_optional_number(key, Some(s.0)),
     }
 }
 

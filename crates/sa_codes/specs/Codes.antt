@@ -2,6 +2,9 @@
 use Rattle.std.specs.Prelude.{◌≡◌, ℕ, ◌+◌, ◌^◌, nat_lt, Bool, if◌then◌else◌, List, [], ◌∷◌, ◌++◌, length, Option, Some, None}
 use Rattle.std.specs.Int.{to_le_bytes, w16, w64}
 use Rattle.std.specs.List.{flat_map}
+use Rattle.std.specs.Option.{option_map}
+use Rattle.sa_base.specs.declared.number.SpaceNo.{SpaceNo}
+use Rattle.sa_base.specs.declared.number.ThreadNo.{ThreadNo}
 
 -- whatever follows, the code says what it is of, and where it ends
 abbrev pub IsPrefixCode : {A : Type 0} → (A → List ℕ) → Type 0
@@ -23,6 +26,12 @@ flag b = (if b then 1 else 0) ∷ []
 abbrev pub number_or_none : Option ℕ → List ℕ
 number_or_none None = number 0
 number_or_none (Some n) = number (n + 1)
+
+abbrev pub thread_key : Option ThreadNo → List ℕ
+thread_key t = number_or_none (option_map (λ n. n.0) t)
+
+abbrev pub space_no_key : Option SpaceNo → List ℕ
+space_no_key s = number_or_none (option_map (λ n. n.0) s)
 
 abbrev pub optional : {A : Type 0} → (A → List ℕ) → Option A → List ℕ
 optional code None = number 0

@@ -22,8 +22,8 @@ use Rattle.sa_prio_model.specs.Step as prio
 use Rattle.sa_package_outlook.specs.Contexts.{plain, IsMade, plain_prio, IsMadeFor}
 use Rattle.sa_package_outlook.proofs.FastThreads.{fast-ignores-numbers}
 use Rattle.sa_package_outlook.proofs.Priorities.{prio-ignores-numbers}
-use Rattle.sa_keys.specs.Packages.{IsFast, IsPrio}
-use Rattle.sa_keys.proofs.RanksStay.{ranks_of, made-ranks, stepped-stay, told-stay}
+use Rattle.sa_package_keys.specs.Packages.{IsFast, IsPrio}
+use Rattle.sa_package_keys.proofs.RanksStay.{ranks_of, made-ranks, stepped-stay, told-stay}
 
 module _ {U C D : Type 0} (f : Calls U C) (plain : Option SpaceView → C → D) (IsMade : Option SpaceView → U → Type 0) (laws : IgnoresNumbers f plain IsMade)
     (Q : U → Type 0) where

@@ -1,0 +1,3 @@
+pub mod PackageCodes
+pub mod RanksStay
+pub mod Made

