@@ -1,10 +1,13 @@
 -- The codes can be read back from the left.
-use Rattle.std.proofs.Common.{◌≡◌, ℕ, ◌+◌, ◌^◌, ◌<◌, ◌≤◌, Bool, true, false, List, [], ◌∷◌, ◌++◌, length, take, drop, Some, None, nat_lt, refl, sym, ap, ◌∙◌, arith, append_assoc}
+use Rattle.std.proofs.Common.{◌≡◌, ℕ, ◌+◌, ◌^◌, ◌<◌, ◌≤◌, Bool, true, false, List, [], Option, ◌∷◌, ◌++◌, length, take, drop, Some, None, nat_lt, refl, sym, ap, ◌∙◌, arith, append_assoc}
 use Rattle.std.specs.Int.{to_le_bytes, from_le_bytes, w16, w64}
 use Rattle.std.specs.List.{flat_map}
+use Rattle.std.specs.Option.{option_map}
 use Rattle.std.proofs.lemmas.Bool.{ltb-true, lt-ltb, le-ltb}
 use Rattle.std.proofs.lemmas.Nat.{from_le_bytes-to_le_bytes_2, from_le_bytes-to_le_bytes_8}
-use Rattle.sa_codes.specs.Codes.{IsPrefixCode, number, flag, number_or_none, optional, list, kept_before, trimmed, padded}
+use Rattle.sa_base.specs.declared.number.SpaceNo.{SpaceNo}
+use Rattle.sa_base.specs.declared.number.ThreadNo.{ThreadNo}
+use Rattle.sa_codes.specs.Codes.{IsPrefixCode, number, flag, number_or_none, thread_key, space_no_key, optional, list, kept_before, trimmed, padded}
 
 -- what can be read back is a prefix code
 pub code-read : {A : Type 0} (code : A → List ℕ) (read : List ℕ → A × List ℕ) → ((x : A) (r : List ℕ) → read (code x ++ r) ≡ (x, r)) → IsPrefixCode code
