@@ -1,0 +1,35 @@
+-- What is answered of every order of turns of a workload, after its turn lines.
+use Rattle.std.specs.Prelude.{◌≡◌, ℕ, ◌+◌, ◌⊎◌, Bool, List, length, Option, Some, None}
+use Rattle.sa_base.specs.declared.number.ProcNo.{ProcNo}
+use Rattle.sa_base.specs.declared.record.End.{End}
+use Rattle.sa_base.specs.declared.limits.TheConstants.{MAX_EVENTS}
+use Rattle.sa_spaces.specs.Space.{SpaceView}
+use Rattle.sa_spaces.specs.Workload.{WorkloadView}
+use Rattle.sa_abstract.specs.Calls.{Calls}
+use Rattle.sa_core_model.specs.Machine.{Machine}
+use Rattle.sa_outlook.specs.Outlook.{outlook}
+use Rattle.sa_explore_model.specs.declared.answer.Extent.TheVariants.{All, Part}
+use Rattle.sa_explore_model.specs.declared.answer.Found.{Found}
+use Rattle.sa_explore_model.specs.declared.answer.Explored.{Explored}
+use Rattle.sa_explore_model.specs.Answer.{found_of, LeadsToEnd, IsLeast, IsComplete, IsCounted, IsDepth, AreEndless}
+use Rattle.sa_explore_runs.specs.Runs.{end, IsOpenTurn, IsBegun, IsWay}
+
+module _ {U C D : Type 0} (f : Calls U C) (plain : Option SpaceView → C → D) (w : WorkloadView) where
+  pub record IsExplored (most : ℕ) (x : Explored) : Type 0 where
+    pub begun : List ProcNo
+    pub begins : IsBegun f w begun
+    -- sound and least: each schedule that is given leads to its end, and none that does comes before it
+    pub sound : (e : End) (found : Found) → found_of x e ≡ Some found → LeadsToEnd (outlook plain) (end f) (IsWay f w begun) begun e found.schedule.items
+    pub least : (e : End) (found : Found) → found_of x e ≡ Some found → IsLeast (outlook plain) (end f) (IsWay f w begun) begun e found.schedule.items
+    -- complete: no run that was looked at ends in another way
+    pub complete : IsComplete (outlook plain) (end f) (IsWay f w begun) x
+    -- one machine is kept for each outlook
+    pub kept : List (Machine U C)
+    pub counted : IsCounted (outlook plain) (end f) (IsWay f w begun) x kept
+    pub depth : x.extent ≡ All → IsDepth (outlook plain) (end f) (IsWay f w begun) x.depth
+    -- not all were looked at only where the states were spent, or where a run came to the most events
+    pub spent : x.extent ≡ Part → (x.states ≡ most) ⊎ (length begun + x.depth ≡ MAX_EVENTS)
+    -- of which states no order of turns ever ends is said where all were looked at
+    pub marks : List Bool
+    pub endless : x.extent ≡ All → AreEndless (outlook plain) (end f) (IsWay f w begun) (IsOpenTurn f) begun kept marks x.endless
+    pub unknown : x.extent ≡ Part → x.endless ≡ None
