@@ -1,5 +1,5 @@
 // A line of a common form, read in one pass over its bytes.
-ghost use Rattle.std.specs.Prelude.{◌≡◌, ◌<◌, ◌↔◌, ◌++◌, Some, IfSome, IsTrue, codes, decimal};
+ghost use Rattle.std.specs.Prelude.{◌≡◌, ◌<◌, ◌↔◌, ◌∷◌, ◌++◌, Some, IfSome, IsTrue, codes, decimal};
 ghost use Rattle.sa_trace.specs.Parts.{parts_of, FitTheKind};
 ghost use Rattle.sa_trace.specs.TraceText.{field, record_text, item_text};
 ghost use Rattle.sa_trace.specs.Text.{FitsItem, MayFollow};
@@ -105,7 +105,7 @@ fn digits(first: u64, bytes: &[u8]) -> Option<Front<'_>>
 fn small(bytes: &[u8]) -> Option<SmallFront<'_>>
     ensures { IfSome result (λ front. bytes.now ≡ field (Some front.number) ++ front.rest.now) }
 {
-    let front = number(bytes.strip_prefix(b" ")?)?;
+    let front = number(behind(bytes, b' ')?)?;
     let number = u16::try_from(front.number).ok()?;
     Some(SmallFront {
         number,
@@ -130,37 +130,55 @@ fn record(bytes: &[u8]) -> Option<Record>
     ensures text { IfSome result (λ what. bytes.now ≡ codes " " ++ record_text what) }
     ensures fit { IfSome result (λ what. FitTheKind (parts_of what)) }
 {
-    match *bytes.get(1)? {
-        b'i' => ins_or_idle(bytes),
-        b'r' => run_or_ready(bytes),
-        b't' => take(bytes.strip_prefix(b" take")?),
-        b'f' => free(bytes.strip_prefix(b" free")?),
-        b's' => spin(bytes.strip_prefix(b" spin")?),
+    let (first, rest) = behind(bytes, b' ')?.split_first()?;
+    match *first {
+        b'i' => ins_or_idle(rest),
+        b'r' => run_or_ready(rest),
+        b't' => take(behind(behind_two(rest, b'a', b'k')?, b'e')?),
+        b'f' => free(behind(behind_two(rest, b'r', b'e')?, b'e')?),
+        b's' => spin(behind(behind_two(rest, b'p', b'i')?, b'n')?),
         _ => None,
     }
 }
 
+// The record whose word begins with `i`, and that these bytes are behind it.
 fn ins_or_idle(bytes: &[u8]) -> Option<Record>
-    ensures text { IfSome result (λ what. bytes.now ≡ codes " " ++ record_text what) }
+    ensures text { IfSome result (λ what. codes " i" ++ bytes.now ≡ codes " " ++ record_text what) }
     ensures fit { IfSome result (λ what. FitTheKind (parts_of what)) }
 {
-    if let Some(fields) = bytes.strip_prefix(b" ins") {
+    if let Some(fields) = behind_two(bytes, b'n', b's') {
         return ins(fields);
     }
-    if bytes == b" idle".as_slice() {
+    if bytes == b"dle".as_slice() {
         return Some(Record::Idle);
     }
     None
 }
 
+// The same of a word that begins with `r`.
 fn run_or_ready(bytes: &[u8]) -> Option<Record>
-    ensures text { IfSome result (λ what. bytes.now ≡ codes " " ++ record_text what) }
+    ensures text { IfSome result (λ what. codes " r" ++ bytes.now ≡ codes " " ++ record_text what) }
     ensures fit { IfSome result (λ what. FitTheKind (parts_of what)) }
 {
-    if let Some(fields) = bytes.strip_prefix(b" run") {
+    if let Some(fields) = behind_two(bytes, b'u', b'n') {
         return run(fields);
     }
-    ready(bytes.strip_prefix(b" ready")?)
+    ready(behind_two(behind_two(bytes, b'e', b'a')?, b'd', b'y')?)
+}
+
+// What is behind this byte, where these bytes begin with it.
+fn behind(bytes: &[u8], byte: u8) -> Option<&[u8]>
+    ensures { IfSome result (λ rest. bytes.now ≡ byte ∷ rest.now) }
+{
+    let (first, rest) = bytes.split_first()?;
+    if *first == byte { Some(rest) } else { None }
+}
+
+// The same of two bytes.
+fn behind_two(bytes: &[u8], one: u8, two: u8) -> Option<&[u8]>
+    ensures { IfSome result (λ rest. bytes.now ≡ one ∷ two ∷ rest.now) }
+{
+    behind(behind(bytes, one)?, two)
 }
 
 // The records whose fields these bytes are.
