@@ -1,3 +1,4 @@
 pub mod PackageCodes
 pub mod RanksStay
 pub mod Made
+pub mod Unmade

@@ -5,6 +5,9 @@ ghost use Rattle.sa_package_outlook.specs.Contexts.{plain_prio};
 ghost use Rattle.sa_codes.specs.Values.{IsStood};
 ghost use Rattle.sa_package_keys.specs.Packages.{prio_value_key, prio_context_key};
 
+use crate::fast::{put_fast_context, put_fast_value};
+use crate::ranks::put_ranks;
+use sa_codes::{put_flag, put_threads};
 use sa_prio::PrioThreads;
 use sa_prio_model::PrioContext;
 use std::alloc::{AllocError, Global};
@@ -18,7 +21,11 @@ pub fn put_prio_value(
     requires { IsStood prio_stands package.now }
     ensures { OnOk result (key.new.items ≡ key.old.items ++ prio_value_key package.now) }
 {
-    Err(AllocError)
+    let base = package.base();
+    let shared = &base.package().shared;
+    put_ranks(&shared.state.lists, key)?;
+    put_fast_value(base, alloc, key)?;
+    put_threads(package.on(), key)
 }
 
 /// Adds the bytes of what matters of a context of the package's space. Fails only where memory runs out.
@@ -30,5 +37,6 @@ pub fn put_prio_context(
     ensures { OnOk result (key.new.items
         ≡ key.old.items ++ prio_context_key (plain_prio (Some package.now.base.def) ctx.now)) }
 {
-    Err(AllocError)
+    put_fast_context(package.base(), &ctx.base, key)?;
+    put_flag(key, ctx.urge)
 }
