@@ -1,5 +1,6 @@
 -- A list without what passes a test at its end.
 use Rattle.std.proofs.Common.{◌≡◌, ℕ, zero, suc, ◌+◌, ◌<◌, ◌≤◌, Bool, true, false, List, [], ◌∷◌, length, take, get_or, refl, sym, ap, ◌∙◌, arith, add-one}
+use Rattle.std.proofs.lemmas.List.{take-take}
 use Rattle.sa_codes.specs.Codes.{kept_before, trimmed}
 
 module _ {A : Type 0} (test : A → Bool) (d : A) where
@@ -37,3 +38,7 @@ module _ {A : Type 0} (test : A → Bool) (d : A) where
   -- the last that does not pass is at place n
   pub trimmed-kept : (xs : List A) (n : ℕ) → n < length xs → test (get_or xs n d) ≡ false → PassFrom (n + 1) xs → trimmed test xs ≡ take (n + 1) xs
   trimmed-kept xs n low is all = kept-suc xs n low is (λ t from. all t (omega arith)) ∙ ap (λ k. take k xs) (sym (add-one n))
+
+  -- what is kept of the first m, where all behind them pass the test
+  pub trimmed-front : (xs : List A) (m k : ℕ) → PassFrom m xs → k ≤ m → trimmed test (take m xs) ≡ take k (take m xs) → trimmed test xs ≡ take k xs
+  trimmed-front xs m k all few kept = trimmed-take xs m all ∙ kept ∙ take-take k m xs few

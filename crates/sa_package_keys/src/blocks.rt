@@ -1,8 +1,11 @@
 // The bytes of threads' blocks.
-ghost use Rattle.std.specs.Prelude.{◌≡◌, ℕ, ◌≤◌, ◌++◌, length, take, OnOk};
+ghost use Rattle.std.specs.Prelude.{◌≡◌, ◌≤◌, ◌<◌, ◌==◌, ◌&&◌, ◌++◌, length, take, slice_index, OnOk};
+ghost use Rattle.std.specs.List.{list_all};
 ghost use Rattle.sa_base.specs.declared.limits.TheConstants.{MAX_THREADS};
+ghost use Rattle.sa_instr.specs.declared.limits.TheConstants.{REGISTERS};
+ghost use Rattle.sa_fast.specs.Rest.{is_unmade};
 ghost use Rattle.sa_codes.specs.Codes.{number, list, padded, trimmed};
-ghost use Rattle.sa_package_keys.specs.Packages.{place_no, block_key, is_new};
+ghost use Rattle.sa_package_keys.specs.Packages.{place_no, block_key, is_new, is_zero};
 
 use sa_base::MAX_THREADS;
 use sa_codes::put_number;
@@ -18,7 +21,8 @@ pub(crate) fn put_threads_of(threads: &Threads, key: &mut Vec<u8>) -> Result<(),
     let blocks = threads.blocks();
     let kept = kept_blocks(blocks);
     put_number(key, u64::from(MAX_THREADS))?;
-    put_blocks(&blocks[..kept], key)
+    put_blocks(&blocks[..kept], key)?;
+    Ok(())
 }
 
 // How many blocks there are up to the last of a thread that was made.
@@ -38,10 +42,22 @@ fn kept_blocks(blocks: &[Block]) -> usize
 fn is_new(block: &Block) -> bool
     ensures { result ≡ is_new block.now }
 {
-    matches!(block.place, Place::Unmade)
-        && block.program == 0
-        && block.pc == 0
-        && block.regs == Regs::zero()
+    is_unmade(block.place) && block.program == 0 && block.pc == 0 && are_zero(&block.regs)
+}
+
+// Whether a thread there was not made.
+fn is_unmade(place: Place) -> bool
+    ensures { result ≡ is_unmade place }
+{
+    matches!(place, Place::Unmade)
+}
+
+// Whether each register is 0.
+fn are_zero(regs: &Regs) -> bool
+    ensures { result ≡ (length regs.now == REGISTERS && list_all is_zero regs.now) }
+{
+    regs.ranges();
+    *regs == Regs::zero()
 }
 
 // Adds the bytes of blocks.
@@ -88,9 +104,15 @@ fn put_registers(regs: &Regs, key: &mut Vec<u8>) -> Result<(), AllocError>
     regs.ranges();
     put_number(key, REGISTERS as u64)?;
     for n in 0..REGISTERS as u8 {
-        if let Some(reg) = Reg::new(n) {
-            put_number(key, regs.get(reg))?;
-        }
+        put_number(key, register(regs, n))?;
     }
     Ok(())
+}
+
+// What the register of a number holds.
+fn register(regs: &Regs, n: u8) -> u64
+    requires { n < REGISTERS }
+    ensures { result ≡ slice_index regs.now n }
+{
+    regs.get(Reg::new(n).unwrap())
 }

@@ -40,5 +40,6 @@ fn put_holders(holders: &[Option<ThreadNo>], key: &mut Vec<u8>) -> Result<(), Al
 {
     let kept = kept_threads(holders);
     put_number(key, holders.len() as u64)?;
-    put_threads(&holders[..kept], key)
+    put_threads(&holders[..kept], key)?;
+    Ok(())
 }

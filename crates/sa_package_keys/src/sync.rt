@@ -141,5 +141,6 @@ fn put_done(done: &[bool], made: u16, key: &mut Vec<u8>) -> Result<(), AllocErro
 {
     let kept = kept_flags(&done[..usize::from(made)]);
     put_number(key, done.len() as u64)?;
-    put_flags(&done[..kept], key)
+    put_flags(&done[..kept], key)?;
+    Ok(())
 }
