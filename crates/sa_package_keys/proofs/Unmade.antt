@@ -46,7 +46,7 @@ module _ (s : Setting) (event : ℕ) (u : Package) (cs : Contexts Context) (h : 
   has-unmade = record {
     done = λ t from.
         not_done (is_done u.shared.sync t) (done_at u.shared.sync t) refl
-            (unmade_ends (place_at u.shared t) (unmade_at u.shared.state.lists t) (done_at u.shared.sync t) (unmade-one t from) (h.places t).new (h.places t).ends);
+        (unmade_ends (place_at u.shared t) (unmade_at u.shared.state.lists t) (done_at u.shared.sync t) (unmade-one t from) (h.places t).new (h.places t).ends);
     works = λ t from. unlisted-empty t from (list_at u.shared.works t) refl;
   }
 

@@ -14,7 +14,7 @@ use sa_instr::{REGISTERS, Reg, Regs};
 use std::alloc::AllocError;
 
 /// Adds the bytes of all blocks. This and all below fail only where memory runs out.
-pub(crate) fn put_threads_of(threads: &Threads, key: &mut Vec<u8>) -> Result<(), AllocError>
+pub(crate) fn put_all_blocks(threads: &Threads, key: &mut Vec<u8>) -> Result<(), AllocError>
     requires { length threads.now ≡ MAX_THREADS }
     ensures { OnOk result (key.new.items ≡ key.old.items ++ padded is_new block_key threads.now) }
 {

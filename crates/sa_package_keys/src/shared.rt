@@ -4,7 +4,7 @@ ghost use Rattle.sa_base.specs.declared.limits.TheConstants.{MAX_THREADS};
 ghost use Rattle.sa_codes.specs.Codes.{thread_key, padded};
 ghost use Rattle.sa_package_keys.specs.Packages.{shared_key, HasThreads, HasUnmade};
 
-use crate::blocks::put_threads_of;
+use crate::blocks::put_all_blocks;
 use crate::lists::put_lists;
 use crate::sync::put_sync;
 use crate::works::put_works;
@@ -30,7 +30,7 @@ pub(crate) fn put_shared(
     put_lists(&shared.state.lists, &mut row, key)?;
     put_holders(&shared.state.holders, key)?;
     put_sync(&shared.sync, made, &mut row, key)?;
-    put_threads_of(&shared.threads, key)?;
+    put_all_blocks(&shared.threads, key)?;
     put_works(&shared.works, made, &mut row, key)
 }
 

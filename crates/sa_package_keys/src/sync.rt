@@ -59,11 +59,7 @@ fn put_mutex(
 }
 
 // Adds the bytes of each semaphore.
-fn put_semaphores(
-    sync: &SyncState,
-    row: &mut Vec<u32>,
-    key: &mut Vec<u8>,
-) -> Result<(), AllocError>
+fn put_semaphores(sync: &SyncState, row: &mut Vec<u32>, key: &mut Vec<u8>) -> Result<(), AllocError>
     ensures { OnOk result (key.new.items ≡ key.old.items ++ list semaphore_key sync.now.semaphores) }
 {
     let count = sync.semaphores();

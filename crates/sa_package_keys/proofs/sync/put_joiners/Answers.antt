@@ -8,7 +8,7 @@ use Rattle.sa_package_keys.proofs.sync.put_joiners.Goals as goal
 pub loop-t-init : goal.loop-t-init
 loop-t-init c =
     let count = length-take-le c.kept_joiners-kept.result c.args.sync.now.joiners (omega arith) in
-    so_far-none (list number) (take c.kept_joiners-kept.result c.args.sync.now.joiners) _ _ _ (omega arith) 
+    so_far-none (list number) (take c.kept_joiners-kept.result c.args.sync.now.joiners) _ _ _ (omega arith)
     (c.in_ok-put_number-2.ensures ∙ ap (λ z. z ++ number c.from-2.result) c.in_ok-put_number.ensures
     ∙ ap (λ n. (c.args.key.now.items ++ number n) ++ number c.from-2.result) c.from.ensures)
 
