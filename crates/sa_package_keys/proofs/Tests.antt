@@ -1,5 +1,5 @@
 -- What does not pass the tests of the ends of lists.
-use Rattle.std.proofs.Common.{◌≡◌, ℕ, zero, suc, ◌&&◌, true, false, nat_eq, List, [], ◌∷◌, length, replicate, inl, inr, refl, ap, arith}
+use Rattle.std.proofs.Common.{◌≡◌, ℕ, zero, suc, ◌&&◌, false, nat_eq, List, [], ◌∷◌, length, replicate, inl, inr, refl, ap, arith}
 use Rattle.std.specs.List.{list_all}
 use lib.Pointwise.{pointwise}
 use Rattle.std.proofs.lemmas.Bool.Decides.{eqb_tells}
