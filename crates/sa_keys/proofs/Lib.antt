@@ -1,2 +1,5 @@
 pub mod Outlooks
 pub mod Runs
+pub mod DueOrderLemmas
+pub mod EvictionsToCome
+pub mod Standings

@@ -1,7 +1,7 @@
 // The bytes of the time.
 #![tactic(auto, using(std::proofs::Common::append_assoc))]
 
-ghost use Rattle.std.specs.Prelude.{◌≡◌, ◌++◌, length, OnOk};
+ghost use Rattle.std.specs.Prelude.{◌≡◌, ℕ, ◌++◌, nat_lt, length, OnOk};
 ghost use Rattle.std.specs.List.{AllAdjacentBelow};
 ghost use Rattle.sa_spaces.specs.Workload.{IsBefore};
 ghost use Rattle.sa_kernel_model.specs.Closing.{first_space};
@@ -42,20 +42,20 @@ fn put_until(evictions: &[Evict], event: u64, key: &mut Vec<u8>) -> Result<(), A
     requires { AllAdjacentBelow IsBefore evictions.now (length evictions.now) }
     ensures { OnOk result (key.new.items ≡ key.old.items ++ number_or_none (until event evictions.now)) }
 {
-    if is_to_come(evictions, event) {
+    if event < last_eviction(evictions) {
         put_number(key, event + 1)
     } else {
         put_number(key, 0)
     }
 }
 
-// Whether one of the evictions is to come.
-fn is_to_come(evictions: &[Evict], event: u64) -> bool
+// The event of the last eviction, 0 without one.
+fn last_eviction(evictions: &[Evict]) -> u64
     requires { AllAdjacentBelow IsBefore evictions.now (length evictions.now) }
-    ensures { result ≡ is_to_come event evictions.now }
+    ensures { (event : ℕ) → is_to_come event evictions.now ≡ nat_lt event result }
 {
     match evictions.last() {
-        None => false,
-        Some(last) => event < last.event,
+        None => 0,
+        Some(last) => last.event,
     }
 }
