@@ -6,14 +6,14 @@ mod contexts;
 mod due_order;
 mod fast;
 mod ios;
-mod key;
 mod keyed;
 pub mod laws;
+mod machine_key;
 mod prio;
 mod processors;
 mod spaces;
 mod time;
 mod users;
 
-pub use key::key;
+pub use machine_key::key;
 pub use keyed::Keyed;
