@@ -17,7 +17,7 @@ use Rattle.sa_keys.proofs.Standings.{ios-within}
 use Rattle.sa_keys.proofs.ios.put_ios.Goals as goal
 
 pub put_io-requires-after_bounds : goal.put_io-requires-after_bounds
-put_io-requires-after_bounds g c =
+put_io-requires-after_bounds g c κs within =
     let m = machine c.args.core.now in
     let spaces = length m.workload.spaces in
     let begun : c.devices.result.now.ios.under_way ≡ m.kernel.under_way = c.devices.ensures.ios
