@@ -1,5 +1,5 @@
 -- Bytes that are added one after another.
-use Rattle.std.proofs.Common.{◌≡◌, ℕ, ◌+◌, ◌≤◌, List, ◌++◌, length, map, take, take_all, Option, Some, Result, OnOk, slice_get, sym, ap, subst, ◌∙◌, append_assoc}
+use Rattle.std.proofs.Common.{◌≡◌, ℕ, ◌+◌, ◌≤◌, List, ◌++◌, length, map, take, take_all, Some, Result, OnOk, slice_get, sym, ap, subst, ◌∙◌, append_assoc}
 use Rattle.std.proofs.lemmas.List.{length-map}
 use Rattle.std.specs.List.{flat_map, range_with_len}
 use Rattle.sa_codes.specs.Codes.{number, list}

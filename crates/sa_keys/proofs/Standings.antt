@@ -1,6 +1,6 @@
 -- What stands between two events: how many there are of each thing, and each space's level.
-use Rattle.std.proofs.Common.{◌≡◌, ℕ, ◌<◌, List, length, Option, Some, None, slice_get, slice_index_or, ap, ◌∙◌, sym, inl, inr, arith}
-use Rattle.std.proofs.lemmas.Option.{slice_get_cases, slice_get_within}
+use Rattle.std.proofs.Common.{◌≡◌, ℕ, ◌<◌, length, Some, None, slice_get, slice_index_or, ◌∙◌, sym, arith}
+use Rattle.std.proofs.lemmas.Option.{slice_get_within}
 use Rattle.sa_base.specs.declared.number.SpaceNo.{SpaceNo}
 use Rattle.sa_spaces.specs.Space.{SpaceView}
 use Rattle.sa_abstract.specs.Keeps.{Standing}

@@ -15,5 +15,5 @@ mod spaces;
 mod time;
 mod users;
 
-pub use machine_key::key;
 pub use keyed::Keyed;
+pub use machine_key::key;

@@ -30,11 +30,7 @@ pub fn put_processors<U: Keyed>(core: &Core<U>, key: &mut Vec<u8>) -> Result<(),
 
 // Adds the bytes of a processor: its owner, its aim, whether its line is raised, its idle mark, and the context that runs
 // there.
-fn put_processor<U: Keyed>(
-    core: &Core<U>,
-    p: ProcNo,
-    key: &mut Vec<u8>,
-) -> Result<(), AllocError>
+fn put_processor<U: Keyed>(core: &Core<U>, p: ProcNo, key: &mut Vec<u8>) -> Result<(), AllocError>
     requires { p.0 < (machine core.now).workload.processors }
     ensures { OnOk result (key.new.items ≡ key.old.items
         ++ processor_key U.context_key (outlook U.plain (machine core.now)) p.0) }
@@ -62,11 +58,7 @@ fn put_assigned(assign: &Assign, p: ProcNo, key: &mut Vec<u8>) -> Result<(), All
 }
 
 // Adds the bytes of the context that runs on a processor, if one does.
-fn put_running<U: Keyed>(
-    core: &Core<U>,
-    p: ProcNo,
-    key: &mut Vec<u8>,
-) -> Result<(), AllocError>
+fn put_running<U: Keyed>(core: &Core<U>, p: ProcNo, key: &mut Vec<u8>) -> Result<(), AllocError>
     requires { p.0 < (machine core.now).workload.processors }
     ensures { OnOk result (key.new.items ≡ key.old.items
         ++ optional U.context_key (see_at U.plain (machine core.now) p.0)) }

@@ -29,11 +29,7 @@ pub fn put_spaces<U: Keyed>(core: &Core<U>, key: &mut Vec<u8>) -> Result<(), All
 }
 
 // Adds the bytes of a space: its demand, its pages, and what it was not told.
-fn put_space_of<U: Keyed>(
-    core: &Core<U>,
-    s: SpaceNo,
-    key: &mut Vec<u8>,
-) -> Result<(), AllocError>
+fn put_space_of<U: Keyed>(core: &Core<U>, s: SpaceNo, key: &mut Vec<u8>) -> Result<(), AllocError>
     requires { s.0 < length (machine core.now).workload.spaces }
     ensures { OnOk result (key.new.items ≡ key.old.items
         ++ space_key U.context_key (outlook U.plain (machine core.now)) s.0) }
@@ -46,11 +42,7 @@ fn put_space_of<U: Keyed>(
 }
 
 // Adds the bytes of what a space was not told.
-fn put_untold<U: Keyed>(
-    core: &Core<U>,
-    s: SpaceNo,
-    key: &mut Vec<u8>,
-) -> Result<(), AllocError>
+fn put_untold<U: Keyed>(core: &Core<U>, s: SpaceNo, key: &mut Vec<u8>) -> Result<(), AllocError>
     requires { s.0 < length (machine core.now).workload.spaces }
     ensures { OnOk result (key.new.items ≡ key.old.items
         ++ list (note_key U.context_key) ((outlook U.plain (machine core.now)).untold s.0)) }

@@ -1,4 +1,4 @@
-use Rattle.std.proofs.Common.{◌≡◌, ℕ, List, ◌++◌, Option, None, Some, sym, ap, ◌∙◌}
+use Rattle.std.proofs.Common.{◌++◌, Option, ap, ◌∙◌}
 use Rattle.sa_base.specs.declared.context.Stopped.{Stopped}
 use Rattle.sa_codes.specs.Codes.{number, optional}
 use Rattle.sa_kernel_model.specs.State.{KernelState}

@@ -1,4 +1,4 @@
-use Rattle.std.proofs.Common.{◌≡◌, ℕ, List, ◌++◌, length, ap, ◌∙◌}
+use Rattle.std.proofs.Common.{◌≡◌, ℕ, ◌++◌, length, ap, ◌∙◌}
 use Rattle.sa_codes.specs.Codes.{number}
 use Rattle.sa_kernel_model.specs.State.{KernelState, taken_of}
 use Rattle.sa_core.specs.View.{machine}

@@ -1,5 +1,3 @@
-use Rattle.std.proofs.Common.{◌≡◌, ℕ, List, ◌++◌, OnOk, sym, subst, ◌∙◌}
-use Rattle.std.proofs.lemmas.Option.{same_Some}
 use Rattle.sa_core.specs.View.{machine}
 use Rattle.sa_keys.proofs.Standings.{level-stands}
 use Rattle.sa_keys.proofs.users.put_user.Goals as goal
