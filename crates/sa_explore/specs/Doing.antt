@@ -58,7 +58,7 @@ module _ {U C D : Type 0} (f : Calls U C) (plain : Option SpaceView → C → D)
 
   -- all turns from a state were made, or not
   abbrev pub AreMade : Bool → Search → ℕ → Type 0
-  AreMade true search at = HasDone search (at + 1) 0
+  AreMade true search at = HasDone search (at + 1) 0 × (at < length (states_of search))
   AreMade false search at = IsSpent search at
 
   -- a search stops behind the last state, or at one where it cannot go on

@@ -1,5 +1,5 @@
 // All turns from a state, and from state to state.
-ghost use Rattle.std.specs.Prelude.{◌≡◌, ◌<◌, ◌≤◌, length, slice_get, Some, IsSome, IfOk};
+ghost use Rattle.std.specs.Prelude.{◌≡◌, ◌<◌, ◌≤◌, true, length, slice_get, Some, IsSome, IfOk};
 ghost use Rattle.sa_base.specs.declared.limits.TheConstants.{MAX_EVENTS};
 ghost use Rattle.sa_keys.specs.Key.{key_of};
 ghost use Rattle.sa_explore_model.specs.declared.answer.State.{State};
@@ -29,8 +29,8 @@ impl Search {
     fn pass_over<U: Keyed>(&mut self, scope: &Scope, at: u32) -> Result<(), AllocError>
         requires done { HasDone U.calls U.plain (key_of U.value_key U.context_key) scope.now self.old at 0 }
         requires ends { (s : State) × (slice_get (states_of self.old) at ≡ Some s) × IsSome s.end }
-        ensures { IfOk result (λ _. HasDone U.calls U.plain (key_of U.value_key U.context_key)
-            scope.now self.new (at + 1) 0) }
+        ensures { IfOk result (λ _. AreMade U.calls U.plain (key_of U.value_key U.context_key)
+            scope.now true self.new at) }
     {
         scope.workload.ranges();
         for _p in 0..scope.workload.processors() {

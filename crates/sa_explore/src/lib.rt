@@ -4,10 +4,10 @@
 mod answer;
 mod begin;
 mod expand;
-mod explore;
+mod orders;
 mod progress;
 mod replay;
 mod search;
 
-pub use explore::explore;
+pub use orders::explore;
 pub use progress::{NoProgress, Progress};

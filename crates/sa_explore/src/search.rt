@@ -84,6 +84,8 @@ impl Search {
         ensures { IfOk result (λ search. HasDone U.calls U.plain (key_of U.value_key U.context_key)
             scope.now search 0 0) }
     {
+        keys_tell_outlooks::<U>();
+        scope.workload.ranges();
         let mut store = Store::new(alloc);
         let first = State {
             before: 0,

@@ -1,0 +1,33 @@
+use Rattle.std.proofs.Common.{◌≡◌, ℕ, ◌<◌, ◌≤◌, None, length, sym, ap, ◌∙◌, subst, arith}
+use Rattle.sa_base.specs.declared.limits.TheConstants.{MAX_EVENTS}
+use Rattle.sa_core_model.specs.End.{end_of}
+use Rattle.sa_core.specs.View.{machine}
+use Rattle.sa_explore.proofs.Replays.{open-ready}
+use Rattle.sa_explore.proofs.search.try_turn.Goals as goal
+
+pub turn-requires-clause-within : goal.turn-requires-clause-within
+turn-requires-clause-within g c =
+    λ lt lives. let level = (g.met.U.UserLevel g.world.𝓛 g.world.𝓜 g.world.𝓡 ((λ s x. x), (λ x. x), (λ x. x), λ x. x)) in
+    let keyed = (g.met.U.Keyed g.world.𝓛 g.world.𝓜 g.world.𝓡 ((λ s x. x), (λ x. x), (λ x. x), λ x. x)) in
+    (open-ready g.U.UserLevel.calls g.U.Keyed.plain g.U.Keyed.is_made keyed.ignores_numbers g.U.UserLevel.stands level.keeps c.args.workload.now c.ranges-2.ensures c.args.turns.now c.args.p (machine c.in_ok-core.field-0) c.requires.few c.requires.within c.requires.goes c.in_ok-core.ensures.leads).can.within
+
+pub turn-requires-clause-not_ended : goal.turn-requires-clause-not_ended
+turn-requires-clause-not_ended g c =
+    λ lt lives. let level = (g.met.U.UserLevel g.world.𝓛 g.world.𝓜 g.world.𝓡 ((λ s x. x), (λ x. x), (λ x. x), λ x. x)) in
+    let keyed = (g.met.U.Keyed g.world.𝓛 g.world.𝓜 g.world.𝓡 ((λ s x. x), (λ x. x), (λ x. x), λ x. x)) in
+    let ready = open-ready g.U.UserLevel.calls g.U.Keyed.plain g.U.Keyed.is_made keyed.ignores_numbers g.U.UserLevel.stands level.keeps c.args.workload.now c.ranges-2.ensures c.args.turns.now c.args.p (machine c.in_ok-core.field-0) c.requires.few c.requires.within c.requires.goes c.in_ok-core.ensures.leads in
+    ap (λ (n : ℕ). end_of g.U.UserLevel.calls n (machine c.in_ok-core.field-0)) c.in_ok-core.ensures.budget ∙ ready.not_ended
+
+pub returns : goal.returns
+returns g c =
+    let level = (g.met.U.UserLevel g.world.𝓛 g.world.𝓜 g.world.𝓡 ((λ s x. x), (λ x. x), (λ x. x), λ x. x)) in
+    let keyed = (g.met.U.Keyed g.world.𝓛 g.world.𝓜 g.world.𝓡 ((λ s x. x), (λ x. x), (λ x. x), λ x. x)) in
+    let ready = open-ready g.U.UserLevel.calls g.U.Keyed.plain g.U.Keyed.is_made keyed.ignores_numbers g.U.UserLevel.stands level.keeps c.args.workload.now c.ranges-2.ensures c.args.turns.now c.args.p (machine c.in_ok-core.field-0) c.requires.few c.requires.within c.requires.goes c.in_ok-core.ensures.leads in
+    record {
+      from = machine c.in_ok-core.field-0;
+      after = machine c.turn.new.self;
+      leads = c.in_ok-core.ensures.leads;
+      turn = record { goes = ready.goes; can = ready.can; is = c.in_ok-turn.ensures.ok };
+      key_is = c.in_ok-key.ensures;
+      state_is = ?;
+    }
