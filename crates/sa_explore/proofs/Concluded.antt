@@ -26,7 +26,7 @@ use Rattle.sa_explore_runs.specs.Searching.{IsSearching}
 use Rattle.sa_explore_runs.proofs.Turns.{no-budget}
 use Rattle.sa_explore_runs.proofs.Systems.{OfSome, runs-are-searched}
 use Rattle.sa_explore.specs.Explored.{IsBeyond, IsExplored}
-use Rattle.sa_explore.specs.Doing.{states_of, HasDone, IsSpent, HasStopped, IsEndlessBy}
+use Rattle.sa_explore.specs.Doing.{states_of, HasDone, IsFull, IsSpent, HasStopped, IsEndlessBy}
 use Rattle.sa_explore.specs.declared.search.Scope.{Scope}
 use Rattle.sa_explore.specs.declared.search.Search.{Search}
 
@@ -47,9 +47,8 @@ module _ {U C D : Type 0} (f : Calls U C) (plain : Option SpaceView → C → D)
     pub done : Done at next
     pub at_end : IsAt extent (states_of search) at
     pub first : extent ≡ All → (next ≡ 0) × (at ≡ length (states_of search))
-    pub spent : extent ≡ Part → ((length (states_of search) ≡ scope.most)
-    × IsBeyond f plain scope.workload scope.begun.items done.searching.kept (length (way_to (states_of search) at)))
-    ⊎ (length scope.begun.items + length (way_to (states_of search) at) ≡ MAX_EVENTS)
+    pub spent : extent ≡ Part
+        → IsFull f plain code scope done ⊎ (length scope.begun.items + length (way_to (states_of search) at) ≡ MAX_EVENTS)
 
   pub over-of : (extent : Extent) (at : ℕ) → HasStopped f plain code scope extent search at → IsOver extent at
   over-of All at stopped = record {
@@ -93,7 +92,7 @@ module _ {U C D : Type 0} (f : Calls U C) (plain : Option SpaceView → C → D)
     spent-of part =
         let depth : x.depth ≡ length (way_to (states_of search) at) = depth-part x.extent part stopped in
         elim (over.spent (sym is.extent_is ∙ part)) [
-          | inl full ↦ inl (is.size ∙ full.0, subst (λ (n : ℕ). IsBeyond f plain w begun over.done.searching.kept n) (sym depth) full.1)
+          | inl full ↦ inl (is.size ∙ full.room, subst (λ (n : ℕ). IsBeyond f plain w begun over.done.searching.kept n) (sym depth) full.beyond)
           | inr most ↦ inr (ap (λ (n : ℕ). length begun + n) depth ∙ most)
         ]
 

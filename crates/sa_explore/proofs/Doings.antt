@@ -125,17 +125,17 @@ module _ {U C D : Type 0} (f : Calls U C) (plain : Option SpaceView → C → D)
     }
 
     -- the same store and turns
+    abbrev Keeps_on : List State → List ℕ → Type 0
+    Keeps_on states ns = IsSearch (outlook plain) (end f) (IsWay f w begun) (IsOpenTurn f) w.processors states searching.kept ns at next
+
     pub searching-again : (new : StoreView) (more : List ℕ) → new ≡ store → more ≡ nexts → Searching new more at next
     searching-again new more same nexts_same = record {
       kept = searching.kept;
-      search = subst (λ (ns : List ℕ). Search new.states ns) (sym nexts_same)
-          (subst (λ (x : StoreView). Search x.states nexts) (sym same) searching.search);
+      search = subst (λ (ns : List ℕ). Keeps_on new.states ns) (sym nexts_same)
+          (subst (λ (x : StoreView). Keeps_on x.states nexts) (sym same) searching.search);
       numbered = λ k m is. ap (λ (x : StoreView). x.number (key_at f plain code w m)) same ∙ searching.numbered k m is;
       only = λ bytes n there. searching.only bytes n (sym (ap (λ (x : StoreView). x.number bytes) same) ∙ there);
     }
-      where
-        abbrev Search : List State → List ℕ → Type 0
-        Search states ns = IsSearch (outlook plain) (end f) (IsWay f w begun) (IsOpenTurn f) w.processors states searching.kept ns at next
 
 -- IN CODE
 module _ {U C D : Type 0} (f : Calls U C) (plain : Option SpaceView → C → D) (IsMade : Option SpaceView → U → Type 0) (laws : IgnoresNumbers f plain IsMade)
@@ -197,10 +197,13 @@ module _ {U C D : Type 0} (f : Calls U C) (plain : Option SpaceView → C → D)
             room = omega (arith, size, room);
           };
           within = omega (arith, size, within);
-          spent = inl (size ∙ full, subst
-          (λ (x : StoreView). IsBeyond f plain scope.workload scope.begun.items done.searching.kept (length (way_to x.states at))) (sym both.0)
-          (beyond-by f plain IsMade laws stands keep code scope.workload ok scope.begun.items (store_of old.store) old.nexts.items at next done.searching
-          scope.most turns (record { 0 = next }) bytes s (store_of new.store) are tried is));
+          spent = inl (record {
+            room = size ∙ full;
+            beyond = subst (λ (x : StoreView). IsBeyond f plain scope.workload scope.begun.items done.searching.kept (length (way_to x.states at)))
+                (sym both.0)
+                (beyond-by f plain IsMade laws stands keep code scope.workload ok scope.begun.items (store_of old.store) old.nexts.items at next done.searching
+                scope.most turns (record { 0 = next }) bytes s (store_of new.store) are tried is);
+          });
         }
 
   -- A STATE THAT HAS AN END

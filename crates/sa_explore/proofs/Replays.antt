@@ -1,8 +1,10 @@
 -- Turns that led somewhere can be made again, whichever numbers are handed out.
 use Rattle.std.proofs.Common.{◌≡◌, ℕ, zero, suc, ◌+◌, ◌<◌, ◌≤◌, ◌==◌, Bool, true, false, Option, Some, None, List, [], ◌∷◌, ◌++◌, length, take, drop, get_or, refl, sym, ap, subst, ◌∙◌, arith, add-one}
+use Rattle.std.proofs.Math.ListN.{drop_of_length-le}
 use Rattle.std.proofs.Math.Seq.{take-suc, drop-cons}
 use Rattle.std.proofs.lemmas.List.{take-append-drop, length-take-le}
 use Rattle.std.proofs.lemmas.Bool.Decides.{nat_tests}
+use Rattle.std.specs.Option.{is_some}
 use Rattle.sa_base.specs.declared.number.ProcNo.{ProcNo}
 use Rattle.sa_base.specs.declared.record.End.{End}
 use Rattle.sa_base.specs.declared.record.End.TheVariants.{AllDone, Stuck, Budget}
@@ -17,7 +19,7 @@ use Rattle.sa_core_model.specs.Run.{opening, CanTurn, IsTurn}
 use Rattle.sa_outlook.specs.Outlook.{outlook}
 use Rattle.sa_outlook.specs.UserLevels.{IgnoresNumbers}
 use Rattle.sa_outlook.specs.Search.{AreOpenTurns}
-use Rattle.sa_explore_runs.specs.Runs.{end, IsOpenTurn, LeadTo, CanLead}
+use Rattle.sa_explore_runs.specs.Runs.{end, IsOpenTurn, LeadTo, IsBegun, CanLead}
 use Rattle.sa_explore_runs.specs.Searching.{IsOpen}
 use Rattle.sa_explore_runs.proofs.Turns.{over-open, turns-split, turns-join, turns-one, IsOf, of-opening, of-one, of-lead, ends-alike, leads-alike}
 
@@ -27,6 +29,10 @@ take-next xs i x below = ap (λ n. take n xs) (add-one i) ∙ take-suc xs i x be
 
 pub all-next : {A : Type 0} (xs : List A) (i : ℕ) (x : A) → i < length xs → take i xs ++ get_or xs i x ∷ drop (suc i) xs ≡ xs
 all-next xs i x below = ap (λ ys. take i xs ++ ys) (sym (drop-cons xs i x below)) ∙ take-append-drop i xs
+
+pub none-of : (o : Option End) → is_some o ≡ false → o ≡ None
+none-of None absent = refl
+none-of (Some e) absent = absurd cc
 
 module _ {U C : Type 0} (f : Calls U C) where
   -- HOW RUNS END, without a budget and with one
@@ -172,3 +178,21 @@ module _ {U C D : Type 0} (f : Calls U C) (plain : Option SpaceView → C → D)
         within = subst (λ (v : WorkloadView). p.0 < v.processors) (sym of.1) within;
         event = omega (arith, event, few);
       })
+
+  -- THE TURN LINES: where there is no end, all were done
+  pub not-over : (i : ℕ) (m : Machine U C) → i ≤ length w.turns → LeadTo f w (take i w.turns) m → end f m ≡ None → end_of f MAX_EVENTS m ≡ None
+  not-over i m within lead goes =
+      let of = event-of (take i w.turns) m lead in
+      let event = of.0 in
+      let size = length-take-le i w.turns within in
+      let few = ok.few_turns in
+      not-ended f MAX_EVENTS m goes (omega (arith, event, size, within, few))
+
+  pub begun-of : (i : ℕ) (m : Machine U C) → LeadTo f w (take i w.turns) m → (end f m ≡ None → length w.turns ≤ i) → IsBegun f w (take i w.turns)
+  begun-of i m lead whole = record {
+    rest = drop i w.turns;
+    are = sym (take-append-drop i w.turns);
+    machine = m;
+    lead = lead;
+    whole = λ goes. drop_of_length-le w.turns (whole goes);
+  }

@@ -35,15 +35,18 @@ module _ {U C D : Type 0} (f : Calls U C) (plain : Option SpaceView → C → D)
     pub searching : IsSearching f plain code scope.workload scope.begun.items (store_of search.store) search.nexts.items at next
     pub room : length (states_of search) ≤ scope.most
 
+  -- there is no room for where the turns of a state lead to
+  pub record IsFull {search : Search} {at next : ℕ} (done : HasDone search at next) : Type 0 where
+    pub room : length (states_of search) ≡ scope.most
+    pub beyond : IsBeyond f plain scope.workload scope.begun.items done.searching.kept (length (way_to (states_of search) at))
+
   -- the next turn cannot be made, since the run there has had the most events, or where it leads to cannot be kept
   pub record IsSpent (search : Search) (at : ℕ) : Type 0 where
     pub next : ℕ
     pub some : next < scope.workload.processors
     pub done : HasDone search at next
     pub within : at < length (states_of search)
-    pub spent : ((length (states_of search) ≡ scope.most)
-    × IsBeyond f plain scope.workload scope.begun.items done.searching.kept (length (way_to (states_of search) at)))
-    ⊎ (length scope.begun.items + length (way_to (states_of search) at) ≡ MAX_EVENTS)
+    pub spent : IsFull done ⊎ (length scope.begun.items + length (way_to (states_of search) at) ≡ MAX_EVENTS)
 
   -- the turn of processor `next` from state `at` was made, which is there as before; or it is the one that cannot be made
   pub record HasMade (old search : Search) (at next : ℕ) : Type 0 where
