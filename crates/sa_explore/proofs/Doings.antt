@@ -14,7 +14,7 @@ use Rattle.sa_outlook.specs.Outlook.{Outlook, outlook}
 use Rattle.sa_outlook.specs.UserLevels.{IgnoresNumbers}
 use Rattle.sa_explore_model.specs.declared.answer.State.{State}
 use Rattle.sa_explore_model.specs.Answer.{IsKept}
-use Rattle.sa_explore_model.specs.Search.{way_by, way_to, IsSearch}
+use Rattle.sa_explore_model.specs.Search.{way_on, way_by, way_to, IsSearch}
 use Rattle.sa_explore_model.proofs.Steps.{search-over, search-next}
 use Rattle.sa_states.specs.Store.{StoreView, store_of, arrived_by, arrived}
 use Rattle.sa_explore_runs.specs.Runs.{end, IsOpenTurn, LeadTo, IsWay, CanLead}
@@ -27,14 +27,15 @@ use Rattle.sa_explore.specs.declared.search.Search.{Search}
 use Rattle.sa_explore.proofs.Replays.{one-more, open-all, few-turns}
 
 -- a way is no longer than the number of its state
+on-short : (n : ℕ) (way : ℕ → List ProcNo) (o : Option State) → ((j : ℕ) → length (way j) ≤ n) → length (way_on way o) ≤ suc n
+on-short n way None short = omega arith
+on-short n way (Some s) short = let more = length-append (way s.before) (s.proc ∷ []) in let most = short s.before in omega (arith, more, most)
+
 way-short : (n : ℕ) (states : List State) (k : ℕ) → length (way_by n states k) ≤ n
 way-short zero states k = omega arith
 way-short (suc n) states zero = omega arith
-way-short (suc n) states (suc k) = go (slice_get states (suc k)) refl
-  where
-    go : (o : Option State) → slice_get states (suc k) ≡ o → length (way_by (suc n) states (suc k)) ≤ suc n
-    go None is = rw is (omega arith)
-    go (Some s) is = rw is (let more = length-append (way_by n states s.before) (s.proc ∷ []) in let short = way-short n states s.before in omega arith)
+way-short (suc n) states (suc k) =
+    on-short n (λ j. way_by n states j) (slice_get states (suc k)) (λ j. way-short n states j)
 
 pub short-way : (states : List State) (k : ℕ) → length (way_to states k) ≤ k
 short-way states k = way-short k states k
@@ -128,7 +129,7 @@ module _ {U C D : Type 0} (f : Calls U C) (plain : Option SpaceView → C → D)
     abbrev Keeps_on : List State → List ℕ → Type 0
     Keeps_on states ns = IsSearch (outlook plain) (end f) (IsWay f w begun) (IsOpenTurn f) w.processors states searching.kept ns at next
 
-    pub searching-again : (new : StoreView) (more : List ℕ) → new ≡ store → more ≡ nexts → Searching new more at next
+    abbrev pub searching-again : (new : StoreView) (more : List ℕ) → new ≡ store → more ≡ nexts → Searching new more at next
     searching-again new more same nexts_same = record {
       kept = searching.kept;
       search = subst (λ (ns : List ℕ). Keeps_on new.states ns) (sym nexts_same)
