@@ -140,14 +140,44 @@ module _ {U C D : Type 0} (f : Calls U C) (plain : Option SpaceView → C → D)
 
 -- IN CODE
 module _ {U C D : Type 0} (f : Calls U C) (plain : Option SpaceView → C → D) (IsMade : Option SpaceView → U → Type 0) (laws : IgnoresNumbers f plain IsMade)
-    (stands : Standing U C) (keep : Keeps f stands) (code : Outlook U D → List ℕ) (tell : KeysTell f plain code) (scope : Scope)
+    (stands : Standing U C) (keep : Keeps f stands) (code : Outlook U D → List ℕ) (scope : Scope)
     (ok : IsWorkload scope.workload) where
   abbrev Done : Search → ℕ → ℕ → Type 0
   Done search at next = HasDone f plain code scope search at next
 
+  -- A STATE THAT HAS AN END
+  pub passed-again : (old new : Search) (at next : ℕ) (s : State) → Done old at next → slice_get (states_of old) at ≡ Some s → IsSome s.end
+      → next < scope.workload.processors → store_of new.store ≡ store_of old.store → new.nexts.items ≡ old.nexts.items ++ 0 ∷ []
+      → Done new at (next + 1)
+  passed-again old new at next s done is over few same nexts =
+      let size : length (states_of new) ≡ length (states_of old) = ap (λ (x : StoreView). length x.states) same in
+      let room = done.room in
+      record {
+        searching = searching-again f plain IsMade laws stands keep code scope.workload ok scope.begun.items (store_of old.store)
+            (old.nexts.items ++ 0 ∷ []) at (next + 1)
+            (passed-one f plain IsMade laws stands keep code scope.workload ok scope.begun.items (store_of old.store) old.nexts.items at next
+            done.searching s is over few)
+            (store_of new.store) new.nexts.items same nexts;
+        room = omega (arith, size, room);
+      }
+
+  -- ALL TURNS FROM A STATE
+  pub all-made : (search : Search) (at next : ℕ) → Done search at next → next ≡ scope.workload.processors → Done search (at + 1) 0
+  all-made search at next done all = record {
+    searching = next-state f plain IsMade laws stands keep code scope.workload ok scope.begun.items (store_of search.store) search.nexts.items at next
+        done.searching all;
+    room = done.room;
+  }
+
+module _ {U C D : Type 0} (f : Calls U C) (plain : Option SpaceView → C → D) (IsMade : Option SpaceView → U → Type 0) (laws : IgnoresNumbers f plain IsMade)
+    (stands : Standing U C) (keep : Keeps f stands) (code : Outlook U D → List ℕ) (tell : KeysTell f plain code) (scope : Scope)
+    (ok : IsWorkload scope.workload) where
+  abbrev Has : Search → ℕ → ℕ → Type 0
+  Has search at next = HasDone f plain code scope search at next
+
   pub done-first : (search : Search) (m : Machine U C) (s : State) (empty : StoreView) (bytes : List ℕ) (to : Option ℕ) → 1 ≤ scope.most
       → LeadTo f scope.workload scope.begun.items m → s.end ≡ end f m → bytes ≡ code (outlook plain m) → empty.states ≡ []
-      → ((b : List ℕ) → empty.number b ≡ None) → (store_of search.store, to) ≡ arrived 1 bytes s empty → search.nexts.items ≡ [] → Done search 0 0
+      → ((b : List ℕ) → empty.number b ≡ None) → (store_of search.store, to) ≡ arrived 1 bytes s empty → search.nexts.items ≡ [] → Has search 0 0
   done-first search m s empty bytes to some lead ends bytes_is none absent is nexts =
       let first = searching-first f plain IsMade laws stands keep code tell scope.workload ok scope.begun.items m s (store_of search.store) empty bytes to
       lead ends bytes_is none absent is in
@@ -157,7 +187,7 @@ module _ {U C D : Type 0} (f : Calls U C) (plain : Option SpaceView → C → D)
         room = omega (arith, size, some);
       }
 
-  module _ (old new : Search) (at next : ℕ) (done : Done old at next) (few : next < scope.workload.processors) (within : at < length (states_of old)) where
+  module _ (old new : Search) (at next : ℕ) (done : Has old at next) (few : next < scope.workload.processors) (within : at < length (states_of old)) where
     pub made-some : (turns : List ProcNo) (bytes : List ℕ) (s : State) (to : ℕ) → turns ≡ turns_to scope old at
         → IsTried f plain code scope.workload turns (record { 0 = next }) at bytes s
         → (store_of new.store, Some to) ≡ arrived scope.most bytes s (store_of old.store) → new.nexts.items ≡ old.nexts.items ++ to ∷ []
@@ -206,27 +236,3 @@ module _ {U C D : Type 0} (f : Calls U C) (plain : Option SpaceView → C → D)
                 scope.most turns (record { 0 = next }) bytes s (store_of new.store) are tried is);
           });
         }
-
-  -- A STATE THAT HAS AN END
-  pub passed-again : (old new : Search) (at next : ℕ) (s : State) → Done old at next → slice_get (states_of old) at ≡ Some s → IsSome s.end
-      → next < scope.workload.processors → store_of new.store ≡ store_of old.store → new.nexts.items ≡ old.nexts.items ++ 0 ∷ []
-      → Done new at (next + 1)
-  passed-again old new at next s done is over few same nexts =
-      let size : length (states_of new) ≡ length (states_of old) = ap (λ (x : StoreView). length x.states) same in
-      let room = done.room in
-      record {
-        searching = searching-again f plain IsMade laws stands keep code scope.workload ok scope.begun.items (store_of old.store)
-            (old.nexts.items ++ 0 ∷ []) at (next + 1)
-            (passed-one f plain IsMade laws stands keep code scope.workload ok scope.begun.items (store_of old.store) old.nexts.items at next
-            done.searching s is over few)
-            (store_of new.store) new.nexts.items same nexts;
-        room = omega (arith, size, room);
-      }
-
-  -- ALL TURNS FROM A STATE
-  pub all-made : (search : Search) (at next : ℕ) → Done search at next → next ≡ scope.workload.processors → Done search (at + 1) 0
-  all-made search at next done all = record {
-    searching = next-state f plain IsMade laws stands keep code scope.workload ok scope.begun.items (store_of search.store) search.nexts.items at next
-        done.searching all;
-    room = done.room;
-  }

@@ -54,6 +54,7 @@ impl Search {
         ensures { IfOk result (λ all. AreMade U.calls U.plain (key_of U.value_key U.context_key)
             scope.now all self.new at) }
     {
+        scope.workload.ranges();
         for p in 0..scope.workload.processors() {
             if !self.turn::<U>(alloc, scope, turns, at, ProcNo(p))? {
                 return Ok(false);
