@@ -75,6 +75,7 @@ impl Search {
         ensures { IfOk result (λ all. AreMade U.calls U.plain (key_of U.value_key U.context_key)
             scope.now all self.new at) }
     {
+        scope.workload.ranges();
         let states = self.store.states();
         if states[at as usize].end.is_some() {
             self.pass_over::<U>(scope, at)?;
