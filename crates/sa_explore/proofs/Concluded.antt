@@ -96,7 +96,7 @@ module _ {U C D : Type 0} (f : Calls U C) (plain : Option SpaceView → C → D)
           | inr most ↦ inr (ap (λ (n : ℕ). length begun + n) depth ∙ most)
         ]
 
-    marks-by : (e : Extent) → IsEndlessBy e scope search found → List Bool
+    abbrev marks-by : (e : Extent) → IsEndlessBy e scope search found → List Bool
     marks-by All endless_in = endless_in.marks
     marks-by Part endless_in = []
 
