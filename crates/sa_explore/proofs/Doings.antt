@@ -47,11 +47,11 @@ none-there most key s old new is = go (old.number key) refl
     go : (o : Option ℕ) → old.number key ≡ o → o ≡ None
     go None there = refl
     go (Some n) there = absurd (
-      let same : (new, None) ≡ arrived_by (Some n) most key s old = is ∙ ap (λ (o : Option ℕ). arrived_by o most key s old) there in
-      let of : StoreView × Option ℕ → Option ℕ = λ z. z.1 in
-      let wrong : None ≡ Some n = ap of same in
-      cc
-    )
+        let same : (new, None) ≡ arrived_by (Some n) most key s old = is ∙ ap (λ (o : Option ℕ). arrived_by o most key s old) there in
+        let of : StoreView × Option ℕ → Option ℕ = λ z. z.1 in
+        let wrong : None ≡ Some n = ap of same in
+        cc
+        )
 
 not-some : (o : Option End) → o ≡ None → IsSome o → ⊥
 not-some None none some = cc
@@ -117,12 +117,12 @@ module _ {U C D : Type 0} (f : Calls U C) (plain : Option SpaceView → C → D)
           (one-more f w turns tried.from tried.after p tried.leads tried.turn);
       long = length-append (way_to store.states at) (p ∷ []);
       new = λ kept. (
-        let there : store.number (key_at f plain code w kept.machine) ≡ Some kept.place = searching.numbered kept.place kept.machine kept.is in
-        let key : key_at f plain code w kept.machine ≡ bytes = ap code kept.looks ∙ sym tried.key_is in
-        let none : store.number bytes ≡ None = none-there most bytes s store new full in
-        let wrong : Some kept.place ≡ None = sym there ∙ ap store.number key ∙ none in
-        cc
-      );
+          let there : store.number (key_at f plain code w kept.machine) ≡ Some kept.place = searching.numbered kept.place kept.machine kept.is in
+          let key : key_at f plain code w kept.machine ≡ bytes = ap code kept.looks ∙ sym tried.key_is in
+          let none : store.number bytes ≡ None = none-there most bytes s store new full in
+          let wrong : Some kept.place ≡ None = sym there ∙ ap store.number key ∙ none in
+          cc
+          );
     }
 
     -- the same store and turns
@@ -194,7 +194,7 @@ module _ {U C D : Type 0} (f : Calls U C) (plain : Option SpaceView → C → D)
         → HasMade f plain code scope old new at next
     made-some turns bytes s to are tried is nexts =
         let step : IsStepped f plain IsMade laws stands keep code tell scope.workload ok scope.begun.items (store_of old.store) (store_of new.store)
-            (old.nexts.items ++ to ∷ []) scope.most at next =
+        (old.nexts.items ++ to ∷ []) scope.most at next =
         stepped-some f plain IsMade laws stands keep code tell scope.workload ok scope.begun.items (store_of old.store) (store_of new.store)
         old.nexts.items at next scope.most done.searching few within done.room turns are bytes s tried to is in
         record {

@@ -69,9 +69,9 @@ module _ {U C : Type 0} (f : Calls U C) where
   pub not-ended : (budget : ℕ) (m : Machine U C) → end f m ≡ None → m.event < budget → end_of f budget m ≡ None
   not-ended budget m goes below =
       end-other budget m (λ spent. (
-        let e : (m.event == budget) ≡ true = event-spent (all_done f m) (is_stuck f m) (m.event == budget) (end-is budget m _ _ _ refl refl refl) spent in
-        let apart : (m.event == budget) ≡ false = grind (arith, nat_tests, below) in
-        cc
+      let e : (m.event == budget) ≡ true = event-spent (all_done f m) (is_stuck f m) (m.event == budget) (end-is budget m _ _ _ refl refl refl) spent in
+      let apart : (m.event == budget) ≡ false = grind (arith, nat_tests, below) in
+      cc
       )) ∙ goes
     where
       event-spent : (d s b : Bool) → (end f m ≡ by d s false) × (end_of f budget m ≡ by d s b) → end_of f budget m ≡ Some Budget → b ≡ true

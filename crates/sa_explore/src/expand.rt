@@ -89,12 +89,7 @@ impl Search {
     }
 
     // Tells now and then how far the search has come, which goes on at this state. Fails only where memory runs out.
-    fn tell<P: Progress>(
-        &self,
-        alloc: Global,
-        at: u32,
-        progress: &mut P,
-    ) -> Result<(), AllocError>
+    fn tell<P: Progress>(&self, alloc: Global, at: u32, progress: &mut P) -> Result<(), AllocError>
         requires within { at < length (states_of self.now) }
         requires linked { AreLinked (states_of self.now) }
         requires few { length (states_of self.now) ≤ MAX_STATES }
@@ -130,6 +125,9 @@ impl Search {
             }
             at += 1;
         }
-        Ok(Stopped { extent: Extent::All, at })
+        Ok(Stopped {
+            extent: Extent::All,
+            at,
+        })
     }
 }

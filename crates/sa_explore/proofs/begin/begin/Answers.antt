@@ -37,7 +37,7 @@ loop-made-preserved g c =
     let keyed = (g.met.U.Keyed g.world.𝓛 g.world.𝓜 g.world.𝓡 ((λ s x. x), (λ x. x), (λ x. x), λ x. x)) in
     let none : end_of g.U.UserLevel.calls c.loop-made.core.budget (machine c.loop-made.core) ≡ None = sym c.end.ensures ∙ none-of c.end.result (c.is_none.ensures ∙ ap not c.if-is_none.true) in
     let ready : IsReady g.U.UserLevel.calls g.U.Keyed.plain g.U.Keyed.is_made keyed.ignores_numbers g.U.UserLevel.stands level.keeps c.args.workload.now c.ranges-2.ensures (machine c.loop-made.core)
-        (get_or c.turns-turns.result.now c.loop-made.made (record { 0 = 0 })) =
+    (get_or c.turns-turns.result.now c.loop-made.made (record { 0 = 0 })) =
     ready-first g.U.UserLevel.calls g.U.Keyed.plain g.U.Keyed.is_made keyed.ignores_numbers g.U.UserLevel.stands level.keeps c.args.workload.now c.ranges-2.ensures c.turns-turns.result.now c.loop-made.made (record { 0 = 0 })
     (machine c.loop-made.core)
     c.loop-made-test.true (let few = c.turns-turns.ensures.few in omega arith) (c.turns-turns.ensures.range c.loop-made.made (record { 0 = 0 }) c.loop-made-test.true)
@@ -65,12 +65,12 @@ returns g c =
       begins = begun-of g.U.UserLevel.calls g.U.Keyed.plain g.U.Keyed.is_made keyed.ignores_numbers g.U.UserLevel.stands level.keeps w c.ranges-2.ensures c.loop-made.made m lead (λ goes.
           (elim c.loop-made-test.branch [
             | then-loop-made-test+else-is_none t ↦ absurd (
-              let none : end_of g.U.UserLevel.calls MAX_EVENTS m ≡ None = not-over g.U.UserLevel.calls g.U.Keyed.plain g.U.Keyed.is_made keyed.ignores_numbers g.U.UserLevel.stands level.keeps w c.ranges-2.ensures c.loop-made.made m within lead goes in
-              let here : end_of g.U.UserLevel.calls c.loop-made.core.budget m ≡ None =
-              ap (λ (n : ℕ). end_of g.U.UserLevel.calls n m) c.loop-made.invariant.budget ∙ none in
-              let not_some : is_some t.end.result ≡ false = ap is_some (t.end.ensures ∙ here) in
-              let some : is_some t.end.result ≡ true = t.is_none.ensures ∙ ap not t.if-is_none.false in
-              cc)
+                let none : end_of g.U.UserLevel.calls MAX_EVENTS m ≡ None = not-over g.U.UserLevel.calls g.U.Keyed.plain g.U.Keyed.is_made keyed.ignores_numbers g.U.UserLevel.stands level.keeps w c.ranges-2.ensures c.loop-made.made m within lead goes in
+                let here : end_of g.U.UserLevel.calls c.loop-made.core.budget m ≡ None =
+                ap (λ (n : ℕ). end_of g.U.UserLevel.calls n m) c.loop-made.invariant.budget ∙ none in
+                let not_some : is_some t.end.result ≡ false = ap is_some (t.end.ensures ∙ here) in
+                let some : is_some t.end.result ≡ true = t.is_none.ensures ∙ ap not t.if-is_none.false in
+                cc)
             | else-loop-made-test t ↦ subst (λ (ps : List ProcNo). length ps ≤ c.loop-made.made) turns t.loop-made-test.false
           ]));
       leads = lead;

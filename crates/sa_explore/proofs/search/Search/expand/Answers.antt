@@ -35,9 +35,11 @@ turn_each-requires-clause-goes g c = λ lt lives.
     let at = c.args.at in
     let d : State = record { before = 0; proc = record { 0 = 0 }; end = None } in
     let within : at < length xs = subst (λ (ys : List State). at < length ys) (sym c.states-states.ensures) c.requires.within in
-    let is : slice_get xs at ≡ Some (get_or xs at d) = slice_get-get_or xs at d within in
-    (get_or xs at d, subst (λ (ys : List State). slice_get ys at ≡ Some (get_or xs at d)) c.states-states.ensures is,
-    none-of (get_or xs at d).end (sym c.is_some.ensures ∙ c.if-is_some.false))
+    let is : slice_get xs at ≡ Some (get_or xs at d) = slice_get-get_or xs at d within in (
+      get_or xs at d,
+      subst (λ (ys : List State). slice_get ys at ≡ Some (get_or xs at d)) c.states-states.ensures is,
+      none-of (get_or xs at d).end (sym c.is_some.ensures ∙ c.if-is_some.false),
+    )
 
 pub turn_each-requires-clause-few : goal.turn_each-requires-clause-few
 turn_each-requires-clause-few g c =
