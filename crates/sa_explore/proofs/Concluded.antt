@@ -1,7 +1,6 @@
 -- What a search that stopped answers.
-use Rattle.std.proofs.Common.{◌≡◌, ℕ, ◌+◌, ◌<◌, ◌≤◌, ◌⊎◌, inl, inr, Bool, Option, Some, None, List, [], ◌∷◌, ◌++◌, length, slice_get, refl, sym, ap, subst, ◌∙◌, arith, length-append}
+use Rattle.std.proofs.Common.{◌≡◌, ℕ, ◌+◌, ◌≤◌, ◌⊎◌, inl, inr, Bool, Option, None, List, [], length, refl, sym, ap, subst, ◌∙◌, arith}
 use Rattle.sa_base.specs.declared.number.ProcNo.{ProcNo}
-use Rattle.sa_base.specs.declared.record.End.{End}
 use Rattle.sa_base.specs.declared.limits.TheConstants.{MAX_EVENTS}
 use Rattle.sa_spaces.specs.Space.{SpaceView}
 use Rattle.sa_spaces.specs.Workload.{WorkloadView, IsWorkload}
@@ -18,15 +17,12 @@ use Rattle.sa_explore_model.specs.Answer.{AreEndless}
 use Rattle.sa_explore_model.specs.Search.{way_to, IsSearch, IsStopped}
 use Rattle.sa_explore_model.proofs.Answered.{sound-of, least-of, complete-of, counted-of, depth-of}
 use Rattle.sa_explore_model.proofs.Endless.{endless-of}
-use Rattle.sa_states.specs.Store.{StoreView, store_of}
 use Rattle.sa_states.specs.Answers.{IsAt, Answers}
-use Rattle.sa_endless.specs.Marks.{AreTurns, IsEndlessIn}
 use Rattle.sa_explore_runs.specs.Runs.{end, IsOpenTurn, IsBegun, IsWay}
-use Rattle.sa_explore_runs.specs.Searching.{IsSearching}
 use Rattle.sa_explore_runs.proofs.Turns.{no-budget}
 use Rattle.sa_explore_runs.proofs.Systems.{OfSome, runs-are-searched}
 use Rattle.sa_explore.specs.Explored.{IsBeyond, IsExplored}
-use Rattle.sa_explore.specs.Doing.{states_of, HasDone, IsFull, IsSpent, HasStopped, IsEndlessBy}
+use Rattle.sa_explore.specs.Doing.{states_of, HasDone, IsFull, HasStopped, IsEndlessBy}
 use Rattle.sa_explore.specs.declared.search.Scope.{Scope}
 use Rattle.sa_explore.specs.declared.search.Search.{Search}
 

@@ -1,6 +1,6 @@
 -- What the states of a search say of the runs to them, and what a turn more comes to.
-use Rattle.std.proofs.Common.{◌≡◌, ℕ, zero, suc, ◌+◌, ◌<◌, ◌≤◌, ◌⊎◌, inl, inr, Bool, true, false, Option, Some, None, IsSome, List, [], ◌∷◌, ◌++◌, length, slice_get, refl, sym, ap, subst, ◌∙◌, arith, append_assoc, length-append}
-use Rattle.std.proofs.lemmas.Option.{same_Some, slice_get_within}
+use Rattle.std.proofs.Common.{◌≡◌, ℕ, zero, suc, ◌+◌, ◌<◌, ◌≤◌, inl, Option, Some, None, IsSome, List, [], ◌∷◌, ◌++◌, length, slice_get, refl, sym, ap, subst, ◌∙◌, arith, append_assoc, length-append}
+use Rattle.std.proofs.lemmas.Option.{slice_get_within}
 use Rattle.sa_lemmas.proofs.ListReads.{read-at}
 use Rattle.sa_base.specs.declared.number.ProcNo.{ProcNo}
 use Rattle.sa_base.specs.declared.record.End.{End}
@@ -13,7 +13,6 @@ use Rattle.sa_core_model.specs.Machine.{Machine}
 use Rattle.sa_outlook.specs.Outlook.{Outlook, outlook}
 use Rattle.sa_outlook.specs.UserLevels.{IgnoresNumbers}
 use Rattle.sa_explore_model.specs.declared.answer.State.{State}
-use Rattle.sa_explore_model.specs.Answer.{IsKept}
 use Rattle.sa_explore_model.specs.Search.{way_on, way_by, way_to, IsSearch}
 use Rattle.sa_explore_model.proofs.Steps.{search-over, search-next}
 use Rattle.sa_states.specs.Store.{StoreView, store_of, arrived_by, arrived}
@@ -21,7 +20,7 @@ use Rattle.sa_explore_runs.specs.Runs.{end, IsOpenTurn, LeadTo, IsWay, CanLead}
 use Rattle.sa_explore_runs.specs.Searching.{KeysTell, key_at, IsOpen, IsTried, IsSearching}
 use Rattle.sa_explore_runs.proofs.Searched.{searching-first, IsStepped, stepped-some, stepped-none}
 use Rattle.sa_explore.specs.Explored.{IsBeyond}
-use Rattle.sa_explore.specs.Doing.{states_of, turns_to, GoesOn, HasDone, IsSpent, HasMade, AreMade}
+use Rattle.sa_explore.specs.Doing.{states_of, turns_to, HasDone, IsSpent, HasMade}
 use Rattle.sa_explore.specs.declared.search.Scope.{Scope}
 use Rattle.sa_explore.specs.declared.search.Search.{Search}
 use Rattle.sa_explore.proofs.Replays.{one-more, open-all, few-turns}

@@ -1,11 +1,11 @@
-use Rattle.std.proofs.Common.{◌≡◌, ℕ, ◌<◌, ◌≤◌, ◌⊎◌, Bool, true, false, not, None, List, get_or, take, length, sym, ap, ◌∙◌, subst, arith}
+use Rattle.std.proofs.Common.{◌≡◌, ℕ, ◌≤◌, true, false, not, None, List, get_or, take, length, sym, ap, ◌∙◌, subst, arith}
 use Rattle.std.specs.Option.{is_some}
 use Rattle.sa_base.specs.declared.number.ProcNo.{ProcNo}
 use Rattle.sa_base.specs.declared.limits.TheConstants.{MAX_EVENTS}
 use Rattle.sa_core_model.specs.End.{end_of}
 use Rattle.sa_core_model.specs.Run.{opening}
 use Rattle.sa_core.specs.View.{machine}
-use Rattle.sa_explore_runs.specs.Runs.{end, LeadTo}
+use Rattle.sa_explore_runs.specs.Runs.{LeadTo}
 use Rattle.sa_explore.proofs.Replays.{none-of, IsReady, ready-first, more-at, not-over, begun-of}
 use Rattle.sa_explore.proofs.begin.begin.Goals.{then-loop-made-test+else-is_none, else-loop-made-test}
 use Rattle.sa_explore.proofs.begin.begin.Goals as goal
