@@ -1,0 +1,8 @@
+//! What is written of a search through every order of turns.
+#![tactic(auto)]
+
+mod given;
+mod line;
+mod printing;
+
+pub use printing::explored_text;
