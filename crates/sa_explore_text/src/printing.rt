@@ -41,7 +41,7 @@ fn push_extent(out: &mut Vec<u8>, explored: &Explored) -> Result<(), AllocError>
 
 // Appends the lines of what was found, if anything was.
 fn push_found(out: &mut Vec<u8>, word: &[u8], found: Option<&Found>) -> Result<(), AllocError>
-    ensures { OnOk result (out.new.items ≡ out.old.items ++ found_if word.now (option_copied found)) }
+    ensures { OnOk result (out.new.items ≡ out.old.items ++ found_if word.now (option_copied found.entry)) }
 {
     match found {
         None => Ok(()),
