@@ -4,5 +4,7 @@
 mod given;
 mod line;
 mod printing;
+mod workload;
 
 pub use printing::explored_text;
+pub use workload::workload_text;
