@@ -17,7 +17,7 @@ use sa_command::{GiveWord, PackageWord};
 use sa_debug_laws::laws::{fast_threads_can_be_debugged, prio_threads_can_be_debugged};
 use sa_explore::Progress;
 use sa_explore_model::{Explored, Extent, Found};
-use sa_explore_run::{Answer, answer};
+use sa_explore_run::{Answer, search};
 use sa_explore_text::{explored_text, workload_text};
 use sa_io::{Sink, Source};
 use sa_package::FastThreads;
@@ -51,14 +51,14 @@ pub(crate) fn explore_text<S: Source, K: Sink, P: Progress>(
         ExploreAnswers states user_level give (told (streams source.old sink.old))
         (told (streams source.new sink.new)) result }
 {
-    match told(alloc, states, user_level, give, source, progress) {
+    match gone_through(alloc, states, user_level, give, source, progress) {
         Ok(told) => written(sink, &told.text, Status::Explored(told.finding)),
         Err(status) => status,
     }
 }
 
 // What is told of the search of the source's workload.
-fn told<S: Source, P: Progress>(
+fn gone_through<S: Source, P: Progress>(
     alloc: Global,
     states: u32,
     user_level: PackageWord,
@@ -76,14 +76,14 @@ fn told<S: Source, P: Progress>(
     ensures counted { S.faults source.old ≤ S.faults source.new }
 {
     let workload = read_workload(alloc, source)?;
-    let answer = search(alloc, states, user_level, &workload, progress)?;
+    let answer = search_by(alloc, states, user_level, &workload, progress)?;
     let text = told_text(alloc, give, &workload, &answer)?;
     let finding = finding_of(&answer.explored);
     Ok(Told { text, finding })
 }
 
 // The search of a workload with this user level.
-fn search<P: Progress>(
+fn search_by<P: Progress>(
     alloc: Global,
     states: u32,
     user_level: PackageWord,
@@ -100,8 +100,8 @@ fn search<P: Progress>(
     prio_threads_can_be_debugged();
     workload.ranges();
     match user_level {
-        PackageWord::Fast => answer::<FastThreads, P>(alloc, workload, states, progress),
-        PackageWord::Prio => answer::<PrioThreads, P>(alloc, workload, states, progress),
+        PackageWord::Fast => search::<FastThreads, P>(alloc, workload, states, progress),
+        PackageWord::Prio => search::<PrioThreads, P>(alloc, workload, states, progress),
     }
 }
 

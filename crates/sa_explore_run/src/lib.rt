@@ -1,6 +1,6 @@
 //! A search through every order of turns of a workload, with the threads that wait where it found a stuck end.
 #![tactic(auto)]
 
-mod search;
+mod run;
 
-pub use search::{Answer, answer};
+pub use run::{Answer, search};

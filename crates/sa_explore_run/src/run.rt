@@ -27,7 +27,7 @@ pub struct Answer {
 
 /// Goes through every order of turns of a workload, after its turn lines, and keeps at most that many states, 1 to 10,000,000. Fails only
 /// where memory runs out.
-pub fn answer<U: Keyed, P: Progress>(
+pub fn search<U: Keyed, P: Progress>(
     alloc: Global,
     workload: &Workload,
     most: u32,
