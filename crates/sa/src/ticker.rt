@@ -4,6 +4,7 @@ use std::io::Eprint;
 use std::time::{Clock, Duration, Instant};
 
 /// Writes once a second how far a search has come.
+#[derive(Drop)]
 pub(crate) struct Ticker<'a, R> {
     rt: &'a R,
     // when it wrote last, or was made; where it is to write nothing there is no such time

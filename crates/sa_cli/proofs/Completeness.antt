@@ -4,7 +4,7 @@ use Rattle.sa_base.specs.declared.record.Item.{Item}
 use Rattle.sa_workload.specs.Text.{IsText, IsText1}
 use Rattle.sa_workload.specs.Bad.{BadAt, BadAt1}
 use Rattle.sa_command.specs.declared.command.Command.{Command}
-use Rattle.sa_command.specs.declared.command.Command.TheVariants.{Run, Threads, Load, Migrate, Check, Vp, Debug}
+use Rattle.sa_command.specs.declared.command.Command.TheVariants.{Run, Threads, Load, Migrate, Check, Vp, Debug, Explore}
 use Rattle.sa_cli.specs.declared.outcome.Ran.{Ran}
 use Rattle.sa_cli.specs.declared.outcome.Status.{Status}
 use Rattle.sa_cli.specs.declared.outcome.Status.TheVariants.{AllDone, Usage, BadWorkload, Stuck, Budget, ReadFault, WriteFault, OutOfMemory, Migrated, Checked, Broken, BadTrace, Quit, BadScript, Explored}
@@ -22,6 +22,7 @@ use Rattle.sa_cli.proofs.Finds.{told-found_once}
 use Rattle.sa_cli.proofs.Scripts.{debug-debugs}
 use Rattle.sa_cli.proofs.SharedResults.{shared-takes, shared-refuses}
 use Rattle.sa_cli.proofs.VirtualResults.{virtual-takes, virtual-refuses}
+use Rattle.sa_cli.proofs.Explorations.{explore-takes, explore-refuses}
 use Rattle.sa_cli.proofs.Inputs.{all-parted, first-parted, told-not_refused, told-refused_once, gave-not_refused}
 
 run-takes : (plan : Plan) (old new : World) (items : List Item) (status : Status)
@@ -160,3 +161,5 @@ answers-complete (Check user_level) old new ran status answers = check-finds (ru
 answers-complete (Vp schedule budget) old new ran status answers =
     (virtual-takes schedule budget old new (history ran) status answers, virtual-refuses schedule budget old new (history ran) status answers)
 answers-complete (Debug budget) old new ran status answers = debug-debugs budget old new ran status answers
+answers-complete (Explore states user_level give) old new ran status answers =
+    (explore-takes states user_level give old new status answers.1, explore-refuses states user_level give old new status answers.1)

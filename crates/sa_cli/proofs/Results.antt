@@ -9,7 +9,7 @@ use Rattle.sa_workload.specs.Text.{IsText}
 use Rattle.sa_workload.specs.Bad.{BadAt, BadAt1}
 use Rattle.sa_run.specs.Run.{RunsTo, RunsUnended}
 use Rattle.sa_command.specs.declared.command.Command.{Command}
-use Rattle.sa_command.specs.declared.command.Command.TheVariants.{Run, Threads, Load, Migrate, Check, Vp, Debug}
+use Rattle.sa_command.specs.declared.command.Command.TheVariants.{Run, Threads, Load, Migrate, Check, Vp, Debug, Explore}
 use Rattle.sa_cli.specs.declared.outcome.Status.{Status}
 use Rattle.sa_cli.specs.declared.outcome.Status.TheVariants.{AllDone, Usage, BadWorkload, Stuck, Budget, ReadFault, WriteFault, OutOfMemory, Migrated, Checked, Broken, BadTrace, Quit, BadScript, Explored}
 use Rattle.sa_cli.specs.declared.outcome.Ran.{Ran}
@@ -146,3 +146,4 @@ not-usage (Migrate slice) old new ran answers = answers.1
 not-usage (Check user_level) old new ran answers = answers.1
 not-usage (Vp schedule budget) old new ran answers = answers
 not-usage (Debug budget) old new ran answers = answers
+not-usage (Explore states user_level give) old new ran answers = answers.1
