@@ -1,11 +1,10 @@
 -- The schedules that a search gives can be run.
-use Rattle.std.proofs.Common.{◌≡◌, ℕ, ◌+◌, ◌<◌, ◌≤◌, false, Option, Some, None, List, [], ◌∷◌, ◌++◌, length, take, drop, refl, sym, ap, subst, ◌∙◌, arith, length-drop}
+use Rattle.std.proofs.Common.{◌≡◌, ℕ, ◌+◌, ◌<◌, ◌≤◌, Option, Some, None, List, [], ◌∷◌, ◌++◌, length, take, drop, refl, sym, subst, ◌∙◌, arith, length-drop}
 use Rattle.std.proofs.lemmas.List.{take-append-drop}
 use Rattle.std.specs.Prelude.{IfSome, All}
 use Rattle.std.proofs.lemmas.List.Elements.{All-cons}
 use Rattle.sa_base.specs.declared.limits.TheConstants.{MAX_EVENTS}
 use Rattle.sa_base.specs.declared.number.ProcNo.{ProcNo}
-use Rattle.sa_base.specs.declared.record.End.{End}
 use Rattle.sa_base.specs.declared.record.End.TheVariants.{AllDone, Stuck}
 use Rattle.sa_spaces.specs.Space.{SpaceView}
 use Rattle.sa_spaces.specs.Workload.{WorkloadView, IsWorkload}
@@ -14,7 +13,7 @@ use Rattle.sa_abstract.specs.Keeps.{Standing, Keeps}
 use Rattle.sa_core_model.specs.Machine.{Machine}
 use Rattle.sa_core_model.specs.Run.{opening}
 use Rattle.sa_outlook.specs.UserLevels.{IgnoresNumbers}
-use Rattle.sa_outlook.specs.Search.{is_over, AreOpenTurns}
+use Rattle.sa_outlook.specs.Search.{AreOpenTurns}
 use Rattle.sa_explore_model.specs.declared.answer.Extent.{Extent}
 use Rattle.sa_explore_model.specs.declared.answer.Extent.TheVariants.{All as Whole, Part}
 use Rattle.sa_explore_model.specs.declared.answer.Found.{Found}
@@ -24,7 +23,7 @@ use Rattle.sa_explore_runs.specs.Searching.{IsOpen}
 use Rattle.sa_explore_runs.proofs.Turns.{over-open, turns-split, IsOf, of-opening, of-one, of-lead, ends-alike, leads-alike}
 use Rattle.sa_explore.specs.Explored.{IsExplored}
 use Rattle.sa_given.specs.Given.{CanBeRun}
-use Rattle.sa_explore_run.specs.Answer.{IsWithin, AreWithin}
+use Rattle.sa_explore_run.specs.Answer.{AreWithin}
 
 module _ {U C D : Type 0} (f : Calls U C) (plain : Option SpaceView → C → D) (IsMade : Option SpaceView → U → Type 0) (laws : IgnoresNumbers f plain IsMade)
     (stands : Standing U C) (keep : Keeps f stands) (w : WorkloadView) (ok : IsWorkload w) where

@@ -1,6 +1,5 @@
 -- What is told of a search.
 use Rattle.std.specs.Prelude.{◌≡◌, ℕ, ◌<◌, List, [], Option, Some, None, IfSome, All}
-use Rattle.sa_base.specs.declared.number.ProcNo.{ProcNo}
 use Rattle.sa_spaces.specs.Space.{SpaceView}
 use Rattle.sa_spaces.specs.Workload.{WorkloadView}
 use Rattle.sa_abstract.specs.Calls.{Calls}
@@ -26,8 +25,8 @@ pub record AreWithin (w : WorkloadView) (x : Explored) : Type 0 where
   pub endless : IfSome x.endless (IsWithin w)
 
 -- the search's answer, and those that wait
-pub record IsAnswer {U C D : Type 0} (f : Calls U C) (plain : Option SpaceView → C → D) (w : WorkloadView) (most : ℕ) (x : Explored) (waits : List Wait)
+pub record IsAnswer {U C D : Type 0} (f : Calls U C) (plain : Option SpaceView → C → D) (w : WorkloadView) (most : ℕ) (x : Explored) (waiting : List Wait)
     : Type 0 where
   pub explored : IsExplored f plain w most x
-  pub waits : AreStuckWaits f w x.stuck waits
+  pub waits : AreStuckWaits f w x.stuck waiting
   pub within : AreWithin w x
