@@ -75,3 +75,39 @@ pub fn put_numbers(numbers: &[u32], key: &mut Vec<u8>) -> Result<(), AllocError>
     }
     Ok(())
 }
+
+/// The same of numbers of 64 bits.
+#[tactic(auto, using(std::proofs::Common::append_assoc, crate::proofs::Loops::list_more), unfolding(crate::specs::Codes::list))]
+pub fn put_words(words: &[u64], key: &mut Vec<u8>) -> Result<(), AllocError>
+    ensures { OnOk result (key.new.items ≡ key.old.items ++ list number words.now) }
+{
+    put_number(key, words.len() as u64)?;
+    for n in words {
+        put_number(key, *n)?;
+    }
+    Ok(())
+}
+
+/// The same of flags.
+#[tactic(auto, using(std::proofs::Common::append_assoc, crate::proofs::Loops::list_more), unfolding(crate::specs::Codes::list))]
+pub fn put_flags(flags: &[bool], key: &mut Vec<u8>) -> Result<(), AllocError>
+    ensures { OnOk result (key.new.items ≡ key.old.items ++ list flag flags.now) }
+{
+    put_number(key, flags.len() as u64)?;
+    for is in flags {
+        put_flag(key, *is)?;
+    }
+    Ok(())
+}
+
+/// The same of threads, each of which may be missing.
+#[tactic(auto, using(std::proofs::Common::append_assoc, crate::proofs::Loops::list_more), unfolding(crate::specs::Codes::list))]
+pub fn put_threads(threads: &[Option<ThreadNo>], key: &mut Vec<u8>) -> Result<(), AllocError>
+    ensures { OnOk result (key.new.items ≡ key.old.items ++ list thread_key threads.now) }
+{
+    put_number(key, threads.len() as u64)?;
+    for thread in threads {
+        put_thread(key, *thread)?;
+    }
+    Ok(())
+}

@@ -1,6 +1,7 @@
 //! The states that a search kept from which no order of turns ever ends.
 #![tactic(auto)]
 
-mod endless;
+mod marks;
+mod unmarked;
 
-pub use endless::endless;
+pub use unmarked::endless;

@@ -1,2 +1,6 @@
 pub mod Outlooks
 pub mod Runs
+pub mod Appends
+pub mod DueOrderLemmas
+pub mod EvictionsToCome
+pub mod Standings

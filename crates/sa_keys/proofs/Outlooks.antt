@@ -2,13 +2,11 @@
 use Rattle.std.proofs.Common.{◌≡◌, ℕ, zero, suc, ◌+◌, ◌<◌, ◌≤◌, Bool, false, List, [], ◌∷◌, ◌++◌, length, Option, Some, None, slice_get, slice_index, slice_index_or, refl, sym, ap, ◌∙◌, subst, inl, inr, arith, append_assoc, append-nil}
 use Rattle.std.proofs.lemmas.Bool.{cases_eq}
 use Rattle.std.specs.List.{flat_map, range_with_len}
-use Rattle.std.specs.Option.{option_map}
-use Rattle.sa_base.specs.declared.number.SpaceNo.{SpaceNo}
 use Rattle.sa_base.specs.declared.number.ThreadNo.{ThreadNo}
 use Rattle.sa_base.specs.declared.limits.TheConstants.{MAX_SPACES}
 use Rattle.sa_outlook.specs.Nameless.{PlainStopped, NamelessNote, NamelessKind, NamelessIo}
 use Rattle.sa_outlook.specs.Outlook.{Outlook}
-use Rattle.sa_codes.specs.Codes.{IsPrefixCode, number, flag, thread_key, space_no_key, optional, list}
+use Rattle.sa_codes.specs.Codes.{IsPrefixCode, number, flag, number_or_none, thread_key, space_no_key, optional, list}
 use Rattle.sa_keys.specs.Key.{stopped_key, note_key, kind_key, io_key, processor_key, space_key, taken_key, key_of}
 use Rattle.sa_codes.proofs.Codes.{number-code, flag-code, number_or_none-code, thread-code, space_no-code, optional-code, list-code, tagged-code, apart4}
 

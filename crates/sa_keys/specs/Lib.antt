@@ -1,2 +1,4 @@
 pub mod Key
+pub mod Parts
+pub mod Places
 pub mod Laws

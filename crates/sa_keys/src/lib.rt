@@ -2,9 +2,18 @@
 //! those with equal keys have equal outlooks.
 #![tactic(auto)]
 
-mod key;
+mod contexts;
+mod due_order;
+mod fast;
+mod ios;
 mod keyed;
 pub mod laws;
+mod machine_key;
+mod prio;
+mod processors;
+mod spaces;
+mod time;
+mod users;
 
-pub use key::key;
 pub use keyed::Keyed;
+pub use machine_key::key;

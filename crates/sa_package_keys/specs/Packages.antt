@@ -1,12 +1,13 @@
 -- The bytes of the values and contexts of the two packages.
-use Rattle.std.specs.Prelude.{◌≡◌, ℕ, ◌==◌, Bool, true, false, ◌&&◌, not, is_none, List, [], ◌∷◌, ◌++◌, length, map, Option}
+use Rattle.std.specs.Prelude.{◌≡◌, ℕ, ◌≤◌, ◌==◌, Bool, true, false, ◌&&◌, not, is_none, List, [], ◌∷◌, ◌++◌, length, map, Option}
 use Rattle.std.specs.List.{list_all, range_with_len}
 use Rattle.std.specs.Option.{option_map}
 use Rattle.sa_base.specs.declared.number.ProcNo.{ProcNo}
 use Rattle.sa_base.specs.declared.limits.TheConstants.{MAX_THREADS}
 use Rattle.sa_instr.specs.declared.limits.TheConstants.{REGISTERS}
 use Rattle.sa_lists.specs.ReadyView.{ReadyView, rank_of}
-use Rattle.sa_sync.specs.Sync.{Sync, Mutex, Semaphore}
+use Rattle.sa_links.specs.Lists.{list_at}
+use Rattle.sa_sync.specs.Sync.{Sync, Mutex, Semaphore, is_done}
 use Rattle.sa_code.specs.declared.state.Frame.{Frame}
 use Rattle.sa_fast.specs.declared.threads.Block.{Block}
 use Rattle.sa_fast.specs.declared.threads.Place.{Place}
@@ -106,6 +107,11 @@ pub record HasThreads (x : Shared) : Type 0 where
   pub blocks : length x.threads ≡ MAX_THREADS
   pub joiners : length x.sync.joiners ≡ MAX_THREADS
   pub works : length x.works ≡ MAX_THREADS
+
+-- a thread that was not made is not done, and names no work list
+pub record HasUnmade (x : Shared) : Type 0 where
+  pub done : (t : ℕ) → x.state.lists.made ≤ t → is_done x.sync t ≡ false
+  pub works : (t : ℕ) → x.state.lists.made ≤ t → list_at x.works t ≡ []
 
 -- the values were made for a space that is defined so; FastThreads has no ranks, thread priorities one for each thread
 abbrev pub IsFast : Option SpaceView → Package → Type 0

@@ -10,4 +10,5 @@ pub mod LineTexts
 pub mod Whole
 pub mod FirstBad
 pub mod ReadOn
+pub mod ItemLines
 mod LossLines

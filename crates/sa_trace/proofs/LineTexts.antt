@@ -23,7 +23,7 @@ use Rattle.sa_text.specs.Pieces.{pieces_of, LacksSpace}
 use Rattle.sa_text.proofs.PieceLemmas.{pieces_of-are_pieces, pieces_only}
 use Rattle.sa_text.proofs.Spelling.{decimal-is_spelling, decimal-lacks}
 use Rattle.sa_text.proofs.Lacking.{lacks_by_test}
-use Rattle.sa_trace.specs.TraceText.{field, line_of, end_word, counts_text, counts_of, last_line_of}
+use Rattle.sa_trace.specs.TraceText.{field, item_text, line_of, end_word, counts_text, counts_of, last_line_of}
 use Rattle.sa_text.specs.Pieces.{is_printed}
 use Rattle.sa_lemmas.proofs.Booleans.{if_either}
 use Rattle.sa_lemmas.proofs.Texts.{join-spaced}
@@ -204,19 +204,23 @@ counts-spaced : (counts : List ℕ) → flat_map (λ w. 32 ∷ w) (map decimal c
 counts-spaced [] = refl
 counts-spaced (n ∷ ns) = ap (λ r. (codes " " ++ decimal n) ++ r) (counts-spaced ns)
 
-regroup_item : (e p w f : List ℕ) → ((((e ++ (32 ∷ p)) ++ 32 ∷ []) ++ (w ++ f)) ++ 10 ∷ []) ≡ ((e ++ ((32 ∷ p) ++ ((32 ∷ w) ++ f))) ++ 10 ∷ [])
+regroup_item : (e p w f : List ℕ) → (((e ++ (32 ∷ p)) ++ 32 ∷ []) ++ (w ++ f)) ≡ e ++ ((32 ∷ p) ++ ((32 ∷ w) ++ f))
 regroup_item e p w f = simp append_assoc
 
--- what is printed of an item is its line and a line feed
-pub line_of-pieces : (item : Item) → line_of item ≡ join_with_byte 32 (item_pieces item) ++ 10 ∷ []
-line_of-pieces item =
+-- what is printed of an item is its pieces
+pub item_text-pieces : (item : Item) → item_text item ≡ join_with_byte 32 (item_pieces item)
+item_text-pieces item =
     let kind = (parts_of item.what).kind in
     let fields = (parts_of item.what).fields in
     regroup_item (decimal item.event) (decimal item.proc.0) (form_of kind).word (flat_map field fields)
-    ∙ ap (λ bs. (decimal item.event ++ ((32 ∷ decimal item.proc.0) ++ bs)) ++ 10 ∷ [])
+    ∙ ap (λ bs. decimal item.event ++ ((32 ∷ decimal item.proc.0) ++ bs))
     (sym (flat_map-append (λ w. 32 ∷ w) (word_pieces kind) (map piece fields) ∙ ap (λ bs. bs ++ flat_map (λ w. 32 ∷ w) (map piece fields)) (words-spaced kind)
     ∙ ap (λ bs. (32 ∷ (form_of kind).word) ++ bs) (fields-spaced fields)))
-    ∙ ap (λ bs. bs ++ 10 ∷ []) (sym (join-spaced (decimal item.event) (decimal item.proc.0 ∷ record_pieces item.what)))
+    ∙ sym (join-spaced (decimal item.event) (decimal item.proc.0 ∷ record_pieces item.what))
+
+-- and its line is they and a line feed
+pub line_of-pieces : (item : Item) → line_of item ≡ join_with_byte 32 (item_pieces item) ++ 10 ∷ []
+line_of-pieces item = ap (λ bs. bs ++ 10 ∷ []) (item_text-pieces item)
 
 regroup_last : (w e c : List ℕ) → ((((codes "end " ++ w) ++ (32 ∷ e)) ++ c) ++ 10 ∷ []) ≡ ((codes "end" ++ ((32 ∷ w) ++ ((32 ∷ e) ++ c))) ++ 10 ∷ [])
 regroup_last w e c = simp append_assoc

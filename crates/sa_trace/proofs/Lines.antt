@@ -18,6 +18,7 @@ use Rattle.sa_text.specs.Pieces.{LacksSpace}
 use Rattle.sa_text.proofs.Spelling.{decimal-is_spelling}
 use Rattle.sa_lemmas.proofs.Booleans.{if_either}
 use Rattle.sa_trace.specs.TraceText.{counts_of, end_word}
+use Rattle.sa_trace.specs.declared.so_far.SoFar.{SoFar}
 use Rattle.sa_trace.specs.declared.line.Said.{Said}
 use Rattle.sa_trace.specs.declared.line.Said.TheVariants.{Next, Last}
 use Rattle.sa_trace.specs.Pieces.{and_then, unless, number_in, wrong_count, end_of}
@@ -116,18 +117,17 @@ least_follows None event proc what low same = tt
 least_follows (Some last) event proc what low same = (low, λ e. ap (λ (n : ℕ). (λ (p : ProcNo). p) (record { 0 = n })) (same e))
 
 -- the pieces of an item are read as the item
-pub said_by-item : (items : List Item) (item : Item) → FitsItem item → MayFollow (last_of items) item
-    → said_by (so_far items) (item_pieces item) ≡ Ok (Next item)
-said_by-item items item fits follows =
-    let low = follows_least (last_of items) item follows in
-    ap (λ b. cond b (end_at (so_far items) (decimal item.proc.0 ∷ record_pieces item.what))
-    (and_then (number_in (least_event (last_of items)) MAX64 (decimal item.event))
-    (λ event. item_at (last_of items) event (decimal item.proc.0 ∷ record_pieces item.what))))
+pub said_by-item : (so : SoFar) (item : Item) → FitsItem item → MayFollow so.last item → said_by so (item_pieces item) ≡ Ok (Next item)
+said_by-item so item fits follows =
+    let low = follows_least so.last item follows in
+    ap (λ b. cond b (end_at so (decimal item.proc.0 ∷ record_pieces item.what))
+    (and_then (number_in (least_event so.last) MAX64 (decimal item.event))
+    (λ event. item_at so.last event (decimal item.proc.0 ∷ record_pieces item.what))))
     (no_end item.event fits.event)
-    ∙ ap (λ r. and_then r (λ event. item_at (last_of items) event (decimal item.proc.0 ∷ record_pieces item.what)))
-    (number_in-decimal (least_event (last_of items)) MAX64 item.event fits.event low.0 (omega (arith, fits.event)))
+    ∙ ap (λ r. and_then r (λ event. item_at so.last event (decimal item.proc.0 ∷ record_pieces item.what)))
+    (number_in-decimal (least_event so.last) MAX64 item.event fits.event low.0 (omega (arith, fits.event)))
     ∙ ap (λ r. and_then r (λ proc. item_by item.event proc (record_pieces item.what)))
-    (processor_in-decimal (last_of items) item.event item.proc.0 fits.proc low.1)
+    (processor_in-decimal so.last item.event item.proc.0 fits.proc low.1)
     ∙ ap (λ r. and_then r (λ what. Ok (Next (record { event = item.event; proc = record { 0 = item.proc.0 }; what = what }))))
     (record_in-pieces item.what fits.what)
 

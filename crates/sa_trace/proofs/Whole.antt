@@ -38,7 +38,7 @@ text_lines more whole end events = map item_line more ++ last_line whole end eve
 -- each line is read back
 pub line_in-item : (items : List Item) (item : Item) → FitsItem item → MayFollow (last_of items) item → line_in (so_far items) (item_line item) ≡ Ok (Next item)
 line_in-item items item fits follows =
-    ap (λ r. and_then r (said_by (so_far items))) (pieces_in-line _ _ (fine-item item fits)) ∙ said_by-item items item fits follows
+    ap (λ r. and_then r (said_by (so_far items))) (pieces_in-line _ _ (fine-item item fits)) ∙ said_by-item (so_far items) item fits follows
 
 pub line_in-last : (items : List Item) (end : End) (events : ℕ) → least_event (last_of items) ≤ events → events < 2 ^ 64
     → All (λ n. n < 2 ^ 64) (counts_of items)

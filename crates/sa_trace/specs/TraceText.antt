@@ -30,9 +30,13 @@ count_of_kind items number = count_by (λ (i : Item). kind_number i.what == numb
 unfoldable pub counts_of : List Item → List ℕ
 counts_of items = map (λ k. count_of_kind items (k + 1)) (range_with_len 0 RECORD_KINDS)
 
--- the line of an item: its event, its processor, and its record
+-- an item: its event, its processor, and its record
+abbrev pub item_text : Item → List ℕ
+item_text i = decimal i.event ++ field (Some i.proc.0) ++ codes " " ++ record_text i.what
+
+-- the line of an item
 abbrev pub line_of : Item → List ℕ
-line_of i = decimal i.event ++ field (Some i.proc.0) ++ codes " " ++ record_text i.what ++ codes "\n"
+line_of i = item_text i ++ codes "\n"
 
 abbrev pub end_word : End → List ℕ
 end_word AllDone = codes "alldone"

@@ -13,6 +13,7 @@ mod losses;
 mod parts;
 mod pieces;
 mod printing;
+mod quick;
 mod reader;
 mod reading;
 mod so_far;
