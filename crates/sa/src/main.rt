@@ -1,11 +1,14 @@
 //! `sa`: reads a workload from standard input, runs it, and writes its trace to standard output.
 #![tactic(auto)]
 
+mod ticker;
+
+use crate::ticker::Ticker;
 use sa_cli::{Status, Words, limits_of, run_one, run_threads};
 use sa_io::{StdSink, StdSource};
 use sa_workers::FreeGate;
 use std::env;
-use std::io::{self, ErrorKind};
+use std::io::{self, ErrorKind, IsTerminal};
 use std::process::ExitCode;
 use std::rt::Env;
 
@@ -17,7 +20,10 @@ fn main(rt: HostRuntime) -> ExitCode {
             let alloc = rt.alloc();
             let outcome = match limits_of(&words) {
                 Some(limits) => run_threads(&rt, alloc, limits, &mut source, &mut sink, &FreeGate),
-                None => run_one(alloc, &words, &mut source, &mut sink),
+                None => {
+                    let mut ticker = Ticker::new(&rt, rt.stderr().is_terminal());
+                    run_one(alloc, &words, &mut source, &mut sink, &mut ticker)
+                }
             };
             outcome.status
         }
@@ -49,6 +55,6 @@ fn report(rt: &impl Eprint, status: Status) -> io::Result<()> {
         Status::WriteFault => eprintln!(rt; "write fault"),
         Status::OutOfMemory => eprintln!(rt; "out of memory"),
         Status::AllDone | Status::Stuck | Status::Budget | Status::Migrated => Ok(()),
-        Status::Checked | Status::Broken(..) | Status::Quit => Ok(()),
+        Status::Checked | Status::Broken(..) | Status::Quit | Status::Explored(_) => Ok(()),
     }
 }

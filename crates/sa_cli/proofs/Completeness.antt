@@ -4,10 +4,10 @@ use Rattle.sa_base.specs.declared.record.Item.{Item}
 use Rattle.sa_workload.specs.Text.{IsText, IsText1}
 use Rattle.sa_workload.specs.Bad.{BadAt, BadAt1}
 use Rattle.sa_command.specs.declared.command.Command.{Command}
-use Rattle.sa_command.specs.declared.command.Command.TheVariants.{Run, Threads, Load, Migrate, Check, Vp, Debug}
+use Rattle.sa_command.specs.declared.command.Command.TheVariants.{Run, Threads, Load, Migrate, Check, Vp, Debug, Explore}
 use Rattle.sa_cli.specs.declared.outcome.Ran.{Ran}
 use Rattle.sa_cli.specs.declared.outcome.Status.{Status}
-use Rattle.sa_cli.specs.declared.outcome.Status.TheVariants.{AllDone, Usage, BadWorkload, Stuck, Budget, ReadFault, WriteFault, OutOfMemory, Migrated, Checked, Broken, BadTrace, Quit, BadScript}
+use Rattle.sa_cli.specs.declared.outcome.Status.TheVariants.{AllDone, Usage, BadWorkload, Stuck, Budget, ReadFault, WriteFault, OutOfMemory, Migrated, Checked, Broken, BadTrace, Quit, BadScript, Explored}
 use Rattle.sa_cli.specs.Outcome.{HasEnded, history, status_of_found}
 use Rattle.sa_cli.specs.Answers.{World, Plan}
 use Rattle.sa_cli.specs.Commands.{run_plan, AnswersRun, AnswersLoad, MigrateAnswers, CheckAnswers, Answers}
@@ -22,6 +22,7 @@ use Rattle.sa_cli.proofs.Finds.{told-found_once}
 use Rattle.sa_cli.proofs.Scripts.{debug-debugs}
 use Rattle.sa_cli.proofs.SharedResults.{shared-takes, shared-refuses}
 use Rattle.sa_cli.proofs.VirtualResults.{virtual-takes, virtual-refuses}
+use Rattle.sa_cli.proofs.Explorations.{explore-takes, explore-refuses}
 use Rattle.sa_cli.proofs.Inputs.{all-parted, first-parted, told-not_refused, told-refused_once, gave-not_refused}
 
 run-takes : (plan : Plan) (old new : World) (items : List Item) (status : Status)
@@ -40,6 +41,7 @@ run-takes plan old new items (Broken event rule) answers = absurd answers
 run-takes plan old new items (BadTrace bad) answers = absurd answers
 run-takes plan old new items Quit answers = absurd answers
 run-takes plan old new items (BadScript bad) answers = absurd answers
+run-takes plan old new items (Explored finding) answers = absurd answers
 run-takes plan old new items Migrated answers = absurd answers
 
 run-refuses : (plan : Plan) (old new : World) (items : List Item) (status : Status)
@@ -62,6 +64,7 @@ run-refuses plan old new items (Broken event rule) answers = absurd answers
 run-refuses plan old new items (BadTrace bad) answers = absurd answers
 run-refuses plan old new items Quit answers = absurd answers
 run-refuses plan old new items (BadScript bad) answers = absurd answers
+run-refuses plan old new items (Explored finding) answers = absurd answers
 run-refuses plan old new items Migrated answers = absurd answers
 
 load-ends : (number budget : ℕ) (old new : World) (items : List Item) (status : Status)
@@ -79,6 +82,7 @@ load-ends number budget old new items (Broken event rule) answers writes = absur
 load-ends number budget old new items (BadTrace bad) answers writes = absurd answers
 load-ends number budget old new items Quit answers writes = absurd answers
 load-ends number budget old new items (BadScript bad) answers writes = absurd answers
+load-ends number budget old new items (Explored finding) answers writes = absurd answers
 load-ends number budget old new items Migrated answers writes = absurd answers
 
 migrate-takes : (slice : ℕ) (old new : World) (status : Status)
@@ -98,6 +102,7 @@ migrate-takes slice old new (Broken event rule) answers = absurd answers
 migrate-takes slice old new (BadTrace bad) answers = absurd answers
 migrate-takes slice old new Quit answers = absurd answers
 migrate-takes slice old new (BadScript bad) answers = absurd answers
+migrate-takes slice old new (Explored finding) answers = absurd answers
 
 migrate-refuses : (slice : ℕ) (old new : World) (status : Status)
     → MigrateAnswers slice old new status → Refuses BadAt1 old new status
@@ -118,6 +123,7 @@ migrate-refuses slice old new (Broken event rule) answers = absurd answers
 migrate-refuses slice old new (BadTrace bad) answers = absurd answers
 migrate-refuses slice old new Quit answers = absurd answers
 migrate-refuses slice old new (BadScript bad) answers = absurd answers
+migrate-refuses slice old new (Explored finding) answers = absurd answers
 
 check-finds : (rules : Rules) (old new : World) (status : Status) → CheckAnswers rules old new status → Finds rules old new status
 check-finds rules old new Checked answers = λ input found told is reads writes.
@@ -133,6 +139,7 @@ check-finds rules old new ReadFault answers = λ input found told is reads write
 check-finds rules old new WriteFault answers = λ input found told is reads writes. absurd (writes answers.0)
 check-finds rules old new Quit answers = absurd answers
 check-finds rules old new (BadScript bad) answers = absurd answers
+check-finds rules old new (Explored finding) answers = absurd answers
 check-finds rules old new AllDone answers = absurd answers
 check-finds rules old new Stuck answers = absurd answers
 check-finds rules old new Budget answers = absurd answers
@@ -154,3 +161,5 @@ answers-complete (Check user_level) old new ran status answers = check-finds (ru
 answers-complete (Vp schedule budget) old new ran status answers =
     (virtual-takes schedule budget old new (history ran) status answers, virtual-refuses schedule budget old new (history ran) status answers)
 answers-complete (Debug budget) old new ran status answers = debug-debugs budget old new ran status answers
+answers-complete (Explore states user_level give) old new ran status answers =
+    (explore-takes states user_level give old new status answers.1, explore-refuses states user_level give old new status answers.1)

@@ -10,5 +10,6 @@ mod Results
 mod SharedResults
 mod VirtualResults
 mod VpPieces
+mod Explorations
 mod Completeness
 mod TopCalls

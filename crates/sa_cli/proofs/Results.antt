@@ -9,9 +9,9 @@ use Rattle.sa_workload.specs.Text.{IsText}
 use Rattle.sa_workload.specs.Bad.{BadAt, BadAt1}
 use Rattle.sa_run.specs.Run.{RunsTo, RunsUnended}
 use Rattle.sa_command.specs.declared.command.Command.{Command}
-use Rattle.sa_command.specs.declared.command.Command.TheVariants.{Run, Threads, Load, Migrate, Check, Vp, Debug}
+use Rattle.sa_command.specs.declared.command.Command.TheVariants.{Run, Threads, Load, Migrate, Check, Vp, Debug, Explore}
 use Rattle.sa_cli.specs.declared.outcome.Status.{Status}
-use Rattle.sa_cli.specs.declared.outcome.Status.TheVariants.{AllDone, Usage, BadWorkload, Stuck, Budget, ReadFault, WriteFault, OutOfMemory, Migrated, Checked, Broken, BadTrace, Quit, BadScript}
+use Rattle.sa_cli.specs.declared.outcome.Status.TheVariants.{AllDone, Usage, BadWorkload, Stuck, Budget, ReadFault, WriteFault, OutOfMemory, Migrated, Checked, Broken, BadTrace, Quit, BadScript, Explored}
 use Rattle.sa_cli.specs.declared.outcome.Ran.{Ran}
 use Rattle.sa_cli.specs.declared.outcome.Ran.TheVariants.{Plain}
 use Rattle.sa_cli.specs.Outcome.{status_of_end, history}
@@ -38,6 +38,7 @@ nothing-run plan old new (Broken event rule) cause = absurd cause
 nothing-run plan old new (BadTrace bad) cause = absurd cause
 nothing-run plan old new Quit cause = absurd cause
 nothing-run plan old new (BadScript bad) cause = absurd cause
+nothing-run plan old new (Explored finding) cause = absurd cause
 
 -- what a run answers, `run` answers
 pub run-answers : (plan : Plan) (old new : World) (items : List Item) (status : Status)
@@ -57,6 +58,7 @@ run-answers plan old new items (Broken event rule) answers = absurd answers
 run-answers plan old new items (BadTrace bad) answers = absurd answers
 run-answers plan old new items Quit answers = absurd answers
 run-answers plan old new items (BadScript bad) answers = absurd answers
+run-answers plan old new items (Explored finding) answers = absurd answers
 
 -- a run that ended was written, or cut
 module _ (mine : WorkloadView → Type 0) (plan : Plan) (kept : AreKept plan.runs) (old new : World) where
@@ -126,6 +128,7 @@ nothing-migrated slice old new (Broken event rule) cause = absurd cause
 nothing-migrated slice old new (BadTrace bad) cause = absurd cause
 nothing-migrated slice old new Quit cause = absurd cause
 nothing-migrated slice old new (BadScript bad) cause = absurd cause
+nothing-migrated slice old new (Explored finding) cause = absurd cause
 
 pub migrated-answers : (slice : ℕ) (old new : World) (text : List ℕ) (status : Status) → GaveSliced slice old.left new.left text
     → Writes old.taken new.taken old.writes new.writes text Migrated status → MigrateAnswers slice old new status
@@ -143,3 +146,4 @@ not-usage (Migrate slice) old new ran answers = answers.1
 not-usage (Check user_level) old new ran answers = answers.1
 not-usage (Vp schedule budget) old new ran answers = answers
 not-usage (Debug budget) old new ran answers = answers
+not-usage (Explore states user_level give) old new ran answers = answers.1

@@ -115,3 +115,4 @@ debug-debugs budget old new ran status.Migrated answers = absurd answers
 debug-debugs budget old new ran status.Checked answers = absurd answers
 debug-debugs budget old new ran (status.Broken event rule) answers = absurd answers
 debug-debugs budget old new ran (status.BadTrace bad) answers = absurd answers
+debug-debugs budget old new ran (status.Explored finding) answers = absurd answers

@@ -14,7 +14,7 @@ use Rattle.sa_package_runs.proofs.Shared.{shared-legal}
 use Rattle.sa_cli.specs.declared.outcome.Ran.{Ran}
 use Rattle.sa_cli.specs.declared.outcome.Ran.TheVariants.{Nothing, Shared}
 use Rattle.sa_cli.specs.declared.outcome.Status.{Status}
-use Rattle.sa_cli.specs.declared.outcome.Status.TheVariants.{AllDone, Usage, BadWorkload, Stuck, Budget, ReadFault, WriteFault, OutOfMemory, Migrated, Checked, Broken, BadTrace, Quit, BadScript}
+use Rattle.sa_cli.specs.declared.outcome.Status.TheVariants.{AllDone, Usage, BadWorkload, Stuck, Budget, ReadFault, WriteFault, OutOfMemory, Migrated, Checked, Broken, BadTrace, Quit, BadScript, Explored}
 use Rattle.sa_cli.specs.Input.{GaveText}
 use Rattle.sa_cli.specs.Refusals.{NothingRead}
 use Rattle.sa_cli.specs.Outcome.{status_of_end, HasEnded}
@@ -40,6 +40,7 @@ module _ (budget : ℕ) (old new : World) where
   nothing-shared (BadTrace bad) cause = absurd cause
   nothing-shared Quit cause = absurd cause
   nothing-shared (BadScript bad) cause = absurd cause
+  nothing-shared (Explored finding) cause = absurd cause
 
   -- a run that ended was written, or cut
   ended-shared : (ran : Ran) (e : End) → SharedEnded budget old new (TookAll old new) ran e → AnswersThreads budget old new ran (status_of_end e)
@@ -91,6 +92,7 @@ module _ (budget : ℕ) (old new : World) where
   shared-takes ran (BadTrace bad) answers = absurd answers
   shared-takes ran Quit answers = absurd answers
   shared-takes ran (BadScript bad) answers = absurd answers
+  shared-takes ran (Explored finding) answers = absurd answers
 
   not-refused : (ran : Ran) (e : End) (goes : List ℕ → Type 0) (status : Status) → SharedEnded budget old new goes ran e → Refuses BadAt old new status
   not-refused ran e goes status ended = λ input bad told refused reads.
@@ -112,3 +114,4 @@ module _ (budget : ℕ) (old new : World) where
   shared-refuses ran (BadTrace bad) answers = absurd answers
   shared-refuses ran Quit answers = absurd answers
   shared-refuses ran (BadScript bad) answers = absurd answers
+  shared-refuses ran (Explored finding) answers = absurd answers

@@ -13,7 +13,7 @@ use Rattle.sa_vp.specs.Run.{RunsTo, RunsSoFar}
 use Rattle.sa_cli.specs.declared.outcome.Ran.{Ran}
 use Rattle.sa_cli.specs.declared.outcome.Ran.TheVariants.{Plain}
 use Rattle.sa_cli.specs.declared.outcome.Status.{Status}
-use Rattle.sa_cli.specs.declared.outcome.Status.TheVariants.{AllDone, Usage, BadWorkload, Stuck, Budget, ReadFault, WriteFault, OutOfMemory, Migrated, Checked, Broken, BadTrace, Quit, BadScript}
+use Rattle.sa_cli.specs.declared.outcome.Status.TheVariants.{AllDone, Usage, BadWorkload, Stuck, Budget, ReadFault, WriteFault, OutOfMemory, Migrated, Checked, Broken, BadTrace, Quit, BadScript, Explored}
 use Rattle.sa_cli.specs.Outcome.{status_of_end, history, HasEnded}
 use Rattle.sa_cli.specs.Input.{GaveText}
 use Rattle.sa_cli.specs.Refusals.{NothingRead}
@@ -40,6 +40,7 @@ module _ (schedule : ScheduleWord) (budget : ℕ) (old new : World) where
   nothing-virtual (BadTrace bad) cause = absurd cause
   nothing-virtual Quit cause = absurd cause
   nothing-virtual (BadScript bad) cause = absurd cause
+  nothing-virtual (Explored finding) cause = absurd cause
 
   -- a run that ended was written, or cut, or memory ran out
   ended-virtual : (items : List Item) (e : End) → VpEnded schedule budget old new (TookAll old new) items e
@@ -106,6 +107,7 @@ module _ (schedule : ScheduleWord) (budget : ℕ) (old new : World) where
   virtual-takes items (BadTrace bad) answers = absurd answers
   virtual-takes items Quit answers = absurd answers
   virtual-takes items (BadScript bad) answers = absurd answers
+  virtual-takes items (Explored finding) answers = absurd answers
   virtual-takes items Migrated answers = absurd answers
 
   pub virtual-refuses : (items : List Item) (status : Status) → AnswersVp schedule budget old new items status → Refuses BadAt old new status
@@ -127,4 +129,5 @@ module _ (schedule : ScheduleWord) (budget : ℕ) (old new : World) where
   virtual-refuses items (BadTrace bad) answers = absurd answers
   virtual-refuses items Quit answers = absurd answers
   virtual-refuses items (BadScript bad) answers = absurd answers
+  virtual-refuses items (Explored finding) answers = absurd answers
   virtual-refuses items Migrated answers = absurd answers

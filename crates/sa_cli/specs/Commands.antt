@@ -10,7 +10,7 @@ use Rattle.sa_workload.specs.Bad.{BadAt, BadAt1}
 use Rattle.sa_command.specs.declared.command.ScheduleWord.{ScheduleWord}
 use Rattle.sa_command.specs.declared.command.PackageWord.{PackageWord}
 use Rattle.sa_command.specs.declared.command.Command.{Command}
-use Rattle.sa_command.specs.declared.command.Command.TheVariants.{Run, Threads, Load, Migrate, Check, Vp, Debug}
+use Rattle.sa_command.specs.declared.command.Command.TheVariants.{Run, Threads, Load, Migrate, Check, Vp, Debug, Explore}
 use Rattle.sa_cli.specs.declared.outcome.Ran.{Ran}
 use Rattle.sa_cli.specs.declared.outcome.Ran.TheVariants.{Nothing}
 use Rattle.sa_cli.specs.declared.outcome.Status.{Status}
@@ -33,6 +33,7 @@ use Rattle.sa_cli.specs.Answers.{World, Plan, RunAnswers, TookAll, TookSome}
 use Rattle.sa_cli.specs.Shared.{AnswersThreads}
 use Rattle.sa_cli.specs.Virtual.{AnswersVp}
 use Rattle.sa_cli.specs.Debugging.{AnswersDebug}
+use Rattle.sa_cli.specs.Exploring.{ExploreAnswers}
 
 -- `run`: the workload is that of which the source gave the text, the user level that of the word, and the whole trace text
 -- is written
@@ -89,6 +90,7 @@ Answers (Migrate slice) old new ran status = (ran ≡ Nothing) × MigrateAnswers
 Answers (Check user_level) old new ran status = (ran ≡ Nothing) × CheckAnswers (rules_by user_level) old new status
 Answers (Vp schedule budget) old new ran status = AnswersVp schedule budget old new (history ran) status
 Answers (Debug budget) old new ran status = AnswersDebug budget old new ran status
+Answers (Explore states user_level give) old new ran status = (ran ≡ Nothing) × ExploreAnswers states user_level give old new status
 
 -- the same, where the words are a command
 abbrev pub AnswersTo : Option Command → World → World → Ran → Status → Type 0

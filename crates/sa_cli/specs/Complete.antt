@@ -6,7 +6,7 @@ use Rattle.sa_io.specs.Faults.{HasRisen}
 use Rattle.sa_workload.specs.Text.{IsText, IsText1}
 use Rattle.sa_workload.specs.Bad.{BadAt, BadAt1}
 use Rattle.sa_command.specs.declared.command.Command.{Command}
-use Rattle.sa_command.specs.declared.command.Command.TheVariants.{Run, Threads, Load, Migrate, Check, Vp, Debug}
+use Rattle.sa_command.specs.declared.command.Command.TheVariants.{Run, Threads, Load, Migrate, Check, Vp, Debug, Explore}
 use Rattle.sa_cli.specs.declared.outcome.Status.{Status}
 use Rattle.sa_cli.specs.declared.outcome.Status.TheVariants.{BadWorkload, OutOfMemory, Migrated}
 use Rattle.sa_cli.specs.declared.limits.TheConstants.{INPUT_LIMIT}
@@ -16,7 +16,7 @@ use Rattle.sa_check_moment.specs.declared.rules.Rules.{Rules}
 use Rattle.sa_cli.specs.Packages.{rules_by}
 use Rattle.sa_cli.specs.declared.found.Found.{Found}
 use Rattle.sa_cli.specs.Texts.{IsFound}
-use Rattle.sa_cli.specs.Outcome.{HasEnded, status_of_found}
+use Rattle.sa_cli.specs.Outcome.{HasEnded, HasExplored, status_of_found}
 use Rattle.sa_cli.specs.Answers.{World}
 use Rattle.sa_cli.specs.Debugging.{Scripted, IsScripted, status_of_scripted}
 
@@ -58,6 +58,7 @@ IsComplete (Migrate slice) old new status = Takes IsText1 old new status (status
 IsComplete (Check user_level) old new status = Finds (rules_by user_level) old new status
 IsComplete (Vp schedule budget) old new status = Takes IsText old new status (HasEnded status) × Refuses BadAt old new status
 IsComplete (Debug budget) old new status = Debugs old new status
+IsComplete (Explore states user_level give) old new status = Takes IsText old new status (HasExplored status) × Refuses BadAt old new status
 
 abbrev pub IsCompleteTo : Option Command → World → World → Status → Type 0
 IsCompleteTo None old new status = ⊤

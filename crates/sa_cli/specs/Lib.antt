@@ -8,6 +8,7 @@ pub mod Answers
 pub mod Streams
 pub mod Debugging
 pub mod Scripted
+pub mod Exploring
 pub mod Commands
 pub mod Complete
 pub mod Shared

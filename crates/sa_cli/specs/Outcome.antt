@@ -6,7 +6,8 @@ use Rattle.sa_base.specs.declared.record.Item.{Item}
 use Rattle.sa_base.specs.declared.record.End.{End}
 use Rattle.sa_base.specs.declared.record.End.TheVariants as end
 use Rattle.sa_cli.specs.declared.outcome.Status.{Status}
-use Rattle.sa_cli.specs.declared.outcome.Status.TheVariants.{AllDone, Usage, BadWorkload, Stuck, Budget, ReadFault, WriteFault, OutOfMemory, Migrated, Checked, Broken, BadTrace, Quit, BadScript}
+use Rattle.sa_cli.specs.declared.outcome.Status.TheVariants.{AllDone, Usage, BadWorkload, Stuck, Budget, ReadFault, WriteFault, OutOfMemory, Migrated, Checked, Broken, BadTrace, Quit, BadScript, Explored}
+use Rattle.sa_cli.specs.declared.outcome.Finding.TheVariants as say
 use Rattle.sa_io.specs.declared.input.ReadError.{ReadError}
 use Rattle.sa_io.specs.declared.input.ReadError.TheVariants as read
 use Rattle.sa_check.specs.declared.verdict.Verdict.{Verdict}
@@ -34,6 +35,9 @@ code_of (Broken event rule) = 8
 code_of (BadTrace bad) = 9
 code_of Quit = 0
 code_of (BadScript bad) = 10
+code_of (Explored say.Clear) = 0
+code_of (Explored say.Stuck) = 3
+code_of (Explored say.Open) = 4
 
 -- the status of an input that was not read
 abbrev pub status_of : ReadError → Status
@@ -84,6 +88,11 @@ HasEnded AllDone = ⊤
 HasEnded Stuck = ⊤
 HasEnded Budget = ⊤
 HasEnded other = ⊥
+
+-- the statuses of a search that was written
+abbrev pub HasExplored : Status → Type 0
+HasExplored (Explored finding) = ⊤
+HasExplored other = ⊥
 
 -- the statuses with which nothing is written
 abbrev pub WritesNothing : Status → Type 0

@@ -9,11 +9,13 @@ ghost use Rattle.sa_cli.specs.TopCall.{DoesTheCommand};
 
 use crate::commands::{check_texts, migrate, run_generated, run_text};
 use crate::debug::debug_texts;
+use crate::explore::explore_text;
 use crate::outcome::{Outcome, Status};
 use crate::shared::run_shared;
 use crate::vp::run_virtual;
 use sa_command::laws::commands_are_in_range;
 use sa_command::{Command, Words, read_words};
+use sa_explore::Progress;
 use sa_io::{Sink, Source};
 use sa_workers::{Gate, Limits};
 use std::alloc::Global;
@@ -32,19 +34,20 @@ pub fn limits_of(words: &Words) -> Option<Limits>
     }
 }
 
-/// Does the command of the words, which is not `threads`. It always returns.
-pub fn run_one<S: Source, K: Sink>(
+/// Does the command of the words, which is not `threads`. It always returns. Under `explore` it is told how far the search has come.
+pub fn run_one<S: Source, K: Sink, P: Progress>(
     alloc: Global,
     words: &Words,
     source: &mut S,
     sink: &mut K,
+    progress: &mut P,
 ) -> Outcome
     requires { limits_of (command_of words.now) ≡ None }
     ensures { DoesTheCommand (world_by S.left K.taken S.faults K.faults) (command_of words.now)
         (streams source.old sink.old) (streams source.new sink.new) result }
 {
     commands_are_in_range();
-    run_command(alloc, read_words(words), source, sink)
+    run_command(alloc, read_words(words), source, sink, progress)
 }
 
 /// Does the command `threads` within these limits: a host thread for each processor runs the workload, and passes the gate
@@ -65,12 +68,14 @@ pub fn run_threads<S: Source, K: Sink, G: Gate, R: Threads + Wait + Sync>(
 }
 
 // Does the command, which is not `threads`: it runs a workload of the source or a generated one and writes its trace to the
-// sink, writes a workload of the source anew, judges a trace of the source, or debugs a workload of the source by a script.
-fn run_command<S: Source, K: Sink>(
+// sink, writes a workload of the source anew, judges a trace of the source, debugs a workload of the source by a script, or goes
+// through every order of turns of a workload of the source.
+fn run_command<S: Source, K: Sink, P: Progress>(
     alloc: Global,
     command: Option<Command>,
     source: &mut S,
     sink: &mut K,
+    progress: &mut P,
 ) -> Outcome
     requires range { ForSome command IsInRange }
     requires here { limits_of command ≡ None }
@@ -96,5 +101,14 @@ fn run_command<S: Source, K: Sink>(
             run_virtual(alloc, schedule, budget, source, sink)
         }
         Some(Command::Debug { budget }) => debug_texts(alloc, budget, source, sink),
+        Some(
+            Command::Explore {
+                states,
+                user_level,
+                give,
+            },
+        ) => Outcome::nothing(explore_text(
+            alloc, states, user_level, give, source, sink, progress,
+        )),
     }
 }

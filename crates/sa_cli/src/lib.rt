@@ -4,6 +4,7 @@
 mod calls;
 mod commands;
 mod debug;
+mod explore;
 mod found;
 mod limits;
 mod outcome;
@@ -15,6 +16,7 @@ mod vp;
 mod writing;
 
 pub use calls::{limits_of, run_one, run_threads};
-pub use outcome::{Outcome, Ran, Status};
+pub use outcome::{Finding, Outcome, Ran, Status};
 pub use sa_command::Words;
+pub use sa_explore::{NoProgress, Progress};
 pub use sa_workers::Limits;

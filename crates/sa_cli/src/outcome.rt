@@ -9,6 +9,17 @@ use sa_laws::Rule;
 use sa_seat::Closed;
 use std::alloc::AllocError;
 
+/// What a search through every order of turns says of a workload.
+#[derive(Clone, Copy, Debug, PartialEq, Eq)]
+pub enum Finding {
+    /// Every order was looked at, no run is stuck, and from each state some order of turns leads to an end.
+    Clear,
+    /// Some run is stuck.
+    Stuck,
+    /// No run that was looked at is stuck, but not every order was looked at, or from some state no order of turns ever ends.
+    Open,
+}
+
 /// How the top call ended. `code` is the program's exit status.
 #[derive(Clone, Copy, Debug, PartialEq, Eq)]
 pub enum Status {
@@ -42,6 +53,8 @@ pub enum Status {
     /// The input is too long for a workload and a script, or what comes after its workload is no script. Lines are counted
     /// from the first line of the script, and in an input that is too long from the first of all.
     BadScript(Bad),
+    /// Every order of turns of the workload was gone through, as far as the states went, and what was found was written.
+    Explored(Finding),
 }
 
 impl From<ReadError> for Status {
@@ -114,6 +127,9 @@ impl Status {
             Status::Broken(..) => 8,
             Status::BadTrace(_) => 9,
             Status::BadScript(_) => 10,
+            Status::Explored(Finding::Clear) => 0,
+            Status::Explored(Finding::Stuck) => 3,
+            Status::Explored(Finding::Open) => 4,
         }
     }
 }

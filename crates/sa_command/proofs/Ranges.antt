@@ -9,12 +9,14 @@ use Rattle.sa_base.specs.declared.limits.TheConstants.{MAX_BURST, MAX_EVENTS, DE
 use Rattle.sa_command.specs.declared.command.ScheduleWord.TheVariants.{RoundRobin}
 use Rattle.sa_command.specs.declared.command.PackageWord.TheVariants.{Fast}
 use Rattle.sa_command.specs.declared.command.Command.{Command}
-use Rattle.sa_command.specs.declared.command.Command.TheVariants.{Run, Threads, Load, Migrate, Check, Vp, Debug}
+use Rattle.sa_command.specs.declared.command.Command.TheVariants.{Run, Threads, Load, Migrate, Check, Vp, Debug, Explore}
 use Rattle.sa_command.specs.declared.options.Options.{Options}
+use Rattle.sa_command.specs.declared.explore.TheConstants.{DEFAULT_STATES}
+use Rattle.sa_states.specs.declared.TheConstants.{MAX_STATES}
 use Rattle.sa_command.specs.declared.options.Settings.{Settings}
 use Rattle.sa_text.specs.Number.{number_of}
-use Rattle.sa_command.specs.Values.{within, number_within, schedule_of, package_of}
-use Rattle.sa_command.specs.Commands.{with_schedule, with_budget, with_burst, with_package, with_option, settings_of, nothing_set, set_by, run_options, threads_options, turn_options, budget_option, package_option, run_of, threads_of, load_of, migrate_of, check_of, vp_of, debug_of, named, command_of}
+use Rattle.sa_command.specs.Values.{within, number_within, schedule_of, package_of, give_of}
+use Rattle.sa_command.specs.Commands.{with_schedule, with_budget, with_burst, with_package, with_states, with_give, with_option, settings_of, nothing_set, set_by, run_options, threads_options, turn_options, budget_option, package_option, explore_options, run_of, threads_of, load_of, migrate_of, check_of, vp_of, debug_of, explore_of, named, command_of}
 use Rattle.sa_command.specs.Ranges.{IsFrom, IsInRange, CommandsAreInRange}
 
 -- what holds of the value, if there is one, holds after a step that keeps it
@@ -54,6 +56,7 @@ number-within low high bytes =
 record AreFine (s : Settings) : Type 0 where
   budget : IfSome s.budget (IsFrom 1 MAX_EVENTS)
   burst : IfSome s.burst (IsFrom 1 MAX_BURST)
+  states : IfSome s.states (IsFrom 1 MAX_STATES)
 
 -- an option that is taken once, whose value is read so
 option-range : {A : Type 0} (P : A → Type 0) (set : A → Settings) (taken : Bool) (value : Option A) → IfSome value P → ((x : A) → P x → AreFine (set x))
@@ -63,20 +66,28 @@ option-range P set taken value h keeps = chosen AreFine taken (option_map set va
 with_option-range : (taken : Options) (s : Settings) (name value : List ℕ) → AreFine s → IfSome (with_option taken s name value) AreFine
 with_option-range taken s name value h =
     let burst = option-range (IsFrom 1 MAX_BURST) (λ n. record s { burst = Some n }) (taken.burst && is_none s.burst) (number_within 1 MAX_BURST value)
-    (number-within 1 MAX_BURST value) (λ n k. record { budget = h.budget; burst = k }) in
+    (number-within 1 MAX_BURST value) (λ n k. record { budget = h.budget; burst = k; states = h.states }) in
     let budget = option-range (IsFrom 1 MAX_EVENTS) (λ n. record s { budget = Some n }) (taken.budget && is_none s.budget) (number_within 1 MAX_EVENTS value)
-    (number-within 1 MAX_EVENTS value) (λ n k. record { budget = k; burst = h.burst }) in
+    (number-within 1 MAX_EVENTS value) (λ n k. record { budget = k; burst = h.burst; states = h.states }) in
     let schedule = option-range (λ x. ⊤) (λ x. record s { schedule = Some x }) (taken.schedule && is_none s.schedule) (schedule_of value)
-    (any (schedule_of value)) (λ x k. record { budget = h.budget; burst = h.burst }) in
+    (any (schedule_of value)) (λ x k. record { budget = h.budget; burst = h.burst; states = h.states }) in
     let user_level = option-range (λ x. ⊤) (λ x. record s { user_level = Some x }) (taken.user_level && is_none s.user_level) (package_of value)
-    (any (package_of value)) (λ x k. record { budget = h.budget; burst = h.burst }) in
-    let last = if bytes_eq name (codes "--package") then with_package taken s value else None in
+    (any (package_of value)) (λ x k. record { budget = h.budget; burst = h.burst; states = h.states }) in
+    let states = option-range (IsFrom 1 MAX_STATES) (λ n. record s { states = Some n }) (taken.states && is_none s.states) (number_within 1 MAX_STATES value)
+    (number-within 1 MAX_STATES value) (λ n k. record { budget = h.budget; burst = h.burst; states = k }) in
+    let give = option-range (λ x. ⊤) (λ x. record s { give = Some x }) (taken.give && is_none s.give) (give_of value)
+    (any (give_of value)) (λ x k. record { budget = h.budget; burst = h.burst; states = h.states }) in
+    let gives = if bytes_eq name (codes "--give") then with_give taken s value else None in
+    let keeps = if bytes_eq name (codes "--states") then with_states taken s value else gives in
+    let last = if bytes_eq name (codes "--package") then with_package taken s value else keeps in
     let behind = if bytes_eq name (codes "--burst") then with_burst taken s value else last in
     chosen AreFine (bytes_eq name (codes "--schedule")) (with_schedule taken s value)
     (if bytes_eq name (codes "--budget") then with_budget taken s value else behind) schedule
     (chosen AreFine (bytes_eq name (codes "--budget")) (with_budget taken s value) behind budget
     (chosen AreFine (bytes_eq name (codes "--burst")) (with_burst taken s value) last burst
-    (chosen AreFine (bytes_eq name (codes "--package")) (with_package taken s value) None user_level tt)))
+    (chosen AreFine (bytes_eq name (codes "--package")) (with_package taken s value) keeps user_level
+    (chosen AreFine (bytes_eq name (codes "--states")) (with_states taken s value) gives states
+    (chosen AreFine (bytes_eq name (codes "--give")) (with_give taken s value) None give tt)))))
 
 settings-range : (taken : Options) (s : Settings) (words : List (List ℕ)) → AreFine s → IfSome (settings_of taken s words) AreFine
 settings-range taken s [] h = h
@@ -86,7 +97,7 @@ settings-range taken s (name ∷ value ∷ words) h =
     (λ t k. settings-range taken t words k)
 
 set-range : (taken : Options) (words : List (List ℕ)) → IfSome (set_by taken words) AreFine
-set-range taken words = settings-range taken nothing_set words (record { budget = tt; burst = tt })
+set-range taken words = settings-range taken nothing_set words (record { budget = tt; burst = tt; states = tt })
 
 -- the defaults are in range
 budget-range : (budget : Option ℕ) → IfSome budget (IsFrom 1 MAX_EVENTS) → IsFrom 1 MAX_EVENTS (unwrap_or budget DEFAULT_BUDGET)
@@ -96,6 +107,10 @@ budget-range (Some n) h = h
 burst-range : (burst : Option ℕ) → IfSome burst (IsFrom 1 MAX_BURST) → IsFrom 1 MAX_BURST (unwrap_or burst DEFAULT_BURST)
 burst-range None h = record { least = lit≤ tt; most = lit≤ tt }
 burst-range (Some n) h = h
+
+states-range : (states : Option ℕ) → IfSome states (IsFrom 1 MAX_STATES) → IsFrom 1 MAX_STATES (unwrap_or states DEFAULT_STATES)
+states-range None h = record { least = lit≤ tt; most = lit≤ tt }
+states-range (Some n) h = h
 
 run-range : (words : List (List ℕ)) → IfSome (run_of words) IsInRange
 run-range words =
@@ -138,9 +153,15 @@ debug-range words =
     mapped AreFine IsInRange (λ s. Debug (unwrap_or s.budget DEFAULT_BUDGET)) (set_by budget_option words)
     (set-range budget_option words) (λ s h. budget-range s.budget h.budget)
 
+explore-range : (words : List (List ℕ)) → IfSome (explore_of words) IsInRange
+explore-range words =
+    mapped AreFine IsInRange (λ s. Explore (unwrap_or s.states DEFAULT_STATES) (unwrap_or s.user_level Fast) s.give) (set_by explore_options words)
+    (set-range explore_options words) (λ s h. states-range s.states h.states)
+
 named-range : (name : List ℕ) (words : List (List ℕ)) → IfSome (named name words) IsInRange
 named-range name words =
-    let debugs = if bytes_eq name (codes "debug") then debug_of words else None in
+    let explores = if bytes_eq name (codes "explore") then explore_of words else None in
+    let debugs = if bytes_eq name (codes "debug") then debug_of words else explores in
     let virtual = if bytes_eq name (codes "vp") then vp_of words else debugs in
     let checks = if bytes_eq name (codes "check") then check_of words else virtual in
     let migrates = if bytes_eq name (codes "migrate") then migrate_of words else checks in
@@ -152,7 +173,8 @@ named-range name words =
     (chosen IsInRange (bytes_eq name (codes "migrate")) (migrate_of words) checks (migrate-range words)
     (chosen IsInRange (bytes_eq name (codes "check")) (check_of words) virtual (check-range words)
     (chosen IsInRange (bytes_eq name (codes "vp")) (vp_of words) debugs (vp-range words)
-    (chosen IsInRange (bytes_eq name (codes "debug")) (debug_of words) None (debug-range words) tt))))))
+    (chosen IsInRange (bytes_eq name (codes "debug")) (debug_of words) explores (debug-range words)
+    (chosen IsInRange (bytes_eq name (codes "explore")) (explore_of words) None (explore-range words) tt)))))))
 
 command-range : (words : List (List ℕ)) → IfSome (command_of words) IsInRange
 command-range [] = tt

@@ -7,18 +7,22 @@ use Rattle.sa_base.specs.declared.limits.TheConstants.{MAX_BURST, MAX_EVENTS, DE
 use Rattle.sa_command.specs.declared.command.ScheduleWord.TheVariants.{RoundRobin}
 use Rattle.sa_command.specs.declared.command.PackageWord.TheVariants.{Fast}
 use Rattle.sa_command.specs.declared.command.Command.{Command}
-use Rattle.sa_command.specs.declared.command.Command.TheVariants.{Run, Threads, Load, Migrate, Check, Vp, Debug}
+use Rattle.sa_command.specs.declared.command.Command.TheVariants.{Run, Threads, Load, Migrate, Check, Vp, Debug, Explore}
 use Rattle.sa_command.specs.declared.options.Options.{Options}
 use Rattle.sa_command.specs.declared.options.Settings.{Settings}
 use Rattle.sa_command.specs.declared.options.TheConstants.{NO_OPTIONS}
+use Rattle.sa_command.specs.declared.explore.TheConstants.{DEFAULT_STATES}
+use Rattle.sa_states.specs.declared.TheConstants.{MAX_STATES}
 use Rattle.sa_text.specs.Number.{number_of}
-use Rattle.sa_command.specs.Values.{number_within, schedule_of, package_of}
+use Rattle.sa_command.specs.Values.{number_within, schedule_of, package_of, give_of}
 
 -- the options: a name, and what its value may be
 --   --schedule   an order of turns; `rr` where it is left out
 --   --budget     1 to the greatest number of events; the default budget where it is left out
 --   --burst      1 to the greatest number of instructions of a burst; the default burst where it is left out
 --   --package    a user level; `fast` where it is left out
+--   --states     1 to the greatest number of states; the default number where it is left out
+--   --give       a schedule that is asked for; none where it is left out
 abbrev pub with_schedule : Options → Settings → List ℕ → Option Settings
 with_schedule taken s value =
     if taken.schedule && is_none s.schedule then option_map (λ x. record s { schedule = Some x }) (schedule_of value) else None
@@ -35,12 +39,22 @@ abbrev pub with_package : Options → Settings → List ℕ → Option Settings
 with_package taken s value =
     if taken.user_level && is_none s.user_level then option_map (λ x. record s { user_level = Some x }) (package_of value) else None
 
+abbrev pub with_states : Options → Settings → List ℕ → Option Settings
+with_states taken s value =
+    if taken.states && is_none s.states then option_map (λ n. record s { states = Some n }) (number_within 1 MAX_STATES value) else None
+
+abbrev pub with_give : Options → Settings → List ℕ → Option Settings
+with_give taken s value =
+    if taken.give && is_none s.give then option_map (λ x. record s { give = Some x }) (give_of value) else None
+
 abbrev pub with_option : Options → Settings → List ℕ → List ℕ → Option Settings
 with_option taken s name value =
     if bytes_eq name (codes "--schedule") then with_schedule taken s value
     else (if bytes_eq name (codes "--budget") then with_budget taken s value
     else (if bytes_eq name (codes "--burst") then with_burst taken s value
-    else (if bytes_eq name (codes "--package") then with_package taken s value else None)))
+    else (if bytes_eq name (codes "--package") then with_package taken s value
+    else (if bytes_eq name (codes "--states") then with_states taken s value
+    else (if bytes_eq name (codes "--give") then with_give taken s value else None)))))
 
 -- the settings after these words, which come in pairs
 abbrev pub settings_of : Options → Settings → List (List ℕ) → Option Settings
@@ -49,7 +63,7 @@ settings_of taken s (word ∷ []) = None
 settings_of taken s (name ∷ value ∷ words) = option_and_then (λ t. settings_of taken t words) (with_option taken s name value)
 
 abbrev pub nothing_set : Settings
-nothing_set = record { schedule = None; budget = None; burst = None; user_level = None }
+nothing_set = record { schedule = None; budget = None; burst = None; user_level = None; states = None; give = None }
 
 abbrev pub set_by : Options → List (List ℕ) → Option Settings
 set_by taken words = settings_of taken nothing_set words
@@ -62,6 +76,7 @@ set_by taken words = settings_of taken nothing_set words
 --   check                     --package
 --   vp                        --schedule, --budget
 --   debug                     --budget
+--   explore                   --states, --package, --give
 abbrev pub run_options : Options
 run_options = record NO_OPTIONS { schedule = true; budget = true; user_level = true }
 
@@ -76,6 +91,9 @@ budget_option = record NO_OPTIONS { budget = true }
 
 abbrev pub package_option : Options
 package_option = record NO_OPTIONS { user_level = true }
+
+abbrev pub explore_options : Options
+explore_options = record NO_OPTIONS { states = true; user_level = true; give = true }
 
 abbrev pub run_of : List (List ℕ) → Option Command
 run_of words =
@@ -106,6 +124,10 @@ abbrev pub debug_of : List (List ℕ) → Option Command
 debug_of words =
     option_map (λ s. Debug (unwrap_or s.budget DEFAULT_BUDGET)) (set_by budget_option words)
 
+abbrev pub explore_of : List (List ℕ) → Option Command
+explore_of words =
+    option_map (λ s. Explore (unwrap_or s.states DEFAULT_STATES) (unwrap_or s.user_level Fast) s.give) (set_by explore_options words)
+
 abbrev pub named : List ℕ → List (List ℕ) → Option Command
 named name words =
     if bytes_eq name (codes "run") then run_of words
@@ -114,7 +136,8 @@ named name words =
     else (if bytes_eq name (codes "migrate") then migrate_of words
     else (if bytes_eq name (codes "check") then check_of words
     else (if bytes_eq name (codes "vp") then vp_of words
-    else (if bytes_eq name (codes "debug") then debug_of words else None))))))
+    else (if bytes_eq name (codes "debug") then debug_of words
+    else (if bytes_eq name (codes "explore") then explore_of words else None)))))))
 
 -- the command of the words after the program's name
 abbrev pub command_of : List (List ℕ) → Option Command

@@ -8,6 +8,8 @@ use Rattle.sa_command.specs.declared.command.ScheduleWord.{ScheduleWord}
 use Rattle.sa_command.specs.declared.command.ScheduleWord.TheVariants.{RoundRobin, Seed, Given, Hold}
 use Rattle.sa_command.specs.declared.command.PackageWord.{PackageWord}
 use Rattle.sa_command.specs.declared.command.PackageWord.TheVariants.{Fast, Prio}
+use Rattle.sa_command.specs.declared.command.GiveWord.{GiveWord}
+use Rattle.sa_command.specs.declared.command.GiveWord.TheVariants.{AllDone, Stuck, Endless}
 
 -- a number from the one to the other
 abbrev pub within : ℕ → ℕ → ℕ → Option ℕ
@@ -54,3 +56,9 @@ schedule_of word =
 abbrev pub package_of : List ℕ → Option PackageWord
 package_of word =
     if bytes_eq word (codes "fast") then Some Fast else (if bytes_eq word (codes "prio") then Some Prio else None)
+
+-- a word of a schedule that is asked for: `alldone`, `stuck` or `endless`
+abbrev pub give_of : List ℕ → Option GiveWord
+give_of word =
+    if bytes_eq word (codes "alldone") then Some AllDone
+    else (if bytes_eq word (codes "stuck") then Some Stuck else (if bytes_eq word (codes "endless") then Some Endless else None))

@@ -22,6 +22,17 @@ pub enum PackageWord {
     Prio,
 }
 
+/// The schedule that an exploration is asked for.
+#[derive(Clone, Copy, Debug, PartialEq, Eq)]
+pub enum GiveWord {
+    /// `alldone`: the one to all threads done.
+    AllDone,
+    /// `stuck`: the one to a stuck end.
+    Stuck,
+    /// `endless`: the one to a state from which no order of turns ever ends.
+    Endless,
+}
+
 /// What the program is asked to do.
 #[derive(Clone, Copy, Debug, PartialEq, Eq)]
 pub enum Command {
@@ -59,5 +70,12 @@ pub enum Command {
     /// Debugs the workload of standard input by the script that follows it, for at most that many events, 1 to 1,000,000.
     Debug {
         budget: u64,
+    },
+    /// Goes through every order of turns of the workload of standard input with this user level, and keeps at most that many
+    /// states, 1 to 10,000,000. Where a schedule is asked for, the answer is the workload with that schedule as its turn lines.
+    Explore {
+        states: u32,
+        user_level: PackageWord,
+        give: Option<GiveWord>,
     },
 }

@@ -4,6 +4,7 @@
 mod check;
 mod command;
 mod debug;
+mod explore;
 pub mod laws;
 mod options;
 mod read;
@@ -12,6 +13,7 @@ mod value;
 mod vp;
 mod words;
 
-pub use command::{Command, PackageWord, ScheduleWord};
+pub use command::{Command, GiveWord, PackageWord, ScheduleWord};
+pub use explore::DEFAULT_STATES;
 pub use read::read_words;
 pub use words::Words;

@@ -1,9 +1,10 @@
 ghost use Rattle.std.specs.Prelude.{◌≡◌, map, length, string_bytes};
-ghost use Rattle.sa_command.specs.Commands.{with_schedule, with_budget, with_burst, with_package, with_option, settings_of, set_by};
+ghost use Rattle.sa_command.specs.Commands.{with_schedule, with_budget, with_burst, with_package, with_states, with_give, with_option, settings_of, set_by};
 
-use crate::command::{PackageWord, ScheduleWord};
-use crate::value::{read_package, read_schedule, read_within};
+use crate::command::{GiveWord, PackageWord, ScheduleWord};
+use crate::value::{read_give, read_package, read_schedule, read_within};
 use sa_base::{MAX_BURST, MAX_EVENTS};
+use sa_states::MAX_STATES;
 
 // Which options a command takes.
 #[derive(Clone, Copy)]
@@ -12,6 +13,8 @@ pub(crate) struct Options {
     pub(crate) budget: bool,
     pub(crate) burst: bool,
     pub(crate) user_level: bool,
+    pub(crate) states: bool,
+    pub(crate) give: bool,
 }
 
 // No option: a command says which it takes beside it.
@@ -20,6 +23,8 @@ pub(crate) const NO_OPTIONS: Options = Options {
     budget: false,
     burst: false,
     user_level: false,
+    states: false,
+    give: false,
 };
 
 // What the options of a command set.
@@ -29,6 +34,8 @@ pub(crate) struct Settings {
     pub(crate) budget: Option<u64>,
     pub(crate) burst: Option<u16>,
     pub(crate) user_level: Option<PackageWord>,
+    pub(crate) states: Option<u32>,
+    pub(crate) give: Option<GiveWord>,
 }
 
 // What these words set of the options that are taken, or none where they are no such options.
@@ -40,6 +47,8 @@ pub(crate) fn read_options(taken: Options, words: &[String]) -> Option<Settings>
         budget: None,
         burst: None,
         user_level: None,
+        states: None,
+        give: None,
     };
     read_settings(taken, nothing, words)
 }
@@ -73,6 +82,12 @@ fn with_option(taken: Options, settings: Settings, name: &str, value: &[u8]) -> 
     }
     if name == "--package" {
         return with_package(taken, settings, value);
+    }
+    if name == "--states" {
+        return with_states(taken, settings, value);
+    }
+    if name == "--give" {
+        return with_give(taken, settings, value);
     }
     None
 }
@@ -125,4 +140,26 @@ fn with_package(taken: Options, settings: Settings, value: &[u8]) -> Option<Sett
         user_level,
         ..settings
     })
+}
+
+// The option `--states`.
+fn with_states(taken: Options, settings: Settings, value: &[u8]) -> Option<Settings>
+    ensures { result ≡ with_states taken settings value.now }
+{
+    if !taken.states || settings.states.is_some() {
+        return None;
+    }
+    let states = Some(read_within(1, u64::from(MAX_STATES), value)? as u32);
+    Some(Settings { states, ..settings })
+}
+
+// The option `--give`.
+fn with_give(taken: Options, settings: Settings, value: &[u8]) -> Option<Settings>
+    ensures { result ≡ with_give taken settings value.now }
+{
+    if !taken.give || settings.give.is_some() {
+        return None;
+    }
+    let give = Some(read_give(value)?);
+    Some(Settings { give, ..settings })
 }

@@ -4,6 +4,7 @@ ghost use Rattle.sa_command.specs.Commands.{command_of, named, run_of, load_of, 
 use crate::check::read_check;
 use crate::command::{Command, PackageWord, ScheduleWord};
 use crate::debug::read_debug;
+use crate::explore::read_explore;
 use crate::options::{NO_OPTIONS, Options, read_options};
 use crate::threads::read_threads;
 use crate::value::read_within;
@@ -52,6 +53,9 @@ fn read_named(name: &str, words: &[String]) -> Option<Command>
     }
     if name == "debug" {
         return read_debug(words);
+    }
+    if name == "explore" {
+        return read_explore(words);
     }
     None
 }

@@ -1,7 +1,7 @@
 ghost use Rattle.std.specs.Prelude.{◌≡◌, ◌<◌, ◌==◌, length, position, IfSome};
-ghost use Rattle.sa_command.specs.Values.{number_within, hold_by_parts, hold_of, schedule_of, package_of};
+ghost use Rattle.sa_command.specs.Values.{number_within, hold_by_parts, hold_of, schedule_of, package_of, give_of};
 
-use crate::command::{PackageWord, ScheduleWord};
+use crate::command::{GiveWord, PackageWord, ScheduleWord};
 use sa_base::{MAX_EVENTS, MAX_PROCESSORS, ProcNo};
 use sa_text::read_number;
 
@@ -65,6 +65,22 @@ pub(crate) fn read_package(word: &[u8]) -> Option<PackageWord>
     }
     if word == b"prio".as_slice() {
         return Some(PackageWord::Prio);
+    }
+    None
+}
+
+// The schedule that the word asks for.
+pub(crate) fn read_give(word: &[u8]) -> Option<GiveWord>
+    ensures { result ≡ give_of word.now }
+{
+    if word == b"alldone".as_slice() {
+        return Some(GiveWord::AllDone);
+    }
+    if word == b"stuck".as_slice() {
+        return Some(GiveWord::Stuck);
+    }
+    if word == b"endless".as_slice() {
+        return Some(GiveWord::Endless);
     }
     None
 }

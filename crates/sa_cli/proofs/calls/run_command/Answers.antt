@@ -1,10 +1,11 @@
 use Rattle.std.proofs.Common.{Some, sym, ap, subst, ◌∙◌, rules, arith}
-use Rattle.sa_command.specs.declared.command.Command.TheVariants.{Run, Load, Migrate, Check, Vp, Debug}
+use Rattle.sa_command.specs.declared.command.Command.TheVariants.{Run, Load, Migrate, Check, Vp, Debug, Explore}
 use Rattle.sa_cli.specs.declared.outcome.Status.{Status}
 use Rattle.sa_cli.specs.Outcome.{RanHere}
 use Rattle.sa_cli.specs.Streams.{UsesStreams, streams, world_by}
 use Rattle.sa_cli.specs.Commands.{MigrateAnswers, CheckAnswers}
 use Rattle.sa_cli.specs.Packages.{rules_by}
+use Rattle.sa_cli.specs.Exploring.{ExploreAnswers}
 use Rattle.sa_cli.proofs.TopCalls.{does-along, does, does-nothing}
 use Rattle.sa_io.proofs.InputLemmas.{loses-nothing}
 use Rattle.sa_cli.proofs.calls.run_command.Goals as goal
@@ -95,3 +96,23 @@ returns-in-Some-Debug g c =
     let said = c.debug_texts.ensures in
     does-along _ _ (sym (debug.is ∙ ap Some (rw debug.is at debug.field-0-is)))
     (does (Debug debug.budget) said.here (λ load. absurd load) said.uses said.answers)
+
+pub explore_text-requires : goal.explore_text-requires
+explore_text-requires g c =
+    let explores = c.in-Some-Explore in
+    let range =
+    c.requires.range (Explore explores.states explores.user_level explores.give) (explores.is ∙ ap Some (rw explores.is at explores.field-0-is)) in
+    record { some = range.least; few = range.most }
+
+pub returns-in-Some-Explore : goal.returns-in-Some-Explore
+returns-in-Some-Explore g c =
+    let told = world_by g.S.Source.left g.K.Sink.taken g.S.Source.faults g.K.Sink.faults in
+    let explores = c.in-Some-Explore in
+    let said = c.explore_text.ensures in
+    let outcome = c.nothing-in-Some-Explore.ensures in
+    let before = told (streams c.args.source.now c.args.sink.now) in
+    let after = told (streams c.explore_text.new.source c.explore_text.new.sink) in
+    does-along _ _ (sym (explores.is ∙ ap Some (rw explores.is at explores.field-0-is)))
+    (does (Explore explores.states explores.user_level explores.give) (subst RanHere (sym outcome.ran) tt) (λ load. absurd load)
+    (subst (UsesStreams _ _ _ _) (sym outcome.status) said.uses)
+    (outcome.ran, subst (λ (v : Status). ExploreAnswers explores.states explores.user_level explores.give before after v) (sym outcome.status) said.answers))

@@ -1,0 +1,27 @@
+// A history, replayed.
+ghost use Rattle.std.specs.Prelude.{◌≡◌, IfOk};
+ghost use Rattle.sa_laws.specs.State.{opening_state};
+ghost use Rattle.sa_debug.specs.Reached.{CanPlay};
+ghost use Rattle.sa_debug.specs.Views.{state_behind};
+
+use sa_base::Item;
+use sa_replay::Replay;
+use sa_spaces::Workload;
+use std::alloc::{AllocError, Global};
+
+/// The abstract machine after these items of a run of the workload.
+pub(crate) fn replayed(
+    alloc: Global,
+    workload: &Workload,
+    items: &[Item],
+) -> Result<Replay, AllocError>
+    requires { CanPlay workload.now (opening_state workload.now) items.now }
+    ensures { IfOk result (λ replay.
+        replay.state ≡ state_behind workload.now (opening_state workload.now) items.now) }
+{
+    let mut replay = Replay::start(alloc, workload)?;
+    for item in items {
+        replay.change(item.proc, &item.what)?;
+    }
+    Ok(replay)
+}
