@@ -1,5 +1,5 @@
 -- What is answered of every order of turns of a workload, after its turn lines.
-use Rattle.std.specs.Prelude.{◌≡◌, ℕ, ◌+◌, ◌⊎◌, Bool, List, length, Option, Some, None}
+use Rattle.std.specs.Prelude.{◌≡◌, ℕ, ◌+◌, ◌≤◌, ◌⊎◌, Bool, List, length, Option, Some, None}
 use Rattle.sa_base.specs.declared.number.ProcNo.{ProcNo}
 use Rattle.sa_base.specs.declared.record.End.{End}
 use Rattle.sa_base.specs.declared.limits.TheConstants.{MAX_EVENTS}
@@ -11,10 +11,18 @@ use Rattle.sa_outlook.specs.Outlook.{outlook}
 use Rattle.sa_explore_model.specs.declared.answer.Extent.TheVariants.{All, Part}
 use Rattle.sa_explore_model.specs.declared.answer.Found.{Found}
 use Rattle.sa_explore_model.specs.declared.answer.Explored.{Explored}
-use Rattle.sa_explore_model.specs.Answer.{found_of, LeadsToEnd, IsLeast, IsComplete, IsCounted, IsDepth, AreEndless}
+use Rattle.sa_explore_model.specs.Answer.{found_of, IsKept, LeadsToEnd, IsLeast, IsComplete, IsCounted, IsDepth, AreEndless}
 use Rattle.sa_explore_runs.specs.Runs.{end, IsOpenTurn, IsBegun, IsWay}
 
 module _ {U C D : Type 0} (f : Calls U C) (plain : Option SpaceView → C → D) (w : WorkloadView) where
+  -- one turn more than so many leads to an outlook of which no machine is kept
+  pub record IsBeyond (begun : List ProcNo) (kept : List (Machine U C)) (depth : ℕ) : Type 0 where
+    pub turns : List ProcNo
+    pub machine : Machine U C
+    pub way : IsWay f w begun turns machine
+    pub long : length turns ≡ depth + 1
+    pub new : IsKept (outlook plain) kept machine → ⊥
+
   pub record IsExplored (most : ℕ) (x : Explored) : Type 0 where
     pub begun : List ProcNo
     pub begins : IsBegun f w begun
@@ -26,9 +34,10 @@ module _ {U C D : Type 0} (f : Calls U C) (plain : Option SpaceView → C → D)
     -- one machine is kept for each outlook
     pub kept : List (Machine U C)
     pub counted : IsCounted (outlook plain) (end f) (IsWay f w begun) x kept
+    pub few : x.states ≤ most
     pub depth : x.extent ≡ All → IsDepth (outlook plain) (end f) (IsWay f w begun) x.depth
-    -- not all were looked at only where the states were spent, or where a run came to the most events
-    pub spent : x.extent ≡ Part → (x.states ≡ most) ⊎ (length begun + x.depth ≡ MAX_EVENTS)
+    -- not all were looked at only where the states were spent before those of the next turn, or where a run came to the most events
+    pub spent : x.extent ≡ Part → ((x.states ≡ most) × IsBeyond begun kept x.depth) ⊎ (length begun + x.depth ≡ MAX_EVENTS)
     -- of which states no order of turns ever ends is said where all were looked at
     pub marks : List Bool
     pub endless : x.extent ≡ All → AreEndless (outlook plain) (end f) (IsWay f w begun) (IsOpenTurn f) begun kept marks x.endless

@@ -1,8 +1,13 @@
 //! A search through every order of turns of a workload, breadth first, over any user level of which bytes say the value.
 #![tactic(auto)]
 
-mod explore;
+mod answer;
+mod begin;
+mod expand;
+mod orders;
 mod progress;
+mod replay;
+mod search;
 
-pub use explore::explore;
+pub use orders::explore;
 pub use progress::{NoProgress, Progress};

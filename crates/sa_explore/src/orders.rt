@@ -2,7 +2,9 @@
 ghost use Rattle.std.specs.Prelude.{◌≤◌, IfOk};
 ghost use Rattle.sa_explore.specs.Explored.{IsExplored};
 
+use crate::begin::begin;
 use crate::progress::Progress;
+use crate::search::{Scope, Search};
 use sa_explore_model::Explored;
 use sa_keys::Keyed;
 use sa_spaces::Workload;
@@ -21,7 +23,14 @@ pub fn explore<U: Keyed, P: Progress>(
     requires few { most ≤ MAX_STATES }
     ensures { IfOk result (IsExplored U.calls U.plain workload.now most) }
 {
-    let _alloc = alloc;
-    progress.tell(0, 0);
-    Err(AllocError)
+    let first = begin::<U>(alloc, workload)?;
+    let begun = &workload.turns()[..first.turns];
+    let scope = Scope {
+        workload: workload.copy(alloc)?,
+        begun: Vec::from_slice(alloc, begun)?,
+        most,
+    };
+    let mut search = Search::start::<U>(alloc, &scope, &first.core)?;
+    let stopped = search.go_through::<U, P>(alloc, &scope, progress)?;
+    search.answer::<U>(alloc, &scope, &stopped)
 }

@@ -1,0 +1,15 @@
+use Rattle.std.proofs.Common.{◌≡◌, List, take, sym, ap, ◌∙◌, subst}
+use Rattle.sa_base.specs.declared.number.ProcNo.{ProcNo}
+use Rattle.sa_spaces.specs.Workload.{WorkloadView}
+use Rattle.sa_core.specs.View.{machine}
+use Rattle.sa_explore_runs.specs.Runs.{LeadTo}
+use Rattle.sa_explore.proofs.orders.explore.Goals as goal
+
+pub start-requires-clause-leads : goal.start-requires-clause-leads
+start-requires-clause-leads g c = λ lt lives.
+    let f = g.U.UserLevel.calls in
+    let m = machine c.in_ok-first.first.core in
+    let turns : c.in_ok-from_slice.field-0.items ≡ take c.in_ok-first.first.turns c.args.workload.now.turns =
+    c.in_ok-from_slice.ensures.items ∙ ap (λ (ps : List ProcNo). take c.in_ok-first.first.turns ps) c.turns.ensures.value in
+    subst (λ (w : WorkloadView). LeadTo f w c.in_ok-from_slice.field-0.items m) (sym c.in_ok-copy.ensures)
+    (subst (λ (ps : List ProcNo). LeadTo f c.args.workload.now ps m) (sym turns) c.in_ok-first.ensures.leads)
