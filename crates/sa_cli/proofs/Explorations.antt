@@ -1,5 +1,5 @@
 -- What `explore` answers, and that it is complete.
-use Rattle.std.proofs.Common.{◌≡◌, ℕ, List, Option, refl, sym, ap, subst, inl, inr}
+use Rattle.std.proofs.Common.{ℕ, List, Option, refl, sym, ap, subst, inl, inr}
 use Rattle.sa_workload.specs.Text.{IsText}
 use Rattle.sa_workload.specs.Bad.{BadAt}
 use Rattle.sa_command.specs.declared.command.PackageWord.{PackageWord}
