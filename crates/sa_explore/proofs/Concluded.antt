@@ -17,7 +17,7 @@ use Rattle.sa_explore_model.specs.Answer.{AreEndless}
 use Rattle.sa_explore_model.specs.Search.{way_to, IsSearch, IsStopped}
 use Rattle.sa_explore_model.proofs.Answered.{sound-of, least-of, complete-of, counted-of, depth-of}
 use Rattle.sa_explore_model.proofs.Endless.{endless-of}
-use Rattle.sa_states.specs.Answers.{IsAt, Answers}
+use Rattle.sa_states.specs.Answers.{Answers}
 use Rattle.sa_explore_runs.specs.Runs.{end, IsOpenTurn, IsBegun, IsWay}
 use Rattle.sa_explore_runs.proofs.Turns.{no-budget}
 use Rattle.sa_explore_runs.proofs.Systems.{OfSome, runs-are-searched}
@@ -41,7 +41,6 @@ module _ {U C D : Type 0} (f : Calls U C) (plain : Option SpaceView → C → D)
     pub next : ℕ
     pub some : next ≤ scope.workload.processors
     pub done : Done at next
-    pub at_end : IsAt extent (states_of search) at
     pub first : extent ≡ All → (next ≡ 0) × (at ≡ length (states_of search))
     pub spent : extent ≡ Part
         → IsFull f plain code scope done ⊎ (length scope.begun.items + length (way_to (states_of search) at) ≡ MAX_EVENTS)
@@ -51,7 +50,6 @@ module _ {U C D : Type 0} (f : Calls U C) (plain : Option SpaceView → C → D)
     next = 0;
     some = omega arith;
     done = stopped.0;
-    at_end = (stopped.0.searching.search.some, stopped.1);
     first = λ all. (refl, stopped.1);
     spent = λ part. absurd (cc);
   }
@@ -59,7 +57,6 @@ module _ {U C D : Type 0} (f : Calls U C) (plain : Option SpaceView → C → D)
     next = stopped.next;
     some = (let some = stopped.some in omega arith);
     done = stopped.done;
-    at_end = stopped.within;
     first = λ all. absurd (cc);
     spent = λ part. stopped.spent;
   }
