@@ -1,9 +1,9 @@
 -- What a turn that is tried adds to a search, and what a search that stopped answers.
-use Rattle.std.proofs.Common.{◌≡◌, ℕ, zero, suc, ◌+◌, ◌<◌, ◌≤◌, ◌⊎◌, inl, inr, Bool, true, false, if◌then◌else◌, nat_lt, Option, Some, None, List, [], ◌∷◌, ◌++◌, length, slice_get, refl, sym, ap, subst, ◌∙◌, arith, append_assoc, length-append}
+use Rattle.std.proofs.Common.{◌≡◌, ℕ, zero, suc, ◌+◌, ◌<◌, ◌≤◌, ◌⊎◌, inl, inr, Bool, true, false, if◌then◌else◌, Option, Some, None, List, [], ◌∷◌, ◌++◌, length, slice_get, refl, sym, ap, subst, ◌∙◌, arith, append_assoc, length-append}
 use Rattle.std.proofs.lemmas.Bool.{cases_lt, cond_below, cond_above}
 use Rattle.std.proofs.lemmas.Option.{same_Some, slice_get_within}
 use Rattle.std.specs.Str.{bytes_eq}
-use Rattle.std.specs.Cmp.Lexicographic.{bytes_decides, nat_list_eq_equiv}
+use Rattle.std.specs.Cmp.Lexicographic.{bytes_decides}
 use Rattle.sa_lemmas.proofs.ListReads.{read-at}
 use Rattle.sa_lemmas.proofs.ListUpdates.{slice_get-append_left, slice_get-append_seam, slice_get-push_cases}
 use Rattle.sa_base.specs.declared.number.ProcNo.{ProcNo}
@@ -18,12 +18,12 @@ use Rattle.sa_outlook.specs.UserLevels.{IgnoresNumbers}
 use Rattle.sa_explore_model.specs.declared.answer.State.{State}
 use Rattle.sa_explore_model.specs.Search.{way_to, IsSearch}
 use Rattle.sa_explore_model.proofs.Ways.{way-push}
-use Rattle.sa_explore_model.proofs.Steps.{search-first, search-known, search-new, search-next}
+use Rattle.sa_explore_model.proofs.Steps.{search-first, search-known, search-new}
 use Rattle.sa_states.specs.Store.{StoreView, with_state, arrived_by, arrived}
 use Rattle.sa_explore_runs.specs.Runs.{end, IsOpenTurn, LeadTo, IsWay}
 use Rattle.sa_explore_runs.specs.Searching.{KeysTell, key_at, IsTried, IsSearching}
-use Rattle.sa_explore_runs.proofs.Turns.{turns-one, turns-join, run-of, IsOf, of-one, of-lead, leads-alike}
-use Rattle.sa_explore_runs.proofs.Systems.{nil-end, runs-are-searched}
+use Rattle.sa_explore_runs.proofs.Turns.{turns-one, turns-join, run-of, of-lead, leads-alike}
+use Rattle.sa_explore_runs.proofs.Systems.{nil-end}
 
 -- WHAT AN ARRIVAL IS: of a state that is kept, of a new one, or of one for which there is no room.
 pub record IsKnown (key : List ℕ) (old new : StoreView) (to : Option ℕ) : Type 0 where

@@ -1,5 +1,5 @@
 -- The runs of a workload as ways: how they begin, go on, and what each machine of them keeps.
-use Rattle.std.proofs.Common.{◌≡◌, ℕ, ◌+◌, ◌<◌, ◌≤◌, Bool, true, false, ◌||◌, Option, Some, None, List, [], ◌∷◌, ◌++◌, length, refl, sym, ap, subst, ◌∙◌, arith}
+use Rattle.std.proofs.Common.{◌≡◌, ℕ, ◌+◌, Bool, true, false, ◌||◌, Option, Some, None, List, [], ◌∷◌, ◌++◌, length, refl, sym, ap, subst, ◌∙◌, arith}
 use Rattle.sa_base.specs.declared.number.ProcNo.{ProcNo}
 use Rattle.sa_base.specs.declared.record.End.{End}
 use Rattle.sa_base.specs.declared.record.End.TheVariants.{AllDone, Stuck, Budget}
@@ -10,7 +10,7 @@ use Rattle.sa_abstract.specs.Keeps.{Standing, Keeps}
 use Rattle.sa_core_model.specs.Machine.{Machine}
 use Rattle.sa_core_model.specs.End.{all_done, is_stuck}
 use Rattle.sa_core_model.specs.Run.{opening, CanTurn, IsTurn}
-use Rattle.sa_core_model.proofs.Turns.{Rests, rests-turned}
+use Rattle.sa_core_model.proofs.Turns.{rests-turned}
 use Rattle.sa_outlook.specs.Outlook.{outlook}
 use Rattle.sa_outlook.specs.UserLevels.{IgnoresNumbers}
 use Rattle.sa_outlook.specs.Laws.{AreTurns, IsOfRun}

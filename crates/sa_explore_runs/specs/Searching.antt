@@ -1,7 +1,6 @@
 -- What a search has done, with the store in which it keeps the states.
-use Rattle.std.specs.Prelude.{◌≡◌, ℕ, ◌+◌, ◌<◌, ◌⊎◌, Bool, true, false, List, ◌++◌, length, Option, Some, None, slice_get}
+use Rattle.std.specs.Prelude.{◌≡◌, ℕ, List, Option, Some, None, slice_get}
 use Rattle.sa_base.specs.declared.number.ProcNo.{ProcNo}
-use Rattle.sa_base.specs.declared.limits.TheConstants.{MAX_EVENTS}
 use Rattle.sa_spaces.specs.Space.{SpaceView}
 use Rattle.sa_spaces.specs.Workload.{WorkloadView}
 use Rattle.sa_abstract.specs.Calls.{Calls}
@@ -9,7 +8,7 @@ use Rattle.sa_core_model.specs.Machine.{Machine}
 use Rattle.sa_outlook.specs.Outlook.{Outlook, outlook}
 use Rattle.sa_outlook.specs.Laws.{IsOfRun}
 use Rattle.sa_explore_model.specs.declared.answer.State.{State}
-use Rattle.sa_explore_model.specs.Search.{way_to, IsSearch}
+use Rattle.sa_explore_model.specs.Search.{IsSearch}
 use Rattle.sa_states.specs.Store.{StoreView}
 use Rattle.sa_explore_runs.specs.Runs.{end, IsOpenTurn, LeadTo, IsWay}
 
@@ -44,16 +43,3 @@ module _ {U C D : Type 0} (f : Calls U C) (plain : Option SpaceView → C → D)
       pub search : IsSearch (outlook plain) (end f) (IsWay f w begun) (IsOpenTurn f) w.processors store.states kept nexts at next
       pub numbered : (k : ℕ) (m : Machine U C) → slice_get kept k ≡ Some m → store.number (key_at m) ≡ Some k
       pub only : (bytes : List ℕ) (n : ℕ) → store.number bytes ≡ Some n → (m : Machine U C) × (slice_get kept n ≡ Some m) × (key_at m ≡ bytes)
-
-    -- the turn of a processor from a state could not be made, or where it led to could not be kept
-    pub record IsSpent (most : ℕ) (store : StoreView) (nexts : List ℕ) (at : ℕ) : Type 0 where
-      pub next : ℕ
-      pub some : next < w.processors
-      pub searching : IsSearching store nexts at next
-      pub within : at < length store.states
-      pub spent : (length store.states ≡ most) ⊎ (length begun + length (way_to store.states at) ≡ MAX_EVENTS)
-
-    -- all turns from a state were made, or not
-    abbrev pub IsExpanded : ℕ → Bool → StoreView → List ℕ → ℕ → Type 0
-    IsExpanded most true store nexts at = IsSearching store nexts (at + 1) 0
-    IsExpanded most false store nexts at = IsSpent most store nexts at
