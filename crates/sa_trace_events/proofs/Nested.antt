@@ -1,8 +1,8 @@
 -- The slices of one kind of a processor lie in those of an upper kind.
-use Rattle.std.proofs.Common.{◌≡◌, ℕ, ◌+◌, ◌<◌, ◌≤◌, ◌&&◌, Bool, true, false, List, [], ◌∷◌, ◌++◌, Option, Some, None, refl, sym, ap, subst, ◌∙◌, arith}
-use Rattle.std.specs.Prelude.{All, Contains, is_some, max, nat_lt, cond, ◌==◌}
+use Rattle.std.proofs.Common.{◌≡◌, ℕ, ◌+◌, ◌<◌, ◌≤◌, ◌&&◌, Bool, true, false, List, [], ◌∷◌, ◌++◌, Option, Some, None, refl, sym, subst, ◌∙◌, arith}
+use Rattle.std.specs.Prelude.{All, Contains, is_some, max, nat_lt, cond}
 use Rattle.std.proofs.lemmas.Bool.{ltb-true, lt-ltb, eqb-true, eq-eqb, and_parts, and_from}
-use Rattle.std.proofs.lemmas.List.Elements.{All-append, All-weaker, Contains-append_left, Contains-append_right}
+use Rattle.std.proofs.lemmas.List.Elements.{All-nil, All-cons, All-append, All-weaker, Contains-append_left, Contains-append_right}
 use Rattle.sa_base.specs.declared.number.ActNo.{ActNo}
 use Rattle.sa_base.specs.declared.number.ProcNo.{ProcNo}
 use Rattle.sa_base.specs.declared.number.SpaceNo.{SpaceNo}
@@ -78,8 +78,8 @@ module _ (p : ProcNo) (f c : Level) (Q : State → Type 0)
       (elim (nat_lt from to && shown_context f b) as (λ (v : Bool). (nat_lt from to && shown_context f b) ≡ v
       → All (Inside outer) (cond v (slice_of Fine from to b first last ∷ []) [])) [
         | true ↦ λ e. (let both = and_parts (nat_lt from to) (shown_context f b) e in
-            ((λ asked. lies (ltb-true from to both.0) both.1 asked), tt))
-        | false ↦ λ e. tt
+            All-cons (Inside outer) (slice_of Fine from to b first last) [] (λ asked. lies (ltb-true from to both.0) both.1 asked) (All-nil (Inside outer)))
+        | false ↦ λ e. All-nil (Inside outer)
       ]) refl
 
   -- a coarse slice that is shown goes on, at least up to the event at which the track is
@@ -94,20 +94,30 @@ module _ (p : ProcNo) (f c : Level) (Q : State → Type 0)
       }
   goes-on end (i ∷ is) k from clock to a x first s shown less most low high =
       step (same_context c a (context_after p x i))
+      (goes-on end is (k + 1) from (At clock i) to a (context_after p x i) first s shown less (omega arith) low high)
     where
-      step : (d : Bool) → LiesIn (From Coarse d end i is k from clock a x first) s
-      step true = goes-on end is (k + 1) from (At clock i) to a (context_after p x i) first s shown less (omega arith) low high
-      step false = lies-left _ _ s (record {
-        slice = slice_of Coarse from (At clock i) a first k;
-        there = closed-there from (At clock i) k clock a x first shown (omega arith);
-        from = low;
-        to = omega arith;
-      })
+      step : (d : Bool) → LiesIn (slices_from Coarse end (going from (At clock i) a (context_after p x i) first) (k + 1) is) s
+          → LiesIn (From Coarse d end i is k from clock a x first) s
+      step true rest = rest
+      step false rest =
+          lies-left (closed Coarse (going from clock a x first) (At clock i) k)
+          (slices_from Coarse end (going (At clock i) (At clock i) (context_after p x i) (context_after p x i) k) (k + 1) is) s
+          (record {
+            slice = slice_of Coarse from (At clock i) a first k;
+            there = closed-there from (At clock i) k clock a x first shown (omega arith);
+            from = low;
+            to = omega arith;
+          })
+
+  -- all the fine slices from here on lie in the coarse ones
+  abbrev Both : ℕ → List Item → ℕ → ℕ → ℕ → ℕ → Context → Context → Context → ℕ → ℕ → Type 0
+  Both end items k from1 from2 clock b a x first1 first2 =
+      All (Inside (slices_from Coarse end (going from2 clock a x first2) k items)) (slices_from Fine end (going from1 clock b x first1) k items)
 
   -- the coarse slice that goes on began before the fine one, and shows what that shows
   nested-from : (end : ℕ) (items : List Item) (k from1 from2 clock : ℕ) (b a x : Context) (first1 first2 : ℕ)
       → from2 ≤ from1 → from1 ≤ clock → same_context c a b ≡ true
-      → All (Inside (slices_from Coarse end (going from2 clock a x first2) k items)) (slices_from Fine end (going from1 clock b x first1) k items)
+      → Both end items k from1 from2 clock b a x first1 first2
   nested-from end [] k from1 from2 clock b a x first1 first2 before now same =
       closed-inside (slices_from Coarse end (going from2 clock a x first2) k []) from1 (max clock end) k clock b x first1
       (λ less shown asked. record {
@@ -118,31 +128,45 @@ module _ (p : ProcNo) (f c : Level) (Q : State → Type 0)
       })
   nested-from end (i ∷ is) k from1 from2 clock b a x first1 first2 before now same =
       step (same_context f b (context_after p x i)) (same_context c a (context_after p x i)) refl refl
+      (nested-from end is (k + 1) from1 from2 (At clock i) b a (context_after p x i) first1 first2 before (omega arith) same)
+      (λ h. nested-from end is (k + 1) (At clock i) from2 (At clock i) (context_after p x i) a (context_after p x i) k first2 (omega arith)
+      (omega arith) h)
+      (nested-from end is (k + 1) (At clock i) (At clock i) (At clock i) (context_after p x i) (context_after p x i) (context_after p x i) k k
+      (omega arith) (omega arith) (itself (context_after p x i)))
     where
       step : (g d : Bool) → same_context f b (context_after p x i) ≡ g → same_context c a (context_after p x i) ≡ d
+          → Both end is (k + 1) from1 from2 (At clock i) b a (context_after p x i) first1 first2
+          → (same_context c a (context_after p x i) ≡ true
+          → Both end is (k + 1) (At clock i) from2 (At clock i) (context_after p x i) a (context_after p x i) k first2)
+          → Both end is (k + 1) (At clock i) (At clock i) (At clock i) (context_after p x i) (context_after p x i) (context_after p x i) k k
           → All (Inside (From Coarse d end i is k from2 clock a x first2)) (From Fine g end i is k from1 clock b x first1)
-      step true true e h =
-          nested-from end is (k + 1) from1 from2 (At clock i) b a (context_after p x i) first1 first2 before (omega arith) same
-      step true false e h =
-          absurd (let on = joins a b (context_after p x i) same (coarser b (context_after p x i) e) in let no : true ≡ false = sym on ∙ h in cc)
-      step false true e h =
-          All-append (Inside (From Coarse true end i is k from2 clock a x first2)) (closed Fine (going from1 clock b x first1) (At clock i) k) _
+      step true true e h on other new = on
+      step true false e h on other new =
+          absurd (let same_still = joins a b (context_after p x i) same (coarser b (context_after p x i) e) in let no : true ≡ false = sym same_still ∙ h in cc)
+      step false true e h on other new =
+          All-append (Inside (From Coarse true end i is k from2 clock a x first2)) (closed Fine (going from1 clock b x first1) (At clock i) k)
+          (slices_from Fine end (going (At clock i) (At clock i) (context_after p x i) (context_after p x i) k) (k + 1) is)
           (closed-inside (From Coarse true end i is k from2 clock a x first2) from1 (At clock i) k clock b x first1
           (λ less shown asked. goes-on end is (k + 1) from2 (At clock i) (At clock i) a (context_after p x i) first2
           (slice_of Fine from1 (At clock i) b first1 k) (shows a b shown asked same) (omega arith) (omega arith) before (omega arith)))
-          (nested-from end is (k + 1) (At clock i) from2 (At clock i) (context_after p x i) a (context_after p x i) k first2 (omega arith) (omega arith) h)
-      step false false e h =
-          All-append (Inside (From Coarse false end i is k from2 clock a x first2)) (closed Fine (going from1 clock b x first1) (At clock i) k) _
+          (other h)
+      step false false e h on other new =
+          All-append (Inside (From Coarse false end i is k from2 clock a x first2)) (closed Fine (going from1 clock b x first1) (At clock i) k)
+          (slices_from Fine end (going (At clock i) (At clock i) (context_after p x i) (context_after p x i) k) (k + 1) is)
           (closed-inside (From Coarse false end i is k from2 clock a x first2) from1 (At clock i) k clock b x first1
-          (λ less shown asked. lies-left _ _ (slice_of Fine from1 (At clock i) b first1 k) (record {
+          (λ less shown asked. lies-left (closed Coarse (going from2 clock a x first2) (At clock i) k)
+          (slices_from Coarse end (going (At clock i) (At clock i) (context_after p x i) (context_after p x i) k) (k + 1) is)
+          (slice_of Fine from1 (At clock i) b first1 k) (record {
             slice = slice_of Coarse from2 (At clock i) a first2 k;
             there = closed-there from2 (At clock i) k clock a x first2 (shows a b shown asked same) (omega arith);
             from = before;
             to = omega arith;
           })))
-          (All-weaker _ _ (λ s lies asked. lies-right (closed Coarse (going from2 clock a x first2) (At clock i) k) _ s (lies asked)) _
-          (nested-from end is (k + 1) (At clock i) (At clock i) (At clock i) (context_after p x i) (context_after p x i) (context_after p x i) k k
-          (omega arith) (omega arith) (itself (context_after p x i))))
+          (All-weaker (Inside (slices_from Coarse end (going (At clock i) (At clock i) (context_after p x i) (context_after p x i) k) (k + 1) is))
+          (Inside (From Coarse false end i is k from2 clock a x first2))
+          (λ s lies asked. lies-right (closed Coarse (going from2 clock a x first2) (At clock i) k)
+          (slices_from Coarse end (going (At clock i) (At clock i) (context_after p x i) (context_after p x i) k) (k + 1) is) s (lies asked))
+          (slices_from Fine end (going (At clock i) (At clock i) (context_after p x i) (context_after p x i) k) (k + 1) is) new)
 
   pub nested : (span : Span) (items : List Item) → All (Inside (slices span items Coarse)) (slices span items Fine)
   nested span items =
@@ -202,17 +226,20 @@ owner-of a b h = let l = and_parts (same_owner a b && same_act a.act b.act) (sam
 abbrev Anything : State → Type 0
 Anything v = Unit {0}
 
+abbrev Asked : Span → List Item → ProcNo → Slice → Type 0
+Asked span items p s = Anything s.shown → LiesIn (slices span items (Processor p Owner)) s
+
 -- the activations and what a processor does lie in its owners
 pub in-owner : (span : Span) (items : List Item) (p : ProcNo)
     → All (LiesIn (slices span items (Processor p Owner))) (slices span items (Processor p Activation))
     × All (LiesIn (slices span items (Processor p Owner))) (slices span items (Processor p Work))
 in-owner span items p = (
-  All-weaker _ _ (λ s lies. lies tt) _
+  All-weaker (Asked span items p) (LiesIn (slices span items (Processor p Owner))) (λ s lies. lies tt) (slices span items (Processor p Activation))
       (nested p Activation Owner Anything (λ a b h. let l = and_parts (same_owner a b) (same_act a.act b.act) h in l.0) owner-joins
       (λ a. space-itself (owner a.look))
       (λ a b shown asked same. let l = and_parts (is_some (owner b.look)) (is_some b.act) shown in some-space (owner a.look) (owner b.look) l.0 same)
       span items),
-  All-weaker _ _ (λ s lies. lies tt) _
+  All-weaker (Asked span items p) (LiesIn (slices span items (Processor p Owner))) (λ s lies. lies tt) (slices span items (Processor p Work))
       (nested p Work Owner Anything (λ a b h. let l = and_parts (same_owner a b) (same_act a.act b.act) (owner-of a b h) in l.0) owner-joins
       (λ a. space-itself (owner a.look))
       (λ a b shown asked same. let l = and_parts (is_some (owner b.look)) (is_work b.look) shown in some-space (owner a.look) (owner b.look) l.0 same)

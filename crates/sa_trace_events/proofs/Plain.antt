@@ -1,5 +1,5 @@
 -- Names and lines need no escape.
-use Rattle.std.proofs.Common.{◌≡◌, ℕ, ◌^◌, ◌<◌, ◌≤◌, ◌&&◌, ◌||◌, Bool, true, false, eqb, leb, List, [], ◌∷◌, ◌++◌, Option, Some, None, refl, sym, ap, ◌∙◌, arith}
+use Rattle.std.proofs.Common.{◌≡◌, ℕ, ◌^◌, ◌<◌, ◌≤◌, ◌&&◌, ◌||◌, Bool, true, false, eqb, List, [], ◌∷◌, ◌++◌, Option, Some, None, refl, ◌∙◌, arith}
 use Rattle.std.specs.Prelude.{codes, decimal, nat_le}
 use Rattle.std.specs.List.{flat_map}
 use Rattle.std.proofs.lemmas.Bool.{le-leb, and_from}
@@ -34,7 +34,7 @@ use Rattle.sa_trace_events.specs.declared.slices.State.{State}
 use Rattle.sa_trace_events.specs.declared.slices.State.TheVariants as state
 use Rattle.sa_trace_events.specs.Slices.{level_of}
 use Rattle.sa_trace_events.specs.Words.{owner_name, act_name, work_name, context_name, doing_name, holder_name, state_name, words_of}
-use Rattle.sa_trace_events.specs.Laws.{is_plain_byte, is_plain, Fits, FitsLook, FitsAct, FitsDoing, FitsHolder, FitsState}
+use Rattle.sa_trace_events.specs.Laws.{is_plain_byte, is_plain, FitsLook, FitsAct, FitsDoing, FitsHolder, FitsState}
 
 plain-append : (xs ys : List ℕ) → is_plain xs ≡ true → is_plain ys ≡ true → is_plain (xs ++ ys) ≡ true
 plain-append xs ys p q = list_all-append is_plain_byte xs ys ∙ and_from (is_plain xs) (is_plain ys) p q

@@ -1,5 +1,5 @@
 -- What the tracks show: the state of each after an item.
-use Rattle.std.specs.Prelude.{ℕ, ◌+◌, ◌-◌, ◌^◌, Bool, true, false, not, ◌==◌, ◌&&◌, Option, Some, None, min, if◌then◌else◌}
+use Rattle.std.specs.Prelude.{◌+◌, ◌-◌, ◌^◌, Bool, true, false, not, ◌==◌, ◌&&◌, Option, Some, None, min, if◌then◌else◌}
 use Rattle.sa_base.specs.declared.number.ActNo.{ActNo}
 use Rattle.sa_base.specs.declared.number.ProcNo.{ProcNo}
 use Rattle.sa_base.specs.declared.number.SpaceNo.{SpaceNo}
@@ -9,7 +9,6 @@ use Rattle.sa_base.specs.declared.record.Note.{Note}
 use Rattle.sa_base.specs.declared.record.Note.TheVariants.{Add}
 use Rattle.sa_base.specs.declared.record.Record.{Record}
 use Rattle.sa_base.specs.declared.record.Record.TheVariants as what
-use Rattle.sa_shapes.specs.declared.look.Look.{Look}
 use Rattle.sa_shapes.specs.Change.{is_aimed, is_space, with_aim}
 use Rattle.sa_shapes.specs.Look.{look_after, owner, same_look}
 use Rattle.sa_trace_events.specs.declared.track.Count.{Count}
