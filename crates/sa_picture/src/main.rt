@@ -44,7 +44,9 @@ fn read_command_line(rt: &(impl Env + AllocGlobal)) -> Result<Vec<String>, Statu
 fn report(rt: &impl Eprint, status: Status) -> io::Result<()> {
     match status {
         Status::Usage => {
-            eprintln!(rt; "usage: sa_picture [--form svg|events] [--from EVENT] [--to EVENT] [--width PIXELS]")
+            eprintln!(rt;
+                "usage: sa_picture [--form svg|events] [--from EVENT] [--to EVENT] [--width PIXELS]"
+            )
         }
         Status::BadTrace(bad) => eprintln!(rt; "bad trace: {bad}"),
         Status::TooMuch => {
