@@ -8,7 +8,6 @@ use Rattle.sa_base.specs.declared.record.Note.{Note}
 use Rattle.sa_base.specs.declared.record.Note.TheVariants.{Add, Preempted, Blocked, Unblocked}
 use Rattle.sa_base.specs.declared.record.Record.{Record}
 use Rattle.sa_base.specs.declared.record.Record.TheVariants as what
-use Rattle.sa_svg.specs.Markup.{numbered}
 use Rattle.sa_svg.specs.Titles.{part}
 use Rattle.sa_trace.specs.TraceText.{record_text}
 use Rattle.sa_trace_events.specs.declared.track.Level.TheVariants.{Work}
@@ -81,27 +80,19 @@ mark_text i =
     then slice_head (codes "mark") ++ record_text i.what ++ slice_times 1 (1 + i.proc.0) i.event (min (i.event + 1) (2 ^ 64 - 1)) ++ quoted i ++ codes "]}}"
     else []
 
--- the ends of arrows: from a line that is raised to the upcall on its processor, from what a space is to be told to the upcall that tells it, and
--- from a ready list to where the thread is taken from it
+-- the ends of arrows from what a space is to be told to the upcall that tells it
 abbrev pub told_arrow : Note → Item → List ℕ
 told_arrow (Add p) i = []
 told_arrow (Preempted a) i = arrow_text (codes "f") (codes "preempted") a.0 i
 told_arrow (Blocked a) i = arrow_text (codes "f") (codes "blocked") a.0 i
 told_arrow (Unblocked a) i = arrow_text (codes "f") (codes "unblocked") a.0 i
 
-abbrev pub ready_arrow : List ℕ → SpaceNo → ThreadNo → Item → List ℕ
-ready_arrow phase s t i = arrow_text phase (numbered (codes "ready in space ") s.0) t.0 i
+abbrev pub notice_by : Record → Item → List ℕ
+notice_by (what.Stop s t a) i = arrow_text (codes "s") (codes "preempted") a.0 i
+notice_by (what.Block s t a io) i = arrow_text (codes "s") (codes "blocked") a.0 i
+notice_by (what.Unblock s t a) i = arrow_text (codes "s") (codes "unblocked") a.0 i
+notice_by (what.Told note) i = told_arrow note i
+notice_by other i = []
 
-abbrev pub arrow_by : Record → Item → List ℕ
-arrow_by (what.Line p) i = arrow_text (codes "s") (codes "line") p.0 i
-arrow_by (what.Up s a) i = arrow_text (codes "f") (codes "line") i.proc.0 i
-arrow_by (what.Ready s t) i = ready_arrow (codes "s") s t i
-arrow_by (what.Run s t) i = ready_arrow (codes "f") s t i
-arrow_by (what.Stop s t a) i = arrow_text (codes "s") (codes "preempted") a.0 i
-arrow_by (what.Block s t a io) i = arrow_text (codes "s") (codes "blocked") a.0 i
-arrow_by (what.Unblock s t a) i = arrow_text (codes "s") (codes "unblocked") a.0 i
-arrow_by (what.Told note) i = told_arrow note i
-arrow_by other i = []
-
-abbrev pub arrow_of : Item → List ℕ
-arrow_of i = arrow_by i.what i
+abbrev pub notice_of : Item → List ℕ
+notice_of i = notice_by i.what i

@@ -4,5 +4,6 @@ pub mod Slices
 pub mod Words
 pub mod Json
 pub mod Events
+pub mod Arrows
 pub mod Whole
 pub mod Laws

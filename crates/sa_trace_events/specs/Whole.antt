@@ -14,7 +14,9 @@ use Rattle.sa_trace_events.specs.declared.track.Level.TheVariants.{Owner, Activa
 use Rattle.sa_trace_events.specs.declared.track.Track.TheVariants as track
 use Rattle.sa_trace_events.specs.declared.whole.Shape.{Shape}
 use Rattle.sa_trace_events.specs.Json.{titled_text}
-use Rattle.sa_trace_events.specs.Events.{track_text, titled_track, mark_text, arrow_of}
+use Rattle.sa_trace_events.specs.Events.{track_text, titled_track, mark_text, notice_of}
+use Rattle.sa_trace_events.specs.declared.arrows.Arrow.TheVariants as arrow
+use Rattle.sa_trace_events.specs.Arrows.{ends_of}
 
 -- the thread that a record names
 abbrev pub thread_of : Record → Option ThreadNo
@@ -108,12 +110,32 @@ space_text span items shape s =
 abbrev pub spaces_text : Span → List Item → Shape → List ℕ
 spaces_text span items shape = flat_map (space_text span items shape) (range_with_len 0 shape.spaces)
 
+-- the arrows of the lines of the processors, and of the threads of the spaces
+abbrev pub line_ends : List Item → ℕ → List ℕ
+line_ends items p = ends_of items (arrow.Line (record { 0 = p }))
+
+abbrev pub lines_ends : List Item → ℕ → List ℕ
+lines_ends items lanes = flat_map (line_ends items) (range_with_len 0 lanes)
+
+abbrev pub thread_ends : List Item → ℕ → ℕ → List ℕ
+thread_ends items s t = ends_of items (arrow.Ready (record { 0 = s }) (record { 0 = t }))
+
+abbrev pub space_ends : List Item → ℕ → ℕ → List ℕ
+space_ends items threads s = flat_map (thread_ends items s) (range_with_len 0 threads)
+
+abbrev pub spaces_ends : List Item → Shape → List ℕ
+spaces_ends items shape = flat_map (space_ends items shape.threads) (range_with_len 0 shape.spaces)
+
+-- all the arrows
+unfoldable pub arrows_text : Shape → List Item → List ℕ
+arrows_text shape items = flat_map notice_of items ++ lines_ends items shape.lanes ++ spaces_ends items shape
+
 abbrev pub head : List ℕ
 head = codes "{\"displayTimeUnit\":\"ns\",\"traceEvents\":[\n{\"ph\":\"M\",\"name\":\"process_name\",\"pid\":1,\"tid\":0,\"args\":{\"name\":\"processors\"}}"
 
 unfoldable pub events_by : Span → Shape → List Item → List ℕ
 events_by span shape items =
-    head ++ lanes_text span items shape.lanes ++ spaces_text span items shape ++ flat_map mark_text items ++ flat_map arrow_of items
+    head ++ lanes_text span items shape.lanes ++ spaces_text span items shape ++ flat_map mark_text items ++ arrows_text shape items
     ++ codes "\n]}\n"
 
 abbrev pub events_text : List Item → List ℕ

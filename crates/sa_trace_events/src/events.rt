@@ -2,13 +2,13 @@
 ghost use Rattle.std.specs.Prelude.{◌≡◌, ◌++◌, OnOk, codes};
 ghost use Rattle.std.specs.List.{flat_map};
 ghost use Rattle.sa_svg.specs.Titles.{part};
-ghost use Rattle.sa_trace_events.specs.Events.{names_thread, concerns, line_if, rest_text, lines_text, slice_text, track_text, titled_track, has_mark, mark_text, arrow_of, ready_arrow, told_arrow};
+ghost use Rattle.sa_trace_events.specs.Events.{names_thread, concerns, line_if, rest_text, lines_text, slice_text, track_text, titled_track, has_mark, mark_text, notice_of, told_arrow};
 
 use crate::json::{push_arrow, push_quoted, push_slice_head, push_slice_times, push_titled};
 use crate::slices::{Slice, Span, push_slices};
 use crate::state::{is_thread, is_thread_of};
 use crate::track::{Level, Track};
-use crate::words::{category, push_numbered, push_state_name, push_track_name};
+use crate::words::{category, push_state_name, push_track_name};
 use sa_base::{Item, Note, Record, SpaceNo, ThreadNo};
 use sa_svg::push_record;
 use std::alloc::{AllocError, Global};
@@ -183,32 +183,11 @@ fn push_told(out: &mut Vec<u8>, note: Note, item: &Item) -> Result<(), AllocErro
     }
 }
 
-// Appends the end of the arrow from where a thread is put into a ready list to where it is taken from it.
-fn push_ready(
-    out: &mut Vec<u8>,
-    alloc: Global,
-    phase: &[u8],
-    s: SpaceNo,
-    t: ThreadNo,
-    item: &Item,
-) -> Result<(), AllocError>
-    ensures { OnOk result (out.new.items ≡ out.old.items ++ ready_arrow phase.now s t item.now) }
-{
-    let mut name = Vec::new(alloc);
-    push_numbered(&mut name, b"ready in space ", u64::from(s.0))?;
-    push_arrow(out, phase, &name, u64::from(t.0), item)
-}
-
-// Appends the end of an arrow that is at the item: of one from a line that is raised to the upcall there, of one from what a space is to be told
-// to the upcall that tells it, or of one from a ready list.
-pub(crate) fn push_arrow_of(out: &mut Vec<u8>, alloc: Global, item: &Item) -> Result<(), AllocError>
-    ensures { OnOk result (out.new.items ≡ out.old.items ++ arrow_of item.now) }
+// Appends the end of an arrow from what a space is to be told to the upcall that tells it, which is at the item.
+pub(crate) fn push_notice(out: &mut Vec<u8>, item: &Item) -> Result<(), AllocError>
+    ensures { OnOk result (out.new.items ≡ out.old.items ++ notice_of item.now) }
 {
     match item.what {
-        Record::Line(p) => push_arrow(out, b"s", b"line", u64::from(p.0), item),
-        Record::Up(_, _) => push_arrow(out, b"f", b"line", u64::from(item.proc.0), item),
-        Record::Ready(s, t) => push_ready(out, alloc, b"s", s, t, item),
-        Record::Run(s, t) => push_ready(out, alloc, b"f", s, t, item),
         Record::Stop(_, _, a) => push_arrow(out, b"s", b"preempted", a.0, item),
         Record::Block(_, _, a, _) => push_arrow(out, b"s", b"blocked", a.0, item),
         Record::Unblock(_, _, a) => push_arrow(out, b"s", b"unblocked", a.0, item),

@@ -1,6 +1,7 @@
 //! A trace as trace events: the text that viewers of the Trace Event Format open, which the items of the trace determine.
 #![tactic(auto)]
 
+mod arrows;
 mod events;
 mod json;
 pub mod laws;

@@ -1,10 +1,11 @@
 // The whole file.
 ghost use Rattle.std.specs.Prelude.{◌≡◌, ◌++◌, false, true, MatchOption, IfOk, OnOk, codes};
 ghost use Rattle.std.specs.List.{flat_map};
-ghost use Rattle.sa_trace_events.specs.Events.{mark_text, arrow_of};
-ghost use Rattle.sa_trace_events.specs.Whole.{thread_of, above_thread, threads_of, first_event, end_of, span_of, can_be_shown, lane_text, lanes_text, counts_text, lock_text, locks_text, thread_text, threads_text, space_head, space_text, spaces_text, events_by, events_text};
+ghost use Rattle.sa_trace_events.specs.Events.{mark_text, notice_of};
+ghost use Rattle.sa_trace_events.specs.Whole.{thread_of, above_thread, threads_of, first_event, end_of, span_of, can_be_shown, lane_text, lanes_text, counts_text, lock_text, locks_text, thread_text, threads_text, space_head, space_text, spaces_text, line_ends, lines_ends, thread_ends, space_ends, spaces_ends, arrows_text, events_by, events_text};
 
-use crate::events::{push_arrow_of, push_mark, push_titled_track, push_track};
+use crate::arrows::{Arrow, push_ends};
+use crate::events::{push_mark, push_notice, push_titled_track, push_track};
 use crate::json::push_titled;
 use crate::slices::Span;
 use crate::track::{Count, Level, Track};
@@ -60,7 +61,7 @@ fn push_events(
     push_lanes(out, alloc, span, items, shape.lanes)?;
     push_spaces(out, alloc, span, items, shape)?;
     push_marks(out, items)?;
-    push_arrows(out, alloc, items)?;
+    push_arrows(out, alloc, items, shape)?;
     out.extend_from_slice(b"\n]}\n")
 }
 
@@ -73,11 +74,70 @@ fn push_marks(out: &mut Vec<u8>, items: &[Item]) -> Result<(), AllocError>
     Ok(())
 }
 
-fn push_arrows(out: &mut Vec<u8>, alloc: Global, items: &[Item]) -> Result<(), AllocError>
-    ensures { OnOk result (out.new.items ≡ out.old.items ++ flat_map arrow_of items.now) }
+#[tactic(auto, unfolding(crate::specs::Whole::arrows_text))]
+fn push_arrows(
+    out: &mut Vec<u8>,
+    alloc: Global,
+    items: &[Item],
+    shape: Shape,
+) -> Result<(), AllocError>
+    ensures { OnOk result (out.new.items ≡ out.old.items ++ arrows_text shape items.now) }
+{
+    push_notices(out, items)?;
+    push_line_arrows(out, alloc, items, shape.lanes)?;
+    push_ready_arrows(out, alloc, items, shape)
+}
+
+fn push_notices(out: &mut Vec<u8>, items: &[Item]) -> Result<(), AllocError>
+    ensures { OnOk result (out.new.items ≡ out.old.items ++ flat_map notice_of items.now) }
 {
     for item in items {
-        push_arrow_of(out, alloc, item)?;
+        push_notice(out, item)?;
+    }
+    Ok(())
+}
+
+// Appends the arrows of the lines of the processors from 0 on.
+fn push_line_arrows(
+    out: &mut Vec<u8>,
+    alloc: Global,
+    items: &[Item],
+    lanes: u16,
+) -> Result<(), AllocError>
+    ensures { OnOk result (out.new.items ≡ out.old.items ++ lines_ends items.now lanes) }
+{
+    for p in 0..lanes {
+        push_ends(out, alloc, Arrow::Line(ProcNo(p)), items)?;
+    }
+    Ok(())
+}
+
+// Appends the arrows of the ready lists of the spaces from 0 on.
+fn push_ready_arrows(
+    out: &mut Vec<u8>,
+    alloc: Global,
+    items: &[Item],
+    shape: Shape,
+) -> Result<(), AllocError>
+    ensures { OnOk result (out.new.items ≡ out.old.items ++ spaces_ends items.now shape) }
+{
+    for s in 0..shape.spaces {
+        push_space_arrows(out, alloc, items, shape.threads, SpaceNo(s))?;
+    }
+    Ok(())
+}
+
+fn push_space_arrows(
+    out: &mut Vec<u8>,
+    alloc: Global,
+    items: &[Item],
+    threads: u16,
+    s: SpaceNo,
+) -> Result<(), AllocError>
+    ensures { OnOk result (out.new.items ≡ out.old.items ++ space_ends items.now threads s.0) }
+{
+    for t in 0..threads {
+        push_ends(out, alloc, Arrow::Ready(s, ThreadNo(t)), items)?;
     }
     Ok(())
 }

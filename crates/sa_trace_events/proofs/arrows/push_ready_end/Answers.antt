@@ -1,6 +1,6 @@
 use Rattle.std.proofs.Common.{◌≡◌, ℕ, ◌++◌, codes, List, ap, ◌∙◌}
 use Rattle.sa_svg.specs.Markup.{numbered}
-use Rattle.sa_trace_events.proofs.events.push_ready.Goals as goal
+use Rattle.sa_trace_events.proofs.arrows.push_ready_end.Goals as goal
 
 pub returns : goal.returns
 returns c =
