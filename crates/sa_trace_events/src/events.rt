@@ -136,7 +136,7 @@ pub(crate) fn push_titled_track(
     push_track(out, alloc, span, items, track)
 }
 
-// The record has a mark: what others can see is none that is only a step.
+// The record has a mark: each but an instruction, an aim, a new owner, a number that is given back, a look in vain, and a turn of nobody.
 fn has_mark(what: &Record) -> bool
     ensures { result ≡ has_mark what.now }
 {
