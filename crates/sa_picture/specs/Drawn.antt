@@ -1,5 +1,5 @@
--- What comes of an input: the picture of its trace, or why there is none.
-use Rattle.std.specs.Prelude.{◌≡◌, ⊤, ℕ, ◌-◌, ◌≤◌, List, [], ◌∷◌, length, slice_get, Option, Some, None, Ok, option_and_then, unwrap_or, min, if◌then◌else◌}
+-- What comes of an input: the picture of its trace, or its trace events, or why there is none.
+use Rattle.std.specs.Prelude.{◌≡◌, ⊤, true, false, ℕ, ◌-◌, ◌≤◌, List, [], ◌∷◌, length, slice_get, Option, Some, None, Ok, option_and_then, unwrap_or, min, if◌then◌else◌}
 use Rattle.sa_base.specs.declared.record.Item.{Item}
 use Rattle.sa_shapes.specs.declared.window.Window.{Window}
 use Rattle.sa_shapes.specs.Window.{window_to}
@@ -10,6 +10,9 @@ use Rattle.sa_svg.specs.Layout.{unit_of, layout_by}
 use Rattle.sa_svg.specs.Drawing.{file_text}
 use Rattle.sa_trace.specs.Reading.{Told, read_of}
 use Rattle.sa_picture.specs.declared.text.TheConstants.{INPUT_LIMIT}
+use Rattle.sa_trace_events.specs.Whole.{can_be_shown, events_text}
+use Rattle.sa_picture.specs.declared.request.Form.{Form}
+use Rattle.sa_picture.specs.declared.request.Form.TheVariants.{Svg, Events}
 use Rattle.sa_picture.specs.declared.request.Request.{Request}
 use Rattle.sa_picture.specs.declared.status.Status.{Status}
 use Rattle.sa_picture.specs.declared.status.Status.TheVariants.{BadTrace, TooMuch, OutOfMemory}
@@ -53,19 +56,28 @@ pub record HasText (r : Request) (items : List Item) (text : List ℕ) : Type 0 
   pub is : drawn_window r items ≡ Some window
   pub text_is : text ≡ picture_text window items r.width
 
--- these bytes are the text of the picture of the trace of which the input is the text
+-- the text of what is asked for, and that there is too much of it
+abbrev pub IsTextFor : Form → Request → List Item → List ℕ → Type 0
+IsTextFor Svg r items text = HasText r items text
+IsTextFor Events r items text = (can_be_shown items ≡ true) × (text ≡ events_text items)
+
+abbrev pub IsNoneFor : Form → Request → List Item → Type 0
+IsNoneFor Svg r items = drawn_window r items ≡ None
+IsNoneFor Events r items = can_be_shown items ≡ false
+
+-- these bytes are the text of the picture or of the trace events of the trace of which the input is the text
 pub record IsDrawn (r : Request) (input : List ℕ) (text : List ℕ) : Type 0 where
   pub short : length input ≤ INPUT_LIMIT
   pub told : Told
   pub read : read_of (trace_part input) ≡ Ok told
-  pub drawn : HasText r told.items text
+  pub drawn : IsTextFor r.form r told.items text
 
 -- there is too much to draw of the trace of which the input is the text
 pub record IsTooMuch (r : Request) (input : List ℕ) : Type 0 where
   pub short : length input ≤ INPUT_LIMIT
   pub told : Told
   pub read : read_of (trace_part input) ≡ Ok told
-  pub none : drawn_window r told.items ≡ None
+  pub none : IsNoneFor r.form r told.items
 
 abbrev pub IsNotDrawn : Request → List ℕ → Status → Type 0
 IsNotDrawn r input (BadTrace bad) = IsRefused input bad

@@ -1,4 +1,5 @@
-//! `sa_picture`: reads a trace text from standard input, and writes a picture of it to standard output, as one SVG file.
+//! `sa_picture`: reads a trace text from standard input, and writes a picture of it to standard output, as one SVG file, or its trace
+//! events.
 #![tactic(auto)]
 
 mod losses;
@@ -43,12 +44,14 @@ fn read_command_line(rt: &(impl Env + AllocGlobal)) -> Result<Vec<String>, Statu
 fn report(rt: &impl Eprint, status: Status) -> io::Result<()> {
     match status {
         Status::Usage => {
-            eprintln!(rt; "usage: sa_picture [--from EVENT] [--to EVENT] [--width PIXELS]")
+            eprintln!(rt;
+                "usage: sa_picture [--form svg|events] [--from EVENT] [--to EVENT] [--width PIXELS]"
+            )
         }
         Status::BadTrace(bad) => eprintln!(rt; "bad trace: {bad}"),
         Status::TooMuch => {
             eprintln!(rt;
-                "too much to draw: at most 10000 events and 40000 lines (--from, --to), 16 processors and 16 spaces"
+                "too much to draw: at most 16 processors and 16 spaces; a picture has at most 10000 events and 40000 lines (--from, --to), trace events 512 threads of a space"
             )
         }
         Status::ReadFault => eprintln!(rt; "read fault"),

@@ -1,13 +1,24 @@
 // What the program is asked to draw.
 ghost use Rattle.std.specs.Prelude.{◌≡◌, map, length, string_bytes};
-ghost use Rattle.sa_picture.specs.Request.{set_once, with_option, settings_of, in_order, request_by, request_of};
+ghost use Rattle.sa_picture.specs.Request.{set_once, form_of, set_form, with_option, settings_of, in_order, fits_form, request_by, request_of};
 
 use sa_svg::{DEFAULT_WIDTH, MAX_WIDTH, MIN_WIDTH};
 use sa_text::read_number;
 
-/// What the program is asked to draw: the events from one to another, each as it is where none is named, so wide in pixels.
+/// What is made of a trace.
+#[derive(Clone, Copy, Debug, PartialEq, Eq)]
+pub enum Form {
+    /// A picture.
+    Svg,
+    /// Trace events.
+    Events,
+}
+
+/// What the program is asked to draw: a picture of the events from one to another, each as it is where none is named, so wide in pixels; or
+/// trace events, of all events.
 #[derive(Clone, Copy, Debug, PartialEq, Eq)]
 pub struct Request {
+    pub form: Form,
     pub from: Option<u64>,
     pub to: Option<u64>,
     pub width: u64,
@@ -16,6 +27,7 @@ pub struct Request {
 /// What the words set.
 #[derive(Clone, Copy, Debug)]
 pub(crate) struct Settings {
+    pub(crate) form: Option<Form>,
     pub(crate) from: Option<u64>,
     pub(crate) to: Option<u64>,
     pub(crate) width: Option<u64>,
@@ -26,6 +38,7 @@ pub fn read_request(words: &[String]) -> Option<Request>
     ensures { result ≡ request_of (map string_bytes words.now) }
 {
     let nothing = Settings {
+        form: None,
         from: None,
         to: None,
         width: None,
@@ -33,14 +46,16 @@ pub fn read_request(words: &[String]) -> Option<Request>
     request_by(read_settings(nothing, words)?)
 }
 
-// The request of these settings, where its events are in order.
+// The request of these settings, where its events are in order, and no part is asked for where there is none.
 fn request_by(settings: Settings) -> Option<Request>
     ensures { result ≡ request_by settings }
 {
-    if !in_order(settings.from, settings.to) {
+    let form = settings.form.unwrap_or(Form::Svg);
+    if !in_order(settings.from, settings.to) || !fits_form(form, settings) {
         return None;
     }
     Some(Request {
+        form,
         from: settings.from,
         to: settings.to,
         width: settings.width.unwrap_or(DEFAULT_WIDTH),
@@ -53,6 +68,18 @@ fn in_order(from: Option<u64>, to: Option<u64>) -> bool
     match (from, to) {
         (Some(from), Some(to)) => from <= to,
         _ => true,
+    }
+}
+
+// The settings are those of a picture, or there are none but the form.
+fn fits_form(form: Form, settings: Settings) -> bool
+    ensures { result ≡ fits_form form settings }
+{
+    match form {
+        Form::Svg => true,
+        Form::Events => {
+            settings.from.is_none() && settings.to.is_none() && settings.width.is_none()
+        }
     }
 }
 
@@ -74,6 +101,13 @@ fn read_settings(settings: Settings, words: &[String]) -> Option<Settings>
 fn with_option(settings: Settings, name: &str, value: &[u8]) -> Option<Settings>
     ensures { result ≡ with_option settings name.now value.now }
 {
+    if name == "--form" {
+        let form = set_form(settings.form, value)?;
+        return Some(Settings {
+            form: Some(form),
+            ..settings
+        });
+    }
     if name == "--from" {
         let from = set_once(settings.from, 0, u64::MAX, value)?;
         return Some(Settings {
@@ -94,6 +128,28 @@ fn with_option(settings: Settings, name: &str, value: &[u8]) -> Option<Settings>
             width: Some(width),
             ..settings
         });
+    }
+    None
+}
+
+// The form that the word names, where none was set before.
+fn set_form(old: Option<Form>, word: &[u8]) -> Option<Form>
+    ensures { result ≡ set_form old word.now }
+{
+    if old.is_some() {
+        return None;
+    }
+    form_of(word)
+}
+
+fn form_of(word: &[u8]) -> Option<Form>
+    ensures { result ≡ form_of word.now }
+{
+    if word == b"svg".as_slice() {
+        return Some(Form::Svg);
+    }
+    if word == b"events".as_slice() {
+        return Some(Form::Events);
     }
     None
 }

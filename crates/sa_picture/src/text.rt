@@ -1,21 +1,22 @@
-// From a trace text to the text of its picture.
+// From a trace text to the text of its picture, or of its trace events.
 ghost use Rattle.std.specs.Prelude.{◌≡◌, ◌≤◌, length, None, MatchOption, IfOk, IfErr};
 ghost use Rattle.sa_picture.specs.Refusal.{too_long};
-ghost use Rattle.sa_picture.specs.Drawn.{first_event, last_event, window_of, drawn_window, HasText, IsDrawn, IsNotDrawn};
+ghost use Rattle.sa_picture.specs.Drawn.{first_event, last_event, window_of, drawn_window, HasText, IsTextFor, IsNoneFor, IsDrawn, IsNotDrawn};
 
 use crate::losses::trace_part;
-use crate::request::Request;
+use crate::request::{Form, Request};
 use crate::status::Status;
 use sa_base::{Bad, Cause, Item, Unread};
 use sa_shapes::{Window, draw};
 use sa_svg::print;
 use sa_trace::read;
+use sa_trace_events::print_events;
 use std::alloc::{AllocError, Global};
 
 /// The longest trace text that is read, in bytes.
 pub const INPUT_LIMIT: usize = 134_217_728;
 
-/// The text of the picture of the trace of which this is the text.
+/// The text of the picture of the trace of which this is the text, or of its trace events.
 pub(crate) fn picture_of(alloc: Global, request: Request, input: &[u8]) -> Result<Vec<u8>, Status>
     ensures ok { IfOk result (λ text. IsDrawn request input.now text.items) }
     ensures err { IfErr result (IsNotDrawn request input.now) }
@@ -24,13 +25,24 @@ pub(crate) fn picture_of(alloc: Global, request: Request, input: &[u8]) -> Resul
         return Err(Status::BadTrace(refusal_of_long(input)));
     }
     match read(alloc, trace_part(input)) {
-        Ok(text) => match drawing_of(alloc, request, text.trace.items()) {
+        Ok(text) => match text_of(alloc, request, text.trace.items()) {
             Ok(Some(drawing)) => Ok(drawing),
             Ok(None) => Err(Status::TooMuch),
             Err(_) => Err(Status::OutOfMemory),
         },
         Err(Unread::Bad(bad)) => Err(Status::BadTrace(bad)),
         Err(Unread::OutOfMemory) => Err(Status::OutOfMemory),
+    }
+}
+
+// The text of what is asked for of these items, where there is no more to draw than that may have.
+fn text_of(alloc: Global, request: Request, items: &[Item]) -> Result<Option<Vec<u8>>, AllocError>
+    ensures { IfOk result (λ drawing. MatchOption drawing
+        (IsNoneFor request.form request items.now) (λ text. IsTextFor request.form request items.now text.items)) }
+{
+    match request.form {
+        Form::Svg => drawing_of(alloc, request, items),
+        Form::Events => print_events(alloc, items),
     }
 }
 

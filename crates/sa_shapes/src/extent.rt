@@ -29,7 +29,7 @@ impl Extent {
 }
 
 /// How much of these items there is to draw.
-pub(crate) fn measure(window: Window, items: &[Item]) -> Extent
+pub fn measure(window: Window, items: &[Item]) -> Extent
     ensures { result ≡ extent_of window items.now }
 {
     let mut extent = Extent {

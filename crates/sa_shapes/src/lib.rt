@@ -11,7 +11,7 @@ mod shape;
 mod stretches;
 mod window;
 
-pub use extent::{Extent, MAX_LINES};
+pub use extent::{Extent, MAX_LINES, measure};
 pub use look::Look;
 pub use picture::{Picture, draw};
 pub use shape::{MAX_LANES, Mark, Shape, Shown, Stretch, TOP_ROW, Track};

@@ -26,8 +26,8 @@ pub enum Look {
 }
 
 impl Look {
-    // The space that owns the processor.
-    fn owner(self) -> Option<SpaceNo>
+    /// The space that owns the processor.
+    pub fn owner(self) -> Option<SpaceNo>
         ensures { result ≡ owner self }
     {
         match self {
@@ -72,8 +72,8 @@ impl Look {
         }
     }
 
-    // The same thing is shown.
-    pub(crate) fn is_same(self, other: Look) -> bool
+    /// The same thing is shown.
+    pub fn is_same(self, other: Look) -> bool
         ensures { result ≡ same_look self other }
     {
         match (self, other) {
@@ -89,8 +89,8 @@ impl Look {
         }
     }
 
-    // What the processor does after a record of its own.
-    pub(crate) fn after(self, what: &Record) -> Look
+    /// What the processor does after a record of its own.
+    pub fn after(self, what: &Record) -> Look
         ensures { result ≡ look_after self what.now }
     {
         match *what {

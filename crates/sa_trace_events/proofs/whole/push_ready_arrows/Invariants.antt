@@ -1,0 +1,7 @@
+use Rattle.std.proofs.Common.{◌≡◌, ◌++◌}
+use Rattle.std.specs.List.{flat_map, range_with_len}
+use Rattle.sa_trace_events.specs.Whole.{space_ends}
+use Rattle.sa_trace_events.proofs.whole.push_ready_arrows.Given as goal
+
+abbrev pub invariant-loop-s : goal.invariant-loop-s
+invariant-loop-s l = l.out.items ≡ l.initial.out.items ++ flat_map (space_ends l.items l.shape.threads) (range_with_len 0 l.s)
