@@ -1,10 +1,13 @@
-//! `sa_picture`: reads a trace text from standard input, and writes a picture of it to standard output, as one SVG file.
+//! `sa_picture`: reads a trace text from standard input, and writes a picture of it to standard output, as one SVG file; or
+//! reads a workload and its trace, and writes a page that shows them event by event, as one HTML file.
 #![tactic(auto)]
 
 mod losses;
+mod paged;
 mod request;
 mod status;
 mod text;
+mod texts;
 mod top;
 
 use sa_io::{StdSink, StdSource};
@@ -43,12 +46,15 @@ fn read_command_line(rt: &(impl Env + AllocGlobal)) -> Result<Vec<String>, Statu
 fn report(rt: &impl Eprint, status: Status) -> io::Result<()> {
     match status {
         Status::Usage => {
-            eprintln!(rt; "usage: sa_picture [--from EVENT] [--to EVENT] [--width PIXELS]")
+            eprintln!(rt; 
+                "usage: sa_picture [--form svg] [--from EVENT] [--to EVENT] [--width PIXELS], or sa_picture --form page [--package fast|prio]"
+            )
         }
+        Status::BadWorkload(bad) => eprintln!(rt; "bad workload: {bad}"),
         Status::BadTrace(bad) => eprintln!(rt; "bad trace: {bad}"),
         Status::TooMuch => {
             eprintln!(rt;
-                "too much to draw: at most 10000 events and 40000 lines (--from, --to), 16 processors and 16 spaces"
+                "too much to draw: a picture has at most 10000 events and 40000 lines (--from, --to), 16 processors and 16 spaces, and a page 100000 events"
             )
         }
         Status::ReadFault => eprintln!(rt; "read fault"),

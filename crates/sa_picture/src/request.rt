@@ -1,13 +1,30 @@
 // What the program is asked to draw.
 ghost use Rattle.std.specs.Prelude.{◌≡◌, map, length, string_bytes};
-ghost use Rattle.sa_picture.specs.Request.{set_once, with_option, settings_of, in_order, request_by, request_of};
+ghost use Rattle.sa_picture.specs.Request.{set_once, with_option, settings_of, in_order, request_by, request_of, form_in, rules_in, with_form, with_package, form_by, picture_form, page_form};
 
+use sa_page::Rules;
 use sa_svg::{DEFAULT_WIDTH, MAX_WIDTH, MIN_WIDTH};
 use sa_text::read_number;
 
-/// What the program is asked to draw: the events from one to another, each as it is where none is named, so wide in pixels.
+/// What is written: a picture of a trace, or a page of a workload and its trace, by the rules of this package.
+#[derive(Clone, Copy, Debug, PartialEq, Eq)]
+pub enum Form {
+    Picture,
+    Page(Rules),
+}
+
+/// The word of a form.
+#[derive(Clone, Copy, Debug, PartialEq, Eq)]
+pub(crate) enum FormWord {
+    Svg,
+    Page,
+}
+
+/// What the program is asked to draw: in this form, and for a picture the events from one to another, each as it is where none
+/// is named, so wide in pixels.
 #[derive(Clone, Copy, Debug, PartialEq, Eq)]
 pub struct Request {
+    pub form: Form,
     pub from: Option<u64>,
     pub to: Option<u64>,
     pub width: u64,
@@ -16,6 +33,8 @@ pub struct Request {
 /// What the words set.
 #[derive(Clone, Copy, Debug)]
 pub(crate) struct Settings {
+    pub(crate) form: Option<FormWord>,
+    pub(crate) package: Option<Rules>,
     pub(crate) from: Option<u64>,
     pub(crate) to: Option<u64>,
     pub(crate) width: Option<u64>,
@@ -26,6 +45,8 @@ pub fn read_request(words: &[String]) -> Option<Request>
     ensures { result ≡ request_of (map string_bytes words.now) }
 {
     let nothing = Settings {
+        form: None,
+        package: None,
         from: None,
         to: None,
         width: None,
@@ -37,14 +58,46 @@ pub fn read_request(words: &[String]) -> Option<Request>
 fn request_by(settings: Settings) -> Option<Request>
     ensures { result ≡ request_by settings }
 {
+    let form = form_by(settings)?;
     if !in_order(settings.from, settings.to) {
         return None;
     }
     Some(Request {
+        form,
         from: settings.from,
         to: settings.to,
         width: settings.width.unwrap_or(DEFAULT_WIDTH),
     })
+}
+
+// The form: a picture takes no package, and a page no events and no width.
+fn form_by(settings: Settings) -> Option<Form>
+    ensures { result ≡ form_by settings }
+{
+    match settings.form {
+        None | Some(FormWord::Svg) => picture_form(settings),
+        Some(FormWord::Page) => page_form(settings),
+    }
+}
+
+fn picture_form(settings: Settings) -> Option<Form>
+    ensures { result ≡ picture_form settings }
+{
+    if settings.package.is_some() {
+        return None;
+    }
+    Some(Form::Picture)
+}
+
+fn page_form(settings: Settings) -> Option<Form>
+    ensures { result ≡ page_form settings }
+{
+    if settings.from.is_some() || settings.to.is_some() || settings.width.is_some() {
+        return None;
+    }
+    Some(Form::Page(
+        settings.package.unwrap_or(Rules::FastThreads),
+    ))
 }
 
 fn in_order(from: Option<u64>, to: Option<u64>) -> bool
@@ -95,7 +148,65 @@ fn with_option(settings: Settings, name: &str, value: &[u8]) -> Option<Settings>
             ..settings
         });
     }
+    if name == "--form" {
+        return with_form(settings, value);
+    }
+    if name == "--package" {
+        return with_package(settings, value);
+    }
     None
+}
+
+// The form is the one of the word, where none was set before.
+fn with_form(settings: Settings, word: &[u8]) -> Option<Settings>
+    ensures { result ≡ with_form settings word.now }
+{
+    if settings.form.is_some() {
+        return None;
+    }
+    let form = form_in(word)?;
+    Some(Settings {
+        form: Some(form),
+        ..settings
+    })
+}
+
+fn form_in(word: &[u8]) -> Option<FormWord>
+    ensures { result ≡ form_in word.now }
+{
+    if word == b"svg".as_slice() {
+        Some(FormWord::Svg)
+    } else if word == b"page".as_slice() {
+        Some(FormWord::Page)
+    } else {
+        None
+    }
+}
+
+// The package is the one of the word, where none was set before.
+fn with_package(settings: Settings, word: &[u8]) -> Option<Settings>
+    ensures { result ≡ with_package settings word.now }
+{
+    if settings.package.is_some() {
+        return None;
+    }
+    let package = rules_in(word)?;
+    Some(Settings {
+        package: Some(package),
+        ..settings
+    })
+}
+
+fn rules_in(word: &[u8]) -> Option<Rules>
+    ensures { result ≡ rules_in word.now }
+{
+    if word == b"fast".as_slice() {
+        Some(Rules::FastThreads)
+    } else if word == b"prio".as_slice() {
+        Some(Rules::Priorities)
+    } else {
+        None
+    }
 }
 
 // The number that the word spells, in its range, where none was set before.

@@ -21,7 +21,7 @@ pub(crate) fn picture_of(alloc: Global, request: Request, input: &[u8]) -> Resul
     ensures err { IfErr result (IsNotDrawn request input.now) }
 {
     if input.len() > INPUT_LIMIT {
-        return Err(Status::BadTrace(refusal_of_long(input)));
+        return Err(Status::BadTrace(refusal_of_long(INPUT_LIMIT, input)));
     }
     match read(alloc, trace_part(input)) {
         Ok(text) => match drawing_of(alloc, request, text.trace.items()) {
@@ -79,15 +79,12 @@ fn last_event(items: &[Item]) -> u64
     }
 }
 
-// What an input is refused with that is longer than the limit.
+/// What an input is refused with that is longer than a limit.
 #[tactic(auto, unfolding(crate::specs::Refusal::too_long))]
-fn refusal_of_long(input: &[u8]) -> Bad
-    requires { INPUT_LIMIT ≤ length input.now }
-    ensures { result ≡ too_long input.now }
+pub(crate) fn refusal_of_long(limit: usize, input: &[u8]) -> Bad
+    requires { limit ≤ length input.now }
+    ensures { result ≡ too_long limit input.now }
 {
-    let before = input[..INPUT_LIMIT]
-        .iter()
-        .filter(|byte| **byte == b'\n')
-        .count();
+    let before = input[..limit].iter().filter(|byte| **byte == b'\n').count();
     Bad::new(before as u64 + 1, Cause::TooMany)
 }

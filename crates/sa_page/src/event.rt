@@ -1,0 +1,52 @@
+// The events of a trace.
+ghost use Rattle.std.specs.Prelude.{◌≡◌, ◌∷◌, ◌≤◌, ◌<◌, [], length, map, take, drop, IfOk};
+ghost use Rattle.std.specs.List.{prefix_len};
+ghost use Rattle.sa_laws.specs.Event.{Event};
+ghost use Rattle.sa_check.specs.Items.{is_with, what_of};
+
+use sa_base::{Item, ProcNo, Record};
+use std::alloc::{AllocError, Global};
+
+/// An event of a trace: its number, its processor, and its records in order.
+#[derive(Clone, Copy, Debug)]
+pub(crate) struct TraceEvent<'a> {
+    pub(crate) number: u64,
+    pub(crate) proc: ProcNo,
+    pub(crate) records: &'a [Record],
+}
+
+/// How many of the items are of one event with the first.
+pub(crate) fn with_first(first: &Item, items: &[Item]) -> usize
+    ensures len { result ≡ prefix_len (is_with first.now) items.now }
+    ensures within { result ≤ length items.now }
+{
+    for (i, item) in items.iter().enumerate() {
+        if !is_with(first, item) {
+            return i;
+        }
+    }
+    items.len()
+}
+
+// The items are of one event.
+fn is_with(first: &Item, item: &Item) -> bool
+    ensures { result ≡ is_with first.now item.now }
+{
+    first.event == item.event && first.proc.0 == item.proc.0
+}
+
+/// The records of an event that begins with this item, and has these.
+pub(crate) fn records_of(
+    alloc: Global,
+    first: &Item,
+    others: &[Item],
+) -> Result<Vec<Record>, AllocError>
+    ensures { IfOk result (λ records. records.items ≡ first.now.what ∷ map what_of others.now) }
+{
+    let mut records = Vec::with_capacity(alloc, 1)?;
+    records.push(first.what)?;
+    for item in others {
+        records.push(item.what)?;
+    }
+    Ok(records)
+}
