@@ -27,8 +27,8 @@ pub fn push_words(out: &mut Vec<u8>, what: &Record) -> Result<(), AllocError>
         Record::Cont(s, t) => push_cont(out, s, t),
         Record::Back(s, t) => push_back(out, s, t),
         Record::Ready(s, t) => push_ready(out, s, t, b" is ready, and stands in a list."),
-        Record::Take(s, l, t) => push_list(out, s, l, b" is taken, by ", t),
-        Record::Free(s, l, t) => push_list(out, s, l, b" is free again; it was that of ", t),
+        Record::Take(s, l, t) => push_list(out, s, l, b" is taken, for ", t),
+        Record::Free(s, l, t) => push_list(out, s, l, b" is free again; it was taken for ", t),
         Record::Up(s, a) => push_two(
             out,
             b"Space ",

@@ -1,0 +1,3 @@
+mod UrgedLemmas
+mod AdvanceLemmas
+mod ShownLemmas
