@@ -1,0 +1,3 @@
+mod PlainPieces
+mod PlainWords
+mod Plain

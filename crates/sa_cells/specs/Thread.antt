@@ -1,19 +1,25 @@
 -- What the cell of a thread holds: where it is, its pc, and the instruction there.
-use Rattle.std.specs.Prelude.{ℕ, Bool, List, [], ◌∷◌, ◌++◌, length, map, codes, nat_lt, if◌then◌else◌}
-use Rattle.std.specs.List.{flat_map, join_with_byte}
+use Rattle.std.specs.Prelude.{ℕ, Bool, List, [], ◌++◌, length, codes, nat_lt, if◌then◌else◌}
+use Rattle.std.specs.List.{flat_map}
 use Rattle.sa_base.specs.declared.number.SpaceNo.{SpaceNo}
 use Rattle.sa_base.specs.declared.number.ThreadNo.{ThreadNo}
 use Rattle.sa_instr.specs.declared.instr.Instr.{Instr}
 use Rattle.sa_spaces.specs.Workload.{WorkloadView}
-use Rattle.sa_workload.specs.Text.{instr_line}
+use Rattle.sa_instr.specs.declared.operand.Operand.{Operand}
+use Rattle.sa_instr.specs.Operation.{form_of}
+use Rattle.sa_instr.specs.Parts.{parts_of}
+use Rattle.sa_workload.specs.Text.{operand_word}
 use Rattle.sa_laws.specs.declared.place.Place.{Place}
 use Rattle.sa_laws.specs.declared.place.Place.TheVariants.{Running, Ready, Blocked, Waiting, Carried, Done}
 use Rattle.sa_laws.specs.State.{State, Thread, space_at, thread_at, instr_of, is_due}
 use Rattle.sa_cells.specs.Pieces.{numbered}
 
--- an instruction: its words, with a space between each two
+-- an instruction as the workload text has it: the word of its operation, and each operand after a space
+abbrev pub operand_text : Operand → List ℕ
+operand_text o = codes " " ++ operand_word o
+
 abbrev pub instr_text : Instr → List ℕ
-instr_text i = join_with_byte 32 (instr_line i)
+instr_text i = (form_of (parts_of i).operation).word ++ flat_map operand_text (parts_of i).operands
 
 -- where a thread is; one that waits is still to be made ready where it is due
 abbrev pub place_text : Place → Bool → List ℕ

@@ -129,11 +129,7 @@ fn push_acts(cells: &mut Vec<Cell>, acts: &[ActNo]) -> Result<(), AllocError>
 }
 
 // The activations that an event with these records may change, each once.
-fn acts_of(
-    alloc: Global,
-    before: &Moment,
-    records: &[Record],
-) -> Result<Vec<ActNo>, AllocError>
+fn acts_of(alloc: Global, before: &Moment, records: &[Record]) -> Result<Vec<ActNo>, AllocError>
     ensures { IfOk result (λ acts. acts.items ≡ acts_of (seen before.now) records.now) }
 {
     let mut all = Vec::new(alloc);

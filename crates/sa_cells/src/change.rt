@@ -124,12 +124,7 @@ fn push_changed(
 }
 
 #[tactic(auto, unfolding(crate::specs::Change::cell_line))]
-fn push_cell_line(
-    out: &mut Vec<u8>,
-    time: &[u8],
-    cell: Cell,
-    text: &[u8],
-) -> Result<(), AllocError>
+fn push_cell_line(out: &mut Vec<u8>, time: &[u8], cell: Cell, text: &[u8]) -> Result<(), AllocError>
     ensures { OnOk result (out.new.items ≡ out.old.items ++ cell_line time.now (name_of cell) text.now) }
 {
     out.extend_from_slice(time)?;

@@ -4,6 +4,7 @@
 mod cell;
 mod cells;
 mod change;
+pub mod laws;
 mod life;
 mod pieces;
 mod processor;

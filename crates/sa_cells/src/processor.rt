@@ -31,11 +31,7 @@ pub(crate) fn push_runs(out: &mut Vec<u8>, moment: &Moment, p: ProcNo) -> Result
 }
 
 // Appends what runs in a life that carries this thread.
-fn push_carrying(
-    out: &mut Vec<u8>,
-    life: &KeptLife,
-    t: Option<ThreadNo>,
-) -> Result<(), AllocError>
+fn push_carrying(out: &mut Vec<u8>, life: &KeptLife, t: Option<ThreadNo>) -> Result<(), AllocError>
     ensures { OnOk result (out.new.items ≡ out.old.items ++ carrying_text life.now t) }
 {
     match t {

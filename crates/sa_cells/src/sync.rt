@@ -46,12 +46,7 @@ fn push_mutex_in(
 }
 
 #[tactic(auto, unfolding(crate::specs::Sync::mutex_text))]
-fn push_mutex(
-    out: &mut Vec<u8>,
-    alloc: Global,
-    sync: &SyncState,
-    m: u16,
-) -> Result<(), AllocError>
+fn push_mutex(out: &mut Vec<u8>, alloc: Global, sync: &SyncState, m: u16) -> Result<(), AllocError>
     requires { m < length sync.now.mutexes }
     ensures { OnOk result (out.new.items ≡ out.old.items ++ mutex_text (mutex_at sync.now m)) }
 {

@@ -1,9 +1,9 @@
 // What the cell of a thread holds.
-ghost use Rattle.std.specs.Prelude.{◌≡◌, ◌∷◌, ◌++◌, OnOk};
+ghost use Rattle.std.specs.Prelude.{◌≡◌, ◌++◌, OnOk};
 ghost use Rattle.std.specs.List.{flat_map};
 ghost use Rattle.sa_workload.specs.Text.{operand_word};
 ghost use Rattle.sa_check_moment.specs.Seen.{seen};
-ghost use Rattle.sa_cells.specs.Thread.{instr_text, place_text, next_text, going_text, made_text, state_text, thread_text};
+ghost use Rattle.sa_cells.specs.Thread.{operand_text, instr_text, place_text, next_text, going_text, made_text, state_text, thread_text};
 
 use crate::pieces::{push_numbered, push_one};
 use crate::view::View;
@@ -77,12 +77,7 @@ fn push_place(out: &mut Vec<u8>, place: Place, due: bool) -> Result<(), AllocErr
     }
 }
 
-fn push_going(
-    out: &mut Vec<u8>,
-    place: Place,
-    pc: u16,
-    instr: Instr,
-) -> Result<(), AllocError>
+fn push_going(out: &mut Vec<u8>, place: Place, pc: u16, instr: Instr) -> Result<(), AllocError>
     ensures { OnOk result (out.new.items ≡ out.old.items ++ going_text place pc instr) }
 {
     match place {
@@ -110,14 +105,19 @@ fn push_instr(out: &mut Vec<u8>, instr: Instr) -> Result<(), AllocError>
 
 // Appends each operand after a space.
 fn push_operands(out: &mut Vec<u8>, operands: &[Operand]) -> Result<(), AllocError>
-    ensures { OnOk result (out.new.items ≡ out.old.items
-        ++ flat_map (λ o. 32 ∷ operand_word o) operands.now) }
+    ensures { OnOk result (out.new.items ≡ out.old.items ++ flat_map operand_text operands.now) }
 {
     for operand in operands {
-        out.extend_from_slice(b" ")?;
-        push_operand(out, *operand)?;
+        push_spaced(out, *operand)?;
     }
     Ok(())
+}
+
+fn push_spaced(out: &mut Vec<u8>, operand: Operand) -> Result<(), AllocError>
+    ensures { OnOk result (out.new.items ≡ out.old.items ++ operand_text operand) }
+{
+    out.extend_from_slice(b" ")?;
+    push_operand(out, operand)
 }
 
 fn push_operand(out: &mut Vec<u8>, operand: Operand) -> Result<(), AllocError>

@@ -49,10 +49,7 @@ impl View {
         requires { Needs (seen self.moment).workload p (seen self.moment).readings what.now }
         ensures { IfOk result (λ view. seen view.moment ≡ behind_record number p what.now (seen self.moment)) }
     {
-        let View {
-            moment,
-            mut replay,
-        } = self;
+        let View { moment, mut replay } = self;
         replay.change(p, what)?;
         let moment = moment.read(number, p, what)?;
         Ok(View { moment, replay })

@@ -15,12 +15,7 @@ pub fn push_words(out: &mut Vec<u8>, what: &Record) -> Result<(), AllocError>
             push_thread(out, s, t, b" runs its instruction at ", u64::from(i))
         }
         Record::Out(s, t, value) => push_thread(out, s, t, b" gives out ", value),
-        Record::Run(s, t) => push_ready(
-            out,
-            s,
-            t,
-            b" leaves its ready list, and is to run here.",
-        ),
+        Record::Run(s, t) => push_ready(out, s, t, b" leaves its ready list, and is to run here."),
         Record::Stop(s, t, a) => push_stop(out, s, t, a),
         Record::Block(s, t, a, io) => push_block(out, s, t, a, io),
         Record::Unblock(s, t, a) => push_unblock(out, s, t, a),
@@ -100,12 +95,7 @@ fn push_thread(
 }
 
 // Appends what becomes of a thread.
-fn push_ready(
-    out: &mut Vec<u8>,
-    s: SpaceNo,
-    t: ThreadNo,
-    does: &[u8],
-) -> Result<(), AllocError>
+fn push_ready(out: &mut Vec<u8>, s: SpaceNo, t: ThreadNo, does: &[u8]) -> Result<(), AllocError>
     ensures { OnOk result (out.new.items ≡ out.old.items ++ ready_words s t does.now) }
 {
     push_two(
@@ -122,12 +112,7 @@ fn push_ready(
 fn push_page(out: &mut Vec<u8>, s: SpaceNo, becomes: &[u8]) -> Result<(), AllocError>
     ensures { OnOk result (out.new.items ≡ out.old.items ++ page_words s becomes.now) }
 {
-    push_one(
-        out,
-        b"The upcall page of space ",
-        u64::from(s.0),
-        becomes,
-    )
+    push_one(out, b"The upcall page of space ", u64::from(s.0), becomes)
 }
 
 // Appends what becomes of the lock of a list, and of whom.
@@ -154,12 +139,7 @@ fn push_list(
 }
 
 #[tactic(auto, unfolding(crate::specs::Words::stop_words))]
-fn push_stop(
-    out: &mut Vec<u8>,
-    s: SpaceNo,
-    t: Option<ThreadNo>,
-    a: ActNo,
-) -> Result<(), AllocError>
+fn push_stop(out: &mut Vec<u8>, s: SpaceNo, t: Option<ThreadNo>, a: ActNo) -> Result<(), AllocError>
     ensures { OnOk result (out.new.items ≡ out.old.items ++ stop_words s t a) }
 {
     push_one(
@@ -291,23 +271,8 @@ fn push_told(out: &mut Vec<u8>, note: Note) -> Result<(), AllocError>
             u64::from(p.0),
             b" is its own.",
         ),
-        Note::Preempted(a) => push_one(
-            out,
-            b"It hears that activation ",
-            a.0,
-            b" was preempted.",
-        ),
-        Note::Blocked(a) => push_one(
-            out,
-            b"It hears that activation ",
-            a.0,
-            b" has blocked.",
-        ),
-        Note::Unblocked(a) => push_one(
-            out,
-            b"It hears that activation ",
-            a.0,
-            b" has unblocked.",
-        ),
+        Note::Preempted(a) => push_one(out, b"It hears that activation ", a.0, b" was preempted."),
+        Note::Blocked(a) => push_one(out, b"It hears that activation ", a.0, b" has blocked."),
+        Note::Unblocked(a) => push_one(out, b"It hears that activation ", a.0, b" has unblocked."),
     }
 }

@@ -42,8 +42,8 @@ pub record IsPrinted (rules : Rules) (w : WorkloadView) (verdict : Verdict) (tol
   pub shown : List ℕ
   pub shows : Shows (opened rules w) (events_of told.items) shown
   pub is :
-    text
-    ≡ page_text (verdict_text rules verdict) (end_text told.end told.events) (items_text told.items) (opening_lines (opened rules w)) shown
+      text
+      ≡ page_text (verdict_text rules verdict) (end_text told.end told.events) (items_text told.items) (opening_lines (opened rules w)) shown
 
 -- the text is the page of this workload and trace text, by these rules
 pub record IsPage (rules : Rules) (w : WorkloadView) (trace text : List ℕ) : Type 0 where

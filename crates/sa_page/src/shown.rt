@@ -8,7 +8,6 @@ use sa_cells::View;
 use sa_check_moment::Rules;
 use sa_spaces::Workload;
 use std::alloc::{AllocError, Global};
-
 pub(crate) use walk::push_shown;
 
 /// One moment twice: the one goes along an event, and the other follows once the cells of both were compared.
@@ -36,4 +35,3 @@ impl Pair {
         })
     }
 }
-

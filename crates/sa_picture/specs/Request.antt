@@ -31,7 +31,7 @@ abbrev pub with_form : Settings → List ℕ → Option Settings
 with_form s word = if is_some s.form then None else option_map (λ f. record s { form = Some f }) (form_in word)
 
 abbrev pub with_package : Settings → List ℕ → Option Settings
-with_package s word = if is_some s.package then None else option_map (λ r. record s { package = Some r }) (rules_in word)
+with_package s word = if is_some s.rules then None else option_map (λ r. record s { rules = Some r }) (rules_in word)
 
 --   --form    what is written: svg, as where none is named, or page
 --   --package by whose rules a page's trace is judged: fast, as where none is named, or prio
@@ -60,10 +60,10 @@ in_order from to = true
 
 -- a picture takes no package, and a page no events and no width
 abbrev pub picture_form : Settings → Option Form
-picture_form s = if is_some s.package then None else Some form.Picture
+picture_form s = if is_some s.rules then None else Some form.Picture
 
 abbrev pub page_form : Settings → Option Form
-page_form s = if is_some s.from || is_some s.to || is_some s.width then None else Some (form.Page (unwrap_or s.package FastThreads))
+page_form s = if is_some s.from || is_some s.to || is_some s.width then None else Some (form.Page (unwrap_or s.rules FastThreads))
 
 abbrev pub form_word : Option FormWord → Settings → Option Form
 form_word None s = picture_form s
@@ -83,4 +83,4 @@ request_by s = option_and_then (request_in s) (form_by s)
 -- the request of the words after the program's name
 abbrev pub request_of : List (List ℕ) → Option Request
 request_of words =
-    option_and_then request_by (settings_of (record { form = None; package = None; from = None; to = None; width = None }) words)
+    option_and_then request_by (settings_of (record { form = None; rules = None; from = None; to = None; width = None }) words)

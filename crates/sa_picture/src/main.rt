@@ -46,7 +46,7 @@ fn read_command_line(rt: &(impl Env + AllocGlobal)) -> Result<Vec<String>, Statu
 fn report(rt: &impl Eprint, status: Status) -> io::Result<()> {
     match status {
         Status::Usage => {
-            eprintln!(rt; 
+            eprintln!(rt;
                 "usage: sa_picture [--form svg] [--from EVENT] [--to EVENT] [--width PIXELS], or sa_picture --form page [--package fast|prio]"
             )
         }

@@ -34,7 +34,7 @@ pub struct Request {
 #[derive(Clone, Copy, Debug)]
 pub(crate) struct Settings {
     pub(crate) form: Option<FormWord>,
-    pub(crate) package: Option<Rules>,
+    pub(crate) rules: Option<Rules>,
     pub(crate) from: Option<u64>,
     pub(crate) to: Option<u64>,
     pub(crate) width: Option<u64>,
@@ -46,7 +46,7 @@ pub fn read_request(words: &[String]) -> Option<Request>
 {
     let nothing = Settings {
         form: None,
-        package: None,
+        rules: None,
         from: None,
         to: None,
         width: None,
@@ -83,7 +83,7 @@ fn form_by(settings: Settings) -> Option<Form>
 fn picture_form(settings: Settings) -> Option<Form>
     ensures { result ≡ picture_form settings }
 {
-    if settings.package.is_some() {
+    if settings.rules.is_some() {
         return None;
     }
     Some(Form::Picture)
@@ -95,9 +95,7 @@ fn page_form(settings: Settings) -> Option<Form>
     if settings.from.is_some() || settings.to.is_some() || settings.width.is_some() {
         return None;
     }
-    Some(Form::Page(
-        settings.package.unwrap_or(Rules::FastThreads),
-    ))
+    Some(Form::Page(settings.rules.unwrap_or(Rules::FastThreads)))
 }
 
 fn in_order(from: Option<u64>, to: Option<u64>) -> bool
@@ -187,12 +185,12 @@ fn form_in(word: &[u8]) -> Option<FormWord>
 fn with_package(settings: Settings, word: &[u8]) -> Option<Settings>
     ensures { result ≡ with_package settings word.now }
 {
-    if settings.package.is_some() {
+    if settings.rules.is_some() {
         return None;
     }
-    let package = rules_in(word)?;
+    let rules = rules_in(word)?;
     Some(Settings {
-        package: Some(package),
+        rules: Some(rules),
         ..settings
     })
 }

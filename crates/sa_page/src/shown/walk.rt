@@ -56,14 +56,7 @@ fn push_event(
     let Some(now) = advance(now, event)? else {
         return Ok(None);
     };
-    push_changes(
-        out,
-        alloc,
-        event.number,
-        &before,
-        &now,
-        event.records,
-    )?;
+    push_changes(out, alloc, event.number, &before, &now, event.records)?;
     let Some(before) = advance(before, event)? else {
         return Ok(None);
     };
