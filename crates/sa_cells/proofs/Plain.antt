@@ -1,5 +1,5 @@
 -- The names and texts of cells hold no sign of markup.
-use Rattle.std.proofs.Common.{◌≡◌, ℕ, ◌&&◌, Bool, true, List, [], ◌∷◌, ◌++◌, length, map, Option, Some, None, refl}
+use Rattle.std.proofs.Common.{◌≡◌, ℕ, Bool, true, List, [], ◌++◌, length, Option, Some, None, refl}
 use Rattle.std.specs.Prelude.{codes, decimal, nat_lt, ◌==◌, if◌then◌else◌, slice_index}
 use Rattle.std.specs.List.{flat_map}
 use Rattle.sa_base.specs.declared.number.ProcNo.{ProcNo}
@@ -20,7 +20,7 @@ use Rattle.sa_workload.specs.Text.{operand_word}
 use Rattle.sa_sync.specs.Sync.{Sync, Mutex, Semaphore, mutex_at, semaphore_at}
 use Rattle.sa_laws.specs.declared.place.Place.{Place}
 use Rattle.sa_laws.specs.declared.place.Place.TheVariants as place
-use Rattle.sa_laws.specs.State.{State, SpaceState, Thread as ThreadOf, Runner, runner_on, space_at, thread_at, instr_of, is_due}
+use Rattle.sa_laws.specs.State.{State, SpaceState, space_at, thread_at, instr_of, is_due}
 use Rattle.sa_laws.specs.Life.{Life, Lock}
 use Rattle.sa_laws.specs.Readings.{Readings, Listed, life_of, life_on, line_of, owner_of, aim_of, running_of, demand_of, untold_of, ready_of, counts}
 use Rattle.sa_laws.specs.Step.{has_io}
@@ -31,16 +31,16 @@ use Rattle.sa_cells.specs.declared.cell.Cell.TheVariants.{Owner, Aim, Line, Acti
 use Rattle.sa_cells.specs.Pieces.{numbered, one, and_thread}
 use Rattle.sa_cells.specs.Name.{of_space, name_of}
 use Rattle.sa_cells.specs.Processor.{line_text, handler_text, copy_text, thread_text as thread_in_text, carrying_text, runs_in, carried_on}
-use Rattle.sa_cells.specs.Space.{note_text, listed_in, held_text, held_or, lock_at, holder_among, candidates}
+use Rattle.sa_cells.specs.Space.{note_text, listed_in, held_or, held_if, lock_at, first_holder}
 use Rattle.sa_cells.specs.Life.{is_on, is_untold, off_text, resting_text, on_or_off, place_text as life_place, lock_text, hand_thread, hand_text, locks_text, of_life}
-use Rattle.sa_cells.specs.Thread.{operand_text, instr_text, place_text, next_text, going_text, made_text, is_made, thread_text}
+use Rattle.sa_cells.specs.Thread.{operand_text, instr_text, place_text, next_text, going_text, made_text, is_made}
 use Rattle.sa_cells.specs.Sync.{queue_text, holder_text, mutex_text, semaphore_text, mutex_in, semaphore_in, cell_in, of_sync}
 use Rattle.sa_cells.specs.Text.{text_of}
 use Rattle.sa_cells.proofs.PlainPieces.{plain-append, plain-decimal, plain-choice, plain-numbered, plain-one, plain-each, plain-space, plain-act, plain-and-thread}
 
 -- names
 of-space : (s : ℕ) (word : List ℕ) (n : ℕ) → is_plain word ≡ true → is_plain (of_space s word n) ≡ true
-of-space s word n p = plain-append (one (codes "s") s word) (decimal n) (plain-one (codes "s") s word refl p) (plain-decimal n)
+of-space s word n p = plain-append (numbered (codes "s") s) (numbered word n) (plain-numbered (codes "s") s refl) (plain-numbered word n p)
 
 pub plain-name : (c : Cell) → is_plain (name_of c) ≡ true
 plain-name (Owner p) = plain-one (codes "p") p.0 (codes ".space") refl refl
@@ -91,15 +91,14 @@ plain-note (note.Unblocked a) = plain-numbered (codes " unblocked ") a.0 refl
 plain-listed : (l : ProcNo) (x : Listed) → is_plain (listed_in l x) ≡ true
 plain-listed l x = plain-choice (x.list.0 == l.0) (numbered (codes " ") x.thread.0) [] (plain-numbered (codes " ") x.thread.0 refl) refl
 
-plain-held : (lock : Option Lock) (a : ActNo) (rest : List ℕ) → is_plain rest ≡ true → is_plain (held_or lock a rest) ≡ true
-unfolding held_text
-plain-held None a rest p = p
-plain-held (Some lock) a rest p =
+plain-held : (lock : Option Lock) (a : ActNo) → is_plain (held_or lock a) ≡ true
+plain-held None a = refl
+plain-held (Some lock) a =
     plain-append (numbered (codes "activation ") a.0) (and_thread lock.thread) (plain-numbered (codes "activation ") a.0 refl) (plain-and-thread lock.thread)
 
-plain-holder : (r : Readings) (s : SpaceNo) (l : ProcNo) (acts : List ActNo) → is_plain (holder_among r s l acts) ≡ true
-plain-holder r s l [] = refl
-plain-holder r s l (a ∷ acts) = plain-held (lock_at r s l a) a (holder_among r s l acts) (plain-holder r s l acts)
+plain-holder : (r : Readings) (s : SpaceNo) (l : ProcNo) (a : Option ActNo) → is_plain (held_if r s l a) ≡ true
+plain-holder r s l None = refl
+plain-holder r s l (Some a) = plain-held (lock_at r s l a) a
 
 -- of a life
 plain-off : (r : Readings) (a : ActNo) (life : Life) → is_plain (off_text r a life) ≡ true
@@ -179,8 +178,7 @@ plain-standing place.Done due = refl
 plain-next : (pc : ℕ) (i : Instr) → is_plain (next_text pc i) ≡ true
 unfolding next_text
 plain-next pc i =
-    plain-append (numbered (codes ", at ") pc ++ codes ": ") (instr_text i)
-    (plain-append (numbered (codes ", at ") pc) (codes ": ") (plain-numbered (codes ", at ") pc refl) refl) (plain-instr i)
+    plain-append (one (codes ", at ") pc (codes ": ")) (instr_text i) (plain-one (codes ", at ") pc (codes ": ") refl refl) (plain-instr i)
 
 plain-going : (p : Place) (pc : ℕ) (i : Instr) → is_plain (going_text p pc i) ≡ true
 plain-going (place.Running p) pc i = plain-next pc i
@@ -224,7 +222,7 @@ plain-text m (Activation p) = plain-act (running_of m.readings p)
 plain-text m (Runs p) = plain-runs (life_on m.readings p) (carried_on m.readings p)
 plain-text m (Demand s) = plain-decimal (demand_of m.readings s)
 plain-text m (Untold s) = plain-each note_text plain-note (untold_of m.readings s)
-plain-text m (Holder s l) = plain-holder m.readings s l (candidates m.readings s)
+plain-text m (Holder s l) = plain-holder m.readings s l (first_holder m.readings s l)
 plain-text m (ListOf s l) = plain-each (listed_in l) (plain-listed l) (ready_of m.readings s)
 plain-text m (Thread s t) =
     let a = m.readings.state in

@@ -1,8 +1,8 @@
 -- Pieces of texts hold no sign of markup.
-use Rattle.std.proofs.Common.{◌≡◌, ℕ, zero, suc, ◌+◌, ◌<◌, ◌≤◌, ◌/◌, ◌%◌, Bool, true, false, not, ◌&&◌, eqb, cond, List, [], ◌∷◌, ◌++◌, Option, Some, None, refl, ap, ◌∙◌, arith, map}
+use Rattle.std.proofs.Common.{◌≡◌, ℕ, zero, suc, ◌+◌, ◌<◌, ◌≤◌, ◌/◌, ◌%◌, Bool, true, false, not, ◌&&◌, eqb, cond, List, [], ◌∷◌, ◌++◌, Option, Some, None, refl, ap, ◌∙◌, arith}
 use Rattle.std.specs.Prelude.{codes, decimal, ◌==◌, nat_lt, if◌then◌else◌}
 use Rattle.std.specs.Fmt.{digits, digits_onto, digit_glyph}
-use Rattle.std.specs.List.{flat_map, join_with_byte}
+use Rattle.std.specs.List.{flat_map}
 use Rattle.std.proofs.Math.Nat.{mod-lt}
 use Rattle.std.proofs.lemmas.Bool.{ne_eqb, and_from}
 use Rattle.std.proofs.lemmas.Bool.Decides.{nat_tests}
@@ -61,21 +61,24 @@ pub plain-numbered : (word : List ℕ) (n : ℕ) → is_plain word ≡ true → 
 plain-numbered word n p = plain-append word (decimal n) p (plain-decimal n)
 
 pub plain-one : (before : List ℕ) (n : ℕ) (behind : List ℕ) → is_plain before ≡ true → is_plain behind ≡ true → is_plain (one before n behind) ≡ true
+unfolding one
 plain-one before n behind p q = plain-append (before ++ decimal n) behind (plain-numbered before n p) q
 
 pub plain-two :
     (before : List ℕ) (n : ℕ) (between : List ℕ) (m : ℕ) (behind : List ℕ) → is_plain before ≡ true → is_plain between ≡ true → is_plain behind ≡ true
     → is_plain (two before n between m behind) ≡ true
+unfolding two
 plain-two before n between m behind p q r =
     plain-append (one before n between ++ decimal m) behind (plain-append (one before n between) (decimal m) (plain-one before n between p q) (plain-decimal m)) r
 
 pub plain-three :
-    (before : List ℕ) (n : ℕ) (between : List ℕ) (m : ℕ) (then : List ℕ) (k : ℕ) (behind : List ℕ)
-    → is_plain before ≡ true → is_plain between ≡ true → is_plain then ≡ true → is_plain behind ≡ true
-    → is_plain (three before n between m then k behind) ≡ true
-plain-three before n between m then k behind p q r s =
-    plain-append (two before n between m then ++ decimal k) behind
-    (plain-append (two before n between m then) (decimal k) (plain-two before n between m then p q r) (plain-decimal k)) s
+    (before : List ℕ) (n : ℕ) (between : List ℕ) (m : ℕ) (middle : List ℕ) (k : ℕ) (behind : List ℕ)
+    → is_plain before ≡ true → is_plain between ≡ true → is_plain middle ≡ true → is_plain behind ≡ true
+    → is_plain (three before n between m middle k behind) ≡ true
+unfolding three
+plain-three before n between m middle k behind p q r s =
+    plain-append (two before n between m middle ++ decimal k) behind
+    (plain-append (two before n between m middle) (decimal k) (plain-two before n between m middle p q r) (plain-decimal k)) s
 
 -- pieces of each of a list
 pub plain-each : {X : Type 0} (f : X → List ℕ) → ((x : X) → is_plain (f x) ≡ true) → (xs : List X) → is_plain (flat_map f xs) ≡ true
@@ -92,13 +95,16 @@ plain-act None = refl
 plain-act (Some a) = plain-decimal a.0
 
 pub plain-a-space : (s : Option SpaceNo) → is_plain (a_space s) ≡ true
+unfolding a_space
 plain-a-space None = refl
 plain-a-space (Some s) = plain-numbered (codes "space ") s.0 refl
 
 pub plain-a-thread : (t : Option ThreadNo) → is_plain (a_thread t) ≡ true
+unfolding a_thread
 plain-a-thread None = refl
 plain-a-thread (Some t) = plain-numbered (codes "thread ") t.0 refl
 
 pub plain-and-thread : (t : Option ThreadNo) → is_plain (and_thread t) ≡ true
+unfolding and_thread
 plain-and-thread None = refl
 plain-and-thread (Some t) = plain-numbered (codes ", thread ") t.0 refl

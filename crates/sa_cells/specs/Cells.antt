@@ -1,16 +1,12 @@
 -- Which cells there are.
-use Rattle.std.specs.Prelude.{ℕ, ◌==◌, List, [], ◌∷◌, ◌++◌, length, if◌then◌else◌}
+use Rattle.std.specs.Prelude.{ℕ, ◌==◌, Bool, List, [], ◌∷◌, ◌++◌, length, if◌then◌else◌}
 use Rattle.std.specs.List.{flat_map, range_with_len, list_any}
 use Rattle.sa_base.specs.declared.number.ProcNo.{ProcNo}
 use Rattle.sa_base.specs.declared.number.SpaceNo.{SpaceNo}
-use Rattle.sa_base.specs.declared.number.ThreadNo.{ThreadNo}
 use Rattle.sa_base.specs.declared.number.ActNo.{ActNo}
 use Rattle.sa_base.specs.declared.record.Record.{Record}
 use Rattle.sa_base.specs.declared.record.Record.TheVariants as the
-use Rattle.sa_base.specs.declared.record.Note.{Note}
-use Rattle.sa_spaces.specs.Workload.{WorkloadView}
 use Rattle.sa_laws.specs.State.{space_at, space_def}
-use Rattle.sa_laws.specs.Readings.{Readings}
 use Rattle.sa_check_moment.specs.Seen.{Seen}
 use Rattle.sa_cells.specs.declared.cell.Cell.{Cell}
 use Rattle.sa_cells.specs.declared.cell.Cell.TheVariants.{Owner, Aim, Line, Activation, Runs, Demand, Untold, Holder, Listed, Thread, Mutex, Semaphore, Shared, Where, Locks, Hand}
@@ -67,8 +63,11 @@ acts_in other = []
 abbrev pub all_acts : Seen → List Record → List ActNo
 all_acts before records = flat_map act_if before.readings.running ++ flat_map acts_in records
 
+abbrev pub has_act : List ActNo → ActNo → Bool
+has_act acts a = list_any (λ (b : ActNo). b.0 == a.0) acts
+
 abbrev pub with_act : List ActNo → ActNo → List ActNo
-with_act acts a = if list_any (λ (b : ActNo). b.0 == a.0) acts then acts else acts ++ a ∷ []
+with_act acts a = if has_act acts a then acts else acts ++ a ∷ []
 
 abbrev pub each_once : List ActNo → List ActNo → List ActNo
 each_once found [] = found

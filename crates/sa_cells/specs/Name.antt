@@ -1,12 +1,12 @@
 -- The names of cells.
-use Rattle.std.specs.Prelude.{ℕ, List, ◌++◌, codes, decimal}
+use Rattle.std.specs.Prelude.{ℕ, List, ◌++◌, codes}
 use Rattle.sa_cells.specs.declared.cell.Cell.{Cell}
 use Rattle.sa_cells.specs.declared.cell.Cell.TheVariants.{Owner, Aim, Line, Activation, Runs, Demand, Untold, Holder, Listed, Thread, Mutex, Semaphore, Shared, Where, Locks, Hand}
 use Rattle.sa_cells.specs.Pieces.{one, numbered}
 
 -- of a processor, a space, an activation; of a thing of a space
 abbrev pub of_space : ℕ → List ℕ → ℕ → List ℕ
-of_space s word n = one (codes "s") s word ++ decimal n
+of_space s word n = numbered (codes "s") s ++ numbered word n
 
 abbrev pub name_of : Cell → List ℕ
 name_of (Owner p) = one (codes "p") p.0 (codes ".space")

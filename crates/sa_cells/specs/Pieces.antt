@@ -8,15 +8,15 @@ use Rattle.sa_base.specs.declared.number.ActNo.{ActNo}
 abbrev pub numbered : List ℕ → ℕ → List ℕ
 numbered word n = word ++ decimal n
 
-abbrev pub one : List ℕ → ℕ → List ℕ → List ℕ
+unfoldable pub one : List ℕ → ℕ → List ℕ → List ℕ
 one before n behind = before ++ decimal n ++ behind
 
 -- two and three numbers between words
-abbrev pub two : List ℕ → ℕ → List ℕ → ℕ → List ℕ → List ℕ
-two before n between m behind = before ++ decimal n ++ between ++ decimal m ++ behind
+unfoldable pub two : List ℕ → ℕ → List ℕ → ℕ → List ℕ → List ℕ
+two before n between m behind = one before n between ++ decimal m ++ behind
 
-abbrev pub three : List ℕ → ℕ → List ℕ → ℕ → List ℕ → ℕ → List ℕ → List ℕ
-three before n between m then k behind = before ++ decimal n ++ between ++ decimal m ++ then ++ decimal k ++ behind
+unfoldable pub three : List ℕ → ℕ → List ℕ → ℕ → List ℕ → ℕ → List ℕ → List ℕ
+three before n between m middle k behind = two before n between m middle ++ decimal k ++ behind
 
 -- a number that may be absent
 abbrev pub space_if : Option SpaceNo → List ℕ
@@ -28,15 +28,15 @@ act_if None = codes "-"
 act_if (Some a) = decimal a.0
 
 -- a space that may be absent, and a thread that may be, in words
-abbrev pub a_space : Option SpaceNo → List ℕ
+unfoldable pub a_space : Option SpaceNo → List ℕ
 a_space None = codes "no space"
 a_space (Some s) = numbered (codes "space ") s.0
 
-abbrev pub a_thread : Option ThreadNo → List ℕ
+unfoldable pub a_thread : Option ThreadNo → List ℕ
 a_thread None = codes "no thread"
 a_thread (Some t) = numbered (codes "thread ") t.0
 
 -- a thread behind other words, where there is one
-abbrev pub and_thread : Option ThreadNo → List ℕ
+unfoldable pub and_thread : Option ThreadNo → List ℕ
 and_thread None = []
 and_thread (Some t) = numbered (codes ", thread ") t.0

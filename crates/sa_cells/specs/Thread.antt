@@ -12,7 +12,7 @@ use Rattle.sa_workload.specs.Text.{operand_word}
 use Rattle.sa_laws.specs.declared.place.Place.{Place}
 use Rattle.sa_laws.specs.declared.place.Place.TheVariants.{Running, Ready, Blocked, Waiting, Carried, Done}
 use Rattle.sa_laws.specs.State.{State, Thread, space_at, thread_at, instr_of, is_due}
-use Rattle.sa_cells.specs.Pieces.{numbered}
+use Rattle.sa_cells.specs.Pieces.{numbered, one}
 
 -- an instruction as the workload text has it: the word of its operation, and each operand after a space
 abbrev pub operand_text : Operand → List ℕ
@@ -32,7 +32,7 @@ place_text Done due = codes "done"
 
 -- what it runs next, unless it is done
 unfoldable pub next_text : ℕ → Instr → List ℕ
-next_text pc i = numbered (codes ", at ") pc ++ codes ": " ++ instr_text i
+next_text pc i = one (codes ", at ") pc (codes ": ") ++ instr_text i
 
 abbrev pub going_text : Place → ℕ → Instr → List ℕ
 going_text Done pc i = []

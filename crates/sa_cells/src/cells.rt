@@ -3,7 +3,7 @@ ghost use Rattle.std.specs.Prelude.{◌≡◌, ◌++◌, ◌<◌, [], length, On
 ghost use Rattle.std.specs.List.{flat_map};
 ghost use Rattle.sa_check_moment.specs.Seen.{seen};
 ghost use Rattle.sa_cells.specs.Space.{act_if};
-ghost use Rattle.sa_cells.specs.Cells.{processor_cells, list_cells, thread_cell, mutex_cell, semaphore_cell, shared_cell, up_to, cells_of_space, space_cells, act_cells, acts_in, all_acts, with_act, each_once, acts_of, cells_of};
+ghost use Rattle.sa_cells.specs.Cells.{processor_cells, list_cells, thread_cell, mutex_cell, semaphore_cell, shared_cell, up_to, cells_of_space, space_cells, act_cells, acts_in, all_acts, has_act, with_act, each_once, acts_of, cells_of};
 
 use crate::cell::Cell;
 use crate::space::{act_of_note, push_act, push_running};
@@ -176,9 +176,14 @@ fn each_once(alloc: Global, acts: &[ActNo]) -> Result<Vec<ActNo>, AllocError>
 fn add_once(once: &mut Vec<ActNo>, a: ActNo) -> Result<(), AllocError>
     ensures { OnOk result (once.new.items ≡ with_act once.old.items a) }
 {
-    if once.iter().any(|b| b.0 == a.0) {
-        return Ok(());
+    if !has_act(once, a) {
+        once.push(a)?;
     }
-    once.push(a)?;
     Ok(())
+}
+
+fn has_act(acts: &[ActNo], a: ActNo) -> bool
+    ensures { result ≡ has_act acts.now a }
+{
+    acts.iter().any(|b| b.0 == a.0)
 }

@@ -6,6 +6,13 @@ use sa_base::{ActNo, SpaceNo, ThreadNo};
 use sa_text::print_number;
 use std::alloc::AllocError;
 
+/// Appends words.
+pub(crate) fn push_piece(out: &mut Vec<u8>, words: &[u8]) -> Result<(), AllocError>
+    ensures { OnOk result (out.new.items ≡ out.old.items ++ words.now) }
+{
+    out.extend_from_slice(words)
+}
+
 /// Appends words and a number.
 pub(crate) fn push_numbered(out: &mut Vec<u8>, word: &[u8], n: u64) -> Result<(), AllocError>
     ensures { OnOk result (out.new.items ≡ out.old.items ++ numbered word.now n) }
@@ -15,6 +22,7 @@ pub(crate) fn push_numbered(out: &mut Vec<u8>, word: &[u8], n: u64) -> Result<()
 }
 
 /// Appends a number between words.
+#[tactic(auto, unfolding(crate::specs::Pieces::one))]
 pub(crate) fn push_one(
     out: &mut Vec<u8>,
     before: &[u8],
@@ -29,6 +37,7 @@ pub(crate) fn push_one(
 }
 
 /// Appends two numbers between words.
+#[tactic(auto, unfolding(crate::specs::Pieces::two))]
 pub(crate) fn push_two(
     out: &mut Vec<u8>,
     before: &[u8],
@@ -46,20 +55,21 @@ pub(crate) fn push_two(
 }
 
 /// Appends three numbers between words.
+#[tactic(auto, unfolding(crate::specs::Pieces::three))]
 pub(crate) fn push_three(
     out: &mut Vec<u8>,
     before: &[u8],
     n: u64,
     between: &[u8],
     m: u64,
-    then: &[u8],
+    middle: &[u8],
     k: u64,
     behind: &[u8],
 ) -> Result<(), AllocError>
     ensures { OnOk result (out.new.items
-        ≡ out.old.items ++ three before.now n between.now m then.now k behind.now) }
+        ≡ out.old.items ++ three before.now n between.now m middle.now k behind.now) }
 {
-    push_two(out, before, n, between, m, then)?;
+    push_two(out, before, n, between, m, middle)?;
     print_number(k, out)?;
     out.extend_from_slice(behind)
 }
@@ -85,6 +95,7 @@ pub(crate) fn push_act_if(out: &mut Vec<u8>, a: Option<ActNo>) -> Result<(), All
 }
 
 /// Appends a space that may be absent, in words.
+#[tactic(auto, unfolding(crate::specs::Pieces::a_space))]
 pub(crate) fn push_a_space(out: &mut Vec<u8>, s: Option<SpaceNo>) -> Result<(), AllocError>
     ensures { OnOk result (out.new.items ≡ out.old.items ++ a_space s) }
 {
@@ -95,6 +106,7 @@ pub(crate) fn push_a_space(out: &mut Vec<u8>, s: Option<SpaceNo>) -> Result<(), 
 }
 
 /// Appends a thread that may be absent, in words.
+#[tactic(auto, unfolding(crate::specs::Pieces::a_thread))]
 pub(crate) fn push_a_thread(out: &mut Vec<u8>, t: Option<ThreadNo>) -> Result<(), AllocError>
     ensures { OnOk result (out.new.items ≡ out.old.items ++ a_thread t) }
 {
@@ -105,6 +117,7 @@ pub(crate) fn push_a_thread(out: &mut Vec<u8>, t: Option<ThreadNo>) -> Result<()
 }
 
 /// Appends a thread behind other words, where there is one.
+#[tactic(auto, unfolding(crate::specs::Pieces::and_thread))]
 pub(crate) fn push_and_thread(out: &mut Vec<u8>, t: Option<ThreadNo>) -> Result<(), AllocError>
     ensures { OnOk result (out.new.items ≡ out.old.items ++ and_thread t) }
 {

@@ -1,13 +1,12 @@
 // What the cells of a space hold.
-ghost use Rattle.std.specs.Prelude.{◌≡◌, ◌++◌, find, OnOk, IfOk};
-ghost use Rattle.std.specs.List.{flat_map};
-ghost use Rattle.sa_devices.specs.Ios.{Io};
+ghost use Rattle.std.specs.Prelude.{◌≡◌, ◌++◌, length, OnOk, IfOk};
+ghost use Rattle.std.specs.List.{flat_map, range_with_len};
 ghost use Rattle.sa_laws.specs.Readings.{untold_of};
 ghost use Rattle.sa_check_moment.specs.Seen.{seen};
-ghost use Rattle.sa_cells.specs.Space.{note_text, untold_text, listed_in, list_text, act_if, act_of_io, act_of_note, candidates, lock_in, lock_at, held_text, holder_among, holder_text};
+ghost use Rattle.sa_cells.specs.Space.{note_text, untold_text, listed_in, list_text, act_if, act_of_io, act_of_io_if, io_act, act_of_note, candidates, lock_among, lock_in, lock_at, held_text, held_or, holder_in, holder_text};
 
 use crate::pieces::{push_and_thread, push_numbered};
-use sa_base::{ActNo, Note, ProcNo, SpaceNo};
+use sa_base::{ActNo, Note, ProcNo, SpaceNo, ThreadNo};
 use sa_check_ios::ListedThread;
 use sa_check_lives::{KeptLife, ListLock};
 use sa_check_moment::Moment;
@@ -69,34 +68,39 @@ pub(crate) fn push_holder(
     ensures { OnOk result (out.new.items ≡ out.old.items ++ holder_text (seen moment.now).readings s l) }
 {
     let acts = candidates(alloc, moment, s)?;
-    push_holder_among(out, moment, s, l, &acts)
+    match holder_in(moment, s, l, &acts) {
+        None => out.extend_from_slice(b"free"),
+        Some(a) => push_held_by(out, a, lock_at(moment, s, l, a)),
+    }
 }
 
-// Appends the first of these lives that holds the lock.
-fn push_holder_among(
-    out: &mut Vec<u8>,
-    moment: &Moment,
-    s: SpaceNo,
-    l: ProcNo,
-    acts: &[ActNo],
-) -> Result<(), AllocError>
-    ensures { OnOk result (out.new.items
-        ≡ out.old.items ++ holder_among (seen moment.now).readings s l acts.now) }
+// The first of these lives that has the lock.
+fn holder_in(moment: &Moment, s: SpaceNo, l: ProcNo, acts: &[ActNo]) -> Option<ActNo>
+    ensures { result ≡ holder_in (seen moment.now).readings s l acts.now }
 {
     for a in acts {
-        if let Some(lock) = lock_at(moment, s, l, *a) {
-            return push_held(out, *a, lock);
+        if lock_at(moment, s, l, *a).is_some() {
+            return Some(*a);
         }
     }
-    out.extend_from_slice(b"free")
+    None
 }
 
-#[tactic(auto, unfolding(crate::specs::Space::held_text))]
-fn push_held(out: &mut Vec<u8>, a: ActNo, lock: ListLock) -> Result<(), AllocError>
-    ensures { OnOk result (out.new.items ≡ out.old.items ++ held_text a lock) }
+// Appends who has the lock, if this life has it.
+fn push_held_by(out: &mut Vec<u8>, a: ActNo, lock: Option<ListLock>) -> Result<(), AllocError>
+    ensures { OnOk result (out.new.items ≡ out.old.items ++ held_or lock a) }
+{
+    match lock {
+        None => out.extend_from_slice(b"free"),
+        Some(lock) => push_held(out, a, lock.thread),
+    }
+}
+
+fn push_held(out: &mut Vec<u8>, a: ActNo, t: Option<ThreadNo>) -> Result<(), AllocError>
+    ensures { OnOk result (out.new.items ≡ out.old.items ++ held_text a t) }
 {
     push_numbered(out, b"activation ", a.0)?;
-    push_and_thread(out, lock.thread)
+    push_and_thread(out, t)
 }
 
 // The lock of the list, where the life has it.
@@ -113,10 +117,22 @@ fn lock_in(life: &KeptLife, s: SpaceNo, l: ProcNo) -> Option<ListLock>
     ensures { result ≡ lock_in s l (Some life.now) }
 {
     if life.space().0 == s.0 {
-        life.locks().iter().copied().find(|lock| lock.list.0 == l.0)
+        lock_among(life.locks(), l)
     } else {
         None
     }
+}
+
+// The first of these locks that is of the list.
+fn lock_among(locks: &[ListLock], l: ProcNo) -> Option<ListLock>
+    ensures { result ≡ lock_among l locks.now }
+{
+    for lock in locks {
+        if lock.list.0 == l.0 {
+            return Some(*lock);
+        }
+    }
+    None
 }
 
 // The lives among which the holder of a lock is looked for.
@@ -155,15 +171,23 @@ pub(crate) fn push_act(acts: &mut Vec<ActNo>, a: Option<ActNo>) -> Result<(), Al
 
 // Appends the activations whose I/O is under way.
 fn push_ios(acts: &mut Vec<ActNo>, moment: &Moment) -> Result<(), AllocError>
-    ensures { OnOk result (acts.new.items
-        ≡ acts.old.items ++ flat_map (λ (io : Io). act_of_io io.kind) (seen moment.now).readings.under_way) }
+    ensures { OnOk result (acts.new.items ≡ acts.old.items ++ flat_map (io_act (seen moment.now).readings)
+        (range_with_len 0 (length (seen moment.now).readings.under_way))) }
 {
     for k in 0..moment.io_len() {
-        if let Some(kind) = moment.io_kind(k) {
-            push_act(acts, act_of_io(kind))?;
-        }
+        push_io(acts, moment.io_kind(k))?;
     }
     Ok(())
+}
+
+// Appends the activation that an I/O is of, if there is one.
+fn push_io(acts: &mut Vec<ActNo>, kind: Option<IoKind>) -> Result<(), AllocError>
+    ensures { OnOk result (acts.new.items ≡ acts.old.items ++ act_of_io_if kind) }
+{
+    match kind {
+        None => Ok(()),
+        Some(kind) => push_act(acts, act_of_io(kind)),
+    }
 }
 
 // The activation that an I/O is of.

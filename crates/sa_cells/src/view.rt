@@ -1,13 +1,10 @@
 // What a moment shows, beside what the threads of each space wait on.
 ghost use Rattle.std.specs.Prelude.{◌≡◌, IfOk};
 ghost use Rattle.sa_laws.specs.Step.{Needs};
-ghost use Rattle.sa_check_moment.specs.Seen.{seen, opened, at_event, behind_record, at_end, lowers};
-ghost use Rattle.sa_check_moment.specs.Ending.{IsOver};
-ghost use Rattle.sa_laws.specs.Readings.{Readings, running_of};
-ghost use Rattle.sa_check_moment.specs.Seen.{event};
+ghost use Rattle.sa_check_moment.specs.Seen.{seen, opened, at_event, behind_record};
 
 use sa_base::{ProcNo, Record};
-use sa_check_moment::{Moment, Rules, Start};
+use sa_check_moment::{Moment, Rules};
 use sa_replay::Replay;
 use sa_spaces::Workload;
 use std::alloc::{AllocError, Global};
@@ -19,8 +16,8 @@ pub struct View {
     pub moment: Moment,
     /// What the threads of each space wait on at this moment, and the cells that they share.
     pub replay: Replay,
-    ghost same_state: { replay.state ≡ (seen moment).readings.state },
-    ghost same_workload: { replay.workload ≡ (seen moment).workload },
+    pub ghost same_state: { replay.state ≡ (seen moment).readings.state },
+    pub ghost same_workload: { replay.workload ≡ (seen moment).workload },
 }
 
 impl View {
@@ -52,24 +49,6 @@ impl View {
         let View { moment, mut replay } = self;
         replay.change(p, what)?;
         let moment = moment.read(number, p, what)?;
-        Ok(View { moment, replay })
-    }
-
-    /// The event of this number and processor with these records is over.
-    pub fn finish(
-        self,
-        number: u64,
-        p: ProcNo,
-        records: &[Record],
-        start: Start,
-        urged: bool,
-    ) -> Result<View, AllocError>
-        ensures { (before : Readings) → start.running ≡ running_of before p → start.lowers ≡ lowers before records.now
-            → IsOver before (event number p records.now) urged (seen self.moment)
-            → IfOk result (λ view. seen view.moment ≡ at_end before number p records.now (seen self.moment)) }
-    {
-        let View { moment, replay } = self;
-        let moment = moment.finish(number, p, records, start, urged)?;
         Ok(View { moment, replay })
     }
 }

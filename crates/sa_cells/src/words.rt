@@ -1,8 +1,9 @@
 // What a record says, in words.
-ghost use Rattle.std.specs.Prelude.{◌≡◌, ◌++◌, OnOk};
+ghost use Rattle.std.specs.Prelude.{◌≡◌, ◌++◌, codes, OnOk};
+ghost use Rattle.sa_cells.specs.Pieces.{one, two};
 ghost use Rattle.sa_cells.specs.Words.{thread_words, ready_words, page_words, list_words, stop_words, block_words, unblock_words, cont_words, back_words, move_words, aim_words, told_words, words_of};
 
-use crate::pieces::{push_a_space, push_a_thread, push_one, push_three, push_two};
+use crate::pieces::{push_a_space, push_a_thread, push_one, push_piece, push_three, push_two};
 use sa_base::{ActNo, IoNo, Note, ProcNo, Record, SpaceNo, ThreadNo};
 use std::alloc::AllocError;
 
@@ -116,7 +117,6 @@ fn push_page(out: &mut Vec<u8>, s: SpaceNo, becomes: &[u8]) -> Result<(), AllocE
 }
 
 // Appends what becomes of the lock of a list, and of whom.
-#[tactic(auto, unfolding(crate::specs::Words::list_words))]
 fn push_list(
     out: &mut Vec<u8>,
     s: SpaceNo,
@@ -126,19 +126,11 @@ fn push_list(
 ) -> Result<(), AllocError>
     ensures { OnOk result (out.new.items ≡ out.old.items ++ list_words s l becomes.now t) }
 {
-    push_two(
-        out,
-        b"The lock of list ",
-        u64::from(l.0),
-        b" of space ",
-        u64::from(s.0),
-        becomes,
-    )?;
+    push_list_of(out, l, s, becomes)?;
     push_a_thread(out, t)?;
-    out.extend_from_slice(b".")
+    push_piece(out, b".")
 }
 
-#[tactic(auto, unfolding(crate::specs::Words::stop_words))]
 fn push_stop(out: &mut Vec<u8>, s: SpaceNo, t: Option<ThreadNo>, a: ActNo) -> Result<(), AllocError>
     ensures { OnOk result (out.new.items ≡ out.old.items ++ stop_words s t a) }
 {
@@ -149,15 +141,14 @@ fn push_stop(out: &mut Vec<u8>, s: SpaceNo, t: Option<ThreadNo>, a: ActNo) -> Re
         b", which has ",
     )?;
     push_a_thread(out, t)?;
-    push_one(
+    push_space(
         out,
         b". It will not go on as it was: space ",
-        u64::from(s.0),
+        s,
         b" is owed the news.",
     )
 }
 
-#[tactic(auto, unfolding(crate::specs::Words::block_words))]
 fn push_block(
     out: &mut Vec<u8>,
     s: SpaceNo,
@@ -169,17 +160,16 @@ fn push_block(
 {
     push_one(out, b"Activation ", a.0, b", which has ")?;
     push_a_thread(out, t)?;
-    push_two(
+    push_io(
         out,
         b", waits in the kernel for I/O ",
-        u64::from(io.0),
+        io,
         b". The processor is still that of space ",
-        u64::from(s.0),
+        s,
         b", which is owed the news.",
     )
 }
 
-#[tactic(auto, unfolding(crate::specs::Words::unblock_words))]
 fn push_unblock(
     out: &mut Vec<u8>,
     s: SpaceNo,
@@ -195,40 +185,38 @@ fn push_unblock(
         b" waited for is done; it has ",
     )?;
     push_a_thread(out, t)?;
-    push_one(
+    push_space(
         out,
         b". Only space ",
-        u64::from(s.0),
+        s,
         b" can go on with it, and is owed the news.",
     )
 }
 
-#[tactic(auto, unfolding(crate::specs::Words::cont_words))]
 fn push_cont(out: &mut Vec<u8>, s: SpaceNo, t: Option<ThreadNo>) -> Result<(), AllocError>
     ensures { OnOk result (out.new.items ≡ out.old.items ++ cont_words s t) }
 {
-    push_one(
+    push_space(
         out,
         b"A section of space ",
-        u64::from(s.0),
+        s,
         b" that was cut off runs on in its copy, with ",
     )?;
     push_a_thread(out, t)?;
-    out.extend_from_slice(b".")
+    push_piece(out, b".")
 }
 
-#[tactic(auto, unfolding(crate::specs::Words::back_words))]
 fn push_back(out: &mut Vec<u8>, s: SpaceNo, t: Option<ThreadNo>) -> Result<(), AllocError>
     ensures { OnOk result (out.new.items ≡ out.old.items ++ back_words s t) }
 {
-    push_one(
+    push_space(
         out,
         b"The copy of the section is through: the handler of space ",
-        u64::from(s.0),
+        s,
         b" has control, with ",
     )?;
     push_a_thread(out, t)?;
-    out.extend_from_slice(b".")
+    push_piece(out, b".")
 }
 
 #[tactic(auto, unfolding(crate::specs::Words::move_words))]
@@ -243,21 +231,68 @@ fn push_move(
     push_a_space(out, old)?;
     out.extend_from_slice(b" to ")?;
     push_a_space(out, new)?;
-    out.extend_from_slice(b".")
+    push_piece(out, b".")
 }
 
-#[tactic(auto, unfolding(crate::specs::Words::aim_words))]
 fn push_aim(out: &mut Vec<u8>, p: ProcNo, s: Option<SpaceNo>) -> Result<(), AllocError>
     ensures { OnOk result (out.new.items ≡ out.old.items ++ aim_words p s) }
 {
-    push_one(
-        out,
-        b"By the policy, processor ",
-        u64::from(p.0),
-        b" should go to ",
-    )?;
+    push_processor(out, b"By the policy, processor ", p, b" should go to ")?;
     push_a_space(out, s)?;
-    out.extend_from_slice(b".")
+    push_piece(out, b".")
+}
+
+// Appends the number of a space, of a processor, of a list and its space, of an I/O and a space, between words.
+
+fn push_space(out: &mut Vec<u8>, before: &[u8], s: SpaceNo, behind: &[u8]) -> Result<(), AllocError>
+    ensures { OnOk result (out.new.items ≡ out.old.items ++ one before.now s.0 behind.now) }
+{
+    push_one(out, before, u64::from(s.0), behind)
+}
+
+fn push_processor(
+    out: &mut Vec<u8>,
+    before: &[u8],
+    p: ProcNo,
+    behind: &[u8],
+) -> Result<(), AllocError>
+    ensures { OnOk result (out.new.items ≡ out.old.items ++ one before.now p.0 behind.now) }
+{
+    push_one(out, before, u64::from(p.0), behind)
+}
+
+fn push_list_of(out: &mut Vec<u8>, l: ProcNo, s: SpaceNo, becomes: &[u8]) -> Result<(), AllocError>
+    ensures { OnOk result (out.new.items
+        ≡ out.old.items ++ two (codes "The lock of list ") l.0 (codes " of space ") s.0 becomes.now) }
+{
+    push_two(
+        out,
+        b"The lock of list ",
+        u64::from(l.0),
+        b" of space ",
+        u64::from(s.0),
+        becomes,
+    )
+}
+
+fn push_io(
+    out: &mut Vec<u8>,
+    before: &[u8],
+    io: IoNo,
+    between: &[u8],
+    s: SpaceNo,
+    behind: &[u8],
+) -> Result<(), AllocError>
+    ensures { OnOk result (out.new.items ≡ out.old.items ++ two before.now io.0 between.now s.0 behind.now) }
+{
+    push_two(
+        out,
+        before,
+        u64::from(io.0),
+        between,
+        u64::from(s.0),
+        behind,
+    )
 }
 
 // Appends what an upcall tells.

@@ -26,8 +26,9 @@ pub(crate) fn advance(view: View, event: &TraceEvent) -> Result<Option<View>, Al
     let Some(all) = read_some(own, number, p, closing_part(records))? else {
         return Ok(None);
     };
-    let after = all.finish(number, p, records, start, urged)?;
-    Ok(Some(after))
+    let View { moment, replay } = all;
+    let moment = moment.finish(number, p, records, start, urged)?;
+    Ok(Some(View { moment, replay }))
 }
 
 // What is seen behind these records of an event. `None` exactly where one of them is no step of the abstract machine.
