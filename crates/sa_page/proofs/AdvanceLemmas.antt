@@ -17,7 +17,8 @@ use Rattle.sa_check.specs.Judged.{after}
 use Rattle.sa_check.specs.Places.{urged_at}
 use Rattle.sa_check.specs.Records.{behind_some}
 use Rattle.sa_check.proofs.JudgeLemmas.{ended-is}
-use Rattle.sa_page.specs.Advance.{IsBehind, IsAdvanced}
+use Rattle.sa_cells.specs.declared.view.View.{View}
+use Rattle.sa_page.specs.Advance.{IsBehind, ReadsSome, IsAdvanced}
 use Rattle.sa_page.proofs.UrgedLemmas.{parts-are, over-is}
 
 -- steps of records one after another are those of the first ones, and of those after them
@@ -86,10 +87,33 @@ steps m start own all e begins first rest =
           (steps-append s.workload e.number e.proc s.readings (own_part e.records) (closing_part e.records) front back);
     }
 
-pub advanced : (m start own all next : Seen) (e : Event) (running : Option ActNo) (urged : Bool) → start ≡ at_event e.number e.proc m
+-- what the end of the event needs
+over : (m start own all : Seen) (e : Event) (running : Option ActNo) (urged : Bool) → start ≡ at_event e.number e.proc m
     → running ≡ running_of m.readings e.proc → IsBehind start (own_event e) own → IsBehind own (closing_event e) all → urged ≡ urged_at own running
-    → (IsOver m.readings e urged all → next ≡ at_end m.readings e.number e.proc e.records all) → IsAdvanced m e next
-advanced m start own all next e running urged begins runs first rest is ends =
-    let reads = whole start own all e first rest in
-    let over = over-is m start all e running urged begins runs reads (is ∙ ap (λ (x : Seen). urged_at x running) first.moment) in
-    record { steps = steps m start own all e begins first rest; moment = ended-is m start all next e begins reads (ends over) }
+    → IsOver m.readings e urged all
+over m start own all e running urged begins runs first rest is =
+    over-is m start all e running urged begins runs (whole start own all e first rest) (is ∙ ap (λ (x : Seen). urged_at x running) first.moment)
+
+pub advanced : (m start own all next : Seen) (e : Event) → start ≡ at_event e.number e.proc m → IsBehind start (own_event e) own
+    → IsBehind own (closing_event e) all → next ≡ at_end m.readings e.number e.proc e.records all → IsAdvanced m e next
+advanced m start own all next e begins first rest ends =
+    record { steps = steps m start own all e begins first rest; moment = ended-is m start all next e begins (whole start own all e first rest) ends }
+
+-- the moment at the end of the event, where this is what it ends with
+pub at-end : (m start own all next : Seen) (e : Event) (running : Option ActNo) (urged : Bool) → start ≡ at_event e.number e.proc m
+    → running ≡ running_of m.readings e.proc → IsBehind start (own_event e) own → IsBehind own (closing_event e) all → urged ≡ urged_at own running
+    → (IsOver m.readings e urged all → next ≡ at_end m.readings e.number e.proc e.records all) → next ≡ at_end m.readings e.number e.proc e.records all
+at-end m start own all next e running urged begins runs first rest is ends = ends (over m start own all e running urged begins runs first rest is)
+
+-- what is read of some records, where they are these
+pub read-own : (start : Seen) (e : Event) (records : List Record) (found view : Option View) → records ≡ own_part e.records → found ≡ view
+    → ReadsSome start (event e.number e.proc records) found → ReadsSome start (own_event e) view
+read-own start e records found view same is reads =
+    subst (λ (o : Option View). ReadsSome start (own_event e) o) is
+    (subst (λ (rs : List Record). ReadsSome start (event e.number e.proc rs) found) same reads)
+
+pub read-closing : (own : Seen) (e : Event) (records : List Record) (found view : Option View) → records ≡ closing_part e.records → found ≡ view
+    → ReadsSome own (event e.number e.proc records) found → ReadsSome own (closing_event e) view
+read-closing own e records found view same is reads =
+    subst (λ (o : Option View). ReadsSome own (closing_event e) o) is
+    (subst (λ (rs : List Record). ReadsSome own (event e.number e.proc rs) found) same reads)

@@ -1,3 +1,4 @@
 mod UrgedLemmas
 mod AdvanceLemmas
 mod ShownLemmas
+mod PageLemmas

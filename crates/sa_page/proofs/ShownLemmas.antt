@@ -20,11 +20,8 @@ Continues start events old now rest out = (final : List ℕ) → WritesShown now
 pub shown-all : (m : Seen) (out : List ℕ) → WritesShown m [] out out
 shown-all m out = record { text = []; shows = refl; written = sym (append-nil out) }
 
--- an event with these records, and those behind it
-abbrev pub event_at : Item → List Item → List Record → Event
-event_at first others records = event first.event first.proc records
-
-events-are : (first : Item) (others : List Item) (n : ℕ) (records : List Record) → n ≡ prefix_len (is_with first) others
+-- an event, and those behind it
+pub events-are : (first : Item) (others : List Item) (n : ℕ) (records : List Record) → n ≡ prefix_len (is_with first) others
     → records ≡ first.what ∷ map what_of (take n others)
     → events_of (first ∷ others) ≡ event first.event first.proc records ∷ events_of (drop n others)
 events-are first others n records len is =
@@ -48,18 +45,13 @@ stops : (m : Seen) (e : Event) (es : List Event) (out final : List ℕ) → (IsS
     → WritesShown m (e ∷ es) out final
 stops m e es out final none is = record { text = stop_line e.number; shows = inr (none, refl); written = is }
 
-pub goes-on : (start now next : Seen) (events : List Event) (old out new : List ℕ) (first : Item) (others rest : List Item) (n : ℕ) (records : List Record)
-    → rest ≡ first ∷ others → n ≡ prefix_len (is_with first) others → records ≡ first.what ∷ map what_of (take n others)
-    → GoesOn now (event first.event first.proc records) out new next
-    → Continues start events old now (events_of rest) out → Continues start events old next (events_of (drop n others)) new
-goes-on start now next events old out new first others rest n records at len is goes so final shown =
-    so final (subst (λ es. WritesShown now es out final) (sym (ap events_of at ∙ events-are first others n records len is))
-    (more now next (event first.event first.proc records) (events_of (drop n others)) out new final goes shown))
+pub goes-on : (start now next : Seen) (events all es : List Event) (old out new : List ℕ) (e : Event) → all ≡ e ∷ es
+    → GoesOn now e out new next → Continues start events old now all out → Continues start events old next es new
+goes-on start now next events all es old out new e at goes so final shown =
+    so final (subst (λ xs. WritesShown now xs out final) (sym at) (more now next e es out new final goes shown))
 
-pub ends-there : (start now : Seen) (events : List Event) (old out final : List ℕ) (first : Item) (others rest : List Item) (n : ℕ) (records : List Record)
-    → rest ≡ first ∷ others → n ≡ prefix_len (is_with first) others → records ≡ first.what ∷ map what_of (take n others)
-    → (IsStepwise now.workload now.readings (event first.event first.proc records) → ⊥) → final ≡ out ++ stop_line first.event
-    → Continues start events old now (events_of rest) out → WritesShown start events old final
-ends-there start now events old out final first others rest n records at len is none written so =
-    so final (subst (λ es. WritesShown now es out final) (sym (ap events_of at ∙ events-are first others n records len is))
-    (stops now (event first.event first.proc records) (events_of (drop n others)) out final none written))
+pub ends-there : (start now : Seen) (events all es : List Event) (old out final : List ℕ) (e : Event) → all ≡ e ∷ es
+    → (IsStepwise now.workload now.readings e → ⊥) → final ≡ out ++ stop_line e.number → Continues start events old now all out
+    → WritesShown start events old final
+ends-there start now events all es old out final e at none written so =
+    so final (subst (λ xs. WritesShown now xs out final) (sym at) (stops now e es out final none written))

@@ -6,7 +6,7 @@ ghost use Rattle.sa_page.specs.Advance.{told};
 ghost use Rattle.sa_page.specs.Shown.{stop_line, WritesShown, ShowsOne};
 
 use crate::advance::advance;
-use crate::event::{TraceEvent, records_of, with_first};
+use crate::event::{TraceEvent, gather};
 use crate::shown::Pair;
 use sa_base::Item;
 use sa_cells::push_changes;
@@ -25,19 +25,17 @@ pub(crate) fn push_shown(
 {
     let mut pair = pair;
     let mut rest = items;
-    while let [first, others @ ..] = rest {
-        let len = with_first(first, others);
-        let records = records_of(alloc, first, &others[..len])?;
+    while let Some(next) = gather(alloc, rest)? {
         let event = TraceEvent {
-            number: first.event,
-            proc: first.proc,
-            records: &records,
+            number: next.first.event,
+            proc: next.first.proc,
+            records: &next.records,
         };
         match push_event(out, alloc, pair, &event)? {
-            Some(next) => pair = next,
-            None => return push_stop(out, first.event),
+            Some(after) => pair = after,
+            None => return push_stop(out, event.number),
         }
-        rest = &others[len..];
+        rest = next.rest;
     }
     Ok(())
 }

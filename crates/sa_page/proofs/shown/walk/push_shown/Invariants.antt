@@ -5,9 +5,9 @@ use Rattle.sa_page.proofs.ShownLemmas.{Continues}
 use Rattle.sa_page.proofs.shown.walk.push_shown.Given as goal
 
 -- what shows the rest behind what was written shows the whole
-abbrev pub invariant-loop-rest : goal.invariant-loop-rest
-invariant-loop-rest l =
+abbrev pub invariant-loop-pair : goal.invariant-loop-pair
+invariant-loop-pair l =
     Continues (seen l.fn.pair.now.moment) (events_of l.fn.items) l.initial.out.items (seen l.pair.now.moment) (events_of l.rest) l.out.items
 
-abbrev pub decreases-loop-rest : goal.decreases-loop-rest
-decreases-loop-rest l = length l.rest
+abbrev pub decreases-loop-pair : goal.decreases-loop-pair
+decreases-loop-pair l = length l.rest
