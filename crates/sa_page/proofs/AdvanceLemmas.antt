@@ -13,7 +13,6 @@ use Rattle.sa_laws.specs.Step.{AreSteps, IsStepwise}
 use Rattle.sa_histories.proofs.Appended.{records-append, steps-append}
 use Rattle.sa_check_moment.specs.Ending.{IsOver}
 use Rattle.sa_check_moment.specs.Seen.{Seen, at_event, at_end, event}
-use Rattle.sa_check.specs.Judged.{after}
 use Rattle.sa_check.specs.Places.{urged_at}
 use Rattle.sa_check.specs.Records.{behind_some}
 use Rattle.sa_check.proofs.JudgeLemmas.{ended-is}

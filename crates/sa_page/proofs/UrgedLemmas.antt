@@ -1,6 +1,6 @@
 -- What is known of pairs at the end of an event, where they are asked for before its last record.
-use Rattle.std.proofs.Common.{◌≡◌, ◌↔◌, ℕ, zero, suc, refl, sym, ◌∙◌, ap, subst, Bool, true, false, List, [], ◌∷◌, ◌++◌, length, take, drop, Option, Some, None}
-use Rattle.std.specs.Prelude.{IsTrue, ◌||◌, if◌then◌else◌}
+use Rattle.std.proofs.Common.{◌≡◌, ℕ, zero, suc, refl, sym, ◌∙◌, ap, subst, Bool, true, false, List, [], ◌∷◌, ◌++◌, length, take, drop, Option, Some, None}
+use Rattle.std.specs.Prelude.{◌||◌, if◌then◌else◌}
 use Rattle.std.specs.List.{list_any, prefix_len}
 use Rattle.std.specs.Option.{option_map}
 use Rattle.std.proofs.lemmas.Option.{same_Some}
@@ -22,7 +22,7 @@ use Rattle.sa_ranks.specs.Inside.{is_of_entry, begins_entry, has_entry, settling
 use Rattle.sa_histories.proofs.Appended.{records-append}
 use Rattle.sa_check_moment.specs.declared.rules.Rules.{Rules}
 use Rattle.sa_check_moment.specs.declared.rules.Rules.TheVariants.{Priorities}
-use Rattle.sa_check_moment.specs.Seen.{Seen, seen, at_event}
+use Rattle.sa_check_moment.specs.Seen.{Seen, at_event}
 use Rattle.sa_check_moment.specs.Urged.{urged_by, is_closed, asks_last}
 use Rattle.sa_check_moment.specs.Ending.{IsOver}
 use Rattle.sa_check.specs.Places.{urged_at}

@@ -1,9 +1,8 @@
 -- The text of a page: what every page has, and between it the verdict, the trace with its words, and what the cells hold.
-use Rattle.std.specs.Prelude.{◌≡◌, ⊤, ℕ, ◌<◌, ◌≤◌, List, ◌++◌, codes, decimal, Result, Ok, Err}
+use Rattle.std.specs.Prelude.{◌≡◌, ⊤, ℕ, ◌<◌, ◌≤◌, List, ◌++◌, codes, decimal, Ok, Err}
 use Rattle.std.specs.List.{flat_map}
 use Rattle.sa_base.specs.declared.record.End.{End}
 use Rattle.sa_base.specs.declared.record.Item.{Item}
-use Rattle.sa_base.specs.declared.refusal.Bad.{Bad}
 use Rattle.sa_spaces.specs.Workload.{WorkloadView}
 use Rattle.sa_trace.specs.Reading.{Told, read_of}
 use Rattle.sa_trace.specs.TraceText.{line_of, end_word}

@@ -7,14 +7,14 @@ use Rattle.sa_workload.specs.Text.{IsText}
 use Rattle.sa_check_moment.specs.declared.rules.Rules.{Rules}
 use Rattle.sa_page.specs.Page.{IsPage, HasManyEvents}
 use Rattle.sa_picture.specs.declared.text.TheConstants.{INPUT_LIMIT}
-use Rattle.sa_picture.specs.declared.texts.TheConstants.{WORKLOAD_LIMIT}
+use Rattle.sa_picture.specs.declared.parts.TheConstants.{WORKLOAD_LIMIT}
 use Rattle.sa_picture.specs.declared.request.Form.{Form}
 use Rattle.sa_picture.specs.declared.request.Form.TheVariants.{Picture, Page}
 use Rattle.sa_picture.specs.declared.request.Request.{Request}
 use Rattle.sa_picture.specs.declared.status.Status.{Status}
 use Rattle.sa_picture.specs.declared.status.Status.TheVariants.{BadWorkload, BadTrace, TooMuch, OutOfMemory}
 use Rattle.sa_picture.specs.Refusal.{too_long}
-use Rattle.sa_picture.specs.Texts.{workload_part, second_part, IsRefusedWorkload}
+use Rattle.sa_picture.specs.Parts.{workload_part, second_part, IsRefusedWorkload}
 use Rattle.sa_picture.specs.Drawn.{IsDrawn, IsNotDrawn}
 
 -- the first text is that of this workload, and neither is too long

@@ -4,10 +4,10 @@
 
 mod losses;
 mod paged;
+mod parts;
 mod request;
 mod status;
 mod text;
-mod texts;
 mod top;
 
 use sa_io::{StdSink, StdSource};

@@ -3,10 +3,10 @@ ghost use Rattle.std.specs.Prelude.{◌≡◌, ◌≤◌, length, IfOk, IfErr};
 ghost use Rattle.sa_picture.specs.declared.text.TheConstants.{INPUT_LIMIT};
 ghost use Rattle.sa_picture.specs.Paged.{IsWritten, IsNotWritten, IsPaged, IsNotPaged};
 
+use crate::parts::parts_of;
 use crate::request::{Form, Request};
 use crate::status::Status;
 use crate::text::{INPUT_LIMIT, picture_of, refusal_of_long};
-use crate::texts::parts_of;
 use sa_base::Unread;
 use sa_page::{PageError, Rules, page_of};
 use std::alloc::Global;

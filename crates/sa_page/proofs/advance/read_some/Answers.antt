@@ -1,7 +1,6 @@
-use Rattle.std.proofs.Common.{◌≡◌, ◌+◌, [], ◌∷◌, length, true, take, drop, get_or, refl, sym, ◌∙◌, ap, subst, arith}
+use Rattle.std.proofs.Common.{◌≡◌, ◌+◌, [], ◌∷◌, length, take, drop, get_or, refl, sym, ◌∙◌, ap, subst, arith}
 use Rattle.std.proofs.Math.Seq.{take-length}
 use Rattle.std.proofs.lemmas.List.{drop_more, drop_all}
-use Rattle.sa_base.specs.declared.record.Record.{Record}
 use Rattle.sa_laws.specs.Step.{AreSteps}
 use Rattle.sa_check_moment.specs.Seen.{seen, event}
 use Rattle.sa_check.specs.Records.{behind_some}

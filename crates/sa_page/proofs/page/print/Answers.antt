@@ -1,4 +1,4 @@
-use Rattle.std.proofs.Common.{◌≡◌, ◌++◌, List, refl, sym, ◌∙◌, ap, subst}
+use Rattle.std.proofs.Common.{List, refl, ◌∙◌, ap, subst}
 use Rattle.sa_base.specs.declared.record.Item.{Item}
 use Rattle.sa_laws.specs.Event.{events_of}
 use Rattle.sa_check_moment.specs.Seen.{Seen, seen, opened}

@@ -5,7 +5,7 @@ use Rattle.sa_base.specs.declared.refusal.Bad.{Bad}
 use Rattle.sa_base.specs.declared.refusal.Unread.{Unread}
 use Rattle.sa_base.specs.declared.refusal.Unread.TheVariants as unread
 use Rattle.sa_workload.specs.Bad.{BadAt}
-use Rattle.sa_picture.specs.declared.texts.TheConstants.{WORKLOAD_LIMIT}
+use Rattle.sa_picture.specs.declared.parts.TheConstants.{WORKLOAD_LIMIT}
 use Rattle.sa_picture.specs.Refusal.{too_long}
 
 -- the bytes through the first line that is `close`, where these bytes of the line came before; all bytes where there is no such line

@@ -2,7 +2,7 @@
 ghost use Rattle.std.specs.Prelude.{◌≡◌, ◌≤◌, length, codes, IfOk, IfErr};
 ghost use Rattle.std.specs.Str.{bytes_eq};
 ghost use Rattle.sa_workload.specs.Text.{IsText};
-ghost use Rattle.sa_picture.specs.Texts.{workload_part, second_part, IsNoWorkload};
+ghost use Rattle.sa_picture.specs.Parts.{workload_part, second_part, IsNoWorkload};
 
 use crate::text::refusal_of_long;
 use sa_base::Unread;
