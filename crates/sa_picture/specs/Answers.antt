@@ -7,7 +7,7 @@ use Rattle.sa_picture.specs.declared.text.TheConstants.{INPUT_LIMIT}
 use Rattle.sa_picture.specs.declared.request.Request.{Request}
 use Rattle.sa_picture.specs.declared.status.Status.{Status}
 use Rattle.sa_picture.specs.declared.status.Status.TheVariants.{Drawn, Usage, ReadFault, WriteFault, OutOfMemory}
-use Rattle.sa_picture.specs.Drawn.{IsDrawn, IsNotDrawn}
+use Rattle.sa_picture.specs.Paged.{IsWritten, IsNotWritten}
 
 -- what source and sink tell: what is left, what was taken, and how many reads and writes failed
 pub record World : Type 0 where
@@ -19,19 +19,19 @@ pub record World : Type 0 where
 abbrev pub world : Option (List ℕ) → Option (List ℕ) → ℕ → ℕ → World
 world left taken reads writes = record { left = left; taken = taken; reads = reads; writes = writes }
 
--- the source gave a trace text, and the text of its picture went to the sink in this way
+-- the source gave an input, and the text that is asked for of it went to the sink in this way
 pub record Draws (r : Request) (old new : World) (goes : List ℕ → Type 0) : Type 0 where
   pub input : List ℕ
   pub reads : ReadsInput INPUT_LIMIT old.left new.left input
   pub text : List ℕ
-  pub drawn : IsDrawn r input text
+  pub drawn : IsWritten r input text
   pub went : goes text
 
--- the source gave an input of which nothing is drawn, for the cause that the status says
+-- the source gave an input of which nothing is written, for the cause that the status says
 pub record Refuses (r : Request) (old new : World) (status : Status) : Type 0 where
   pub input : List ℕ
   pub reads : ReadsInput INPUT_LIMIT old.left new.left input
-  pub cause : IsNotDrawn r input status
+  pub cause : IsNotWritten r input status
 
 abbrev pub Answers : Request → World → World → Status → Type 0
 Answers r old new Drawn = Draws r old new (Appends old.taken new.taken)

@@ -11,8 +11,8 @@ use Rattle.sa_svg.specs.Drawing.{file_text}
 use Rattle.sa_trace.specs.Reading.{Told, read_of}
 use Rattle.sa_picture.specs.declared.text.TheConstants.{INPUT_LIMIT}
 use Rattle.sa_trace_events.specs.Whole.{can_be_shown, events_text}
-use Rattle.sa_picture.specs.declared.request.Form.{Form}
-use Rattle.sa_picture.specs.declared.request.Form.TheVariants.{Svg, Events}
+use Rattle.sa_picture.specs.declared.request.Drawing.{Drawing}
+use Rattle.sa_picture.specs.declared.request.Drawing.TheVariants.{Picture, Events}
 use Rattle.sa_picture.specs.declared.request.Request.{Request}
 use Rattle.sa_picture.specs.declared.status.Status.{Status}
 use Rattle.sa_picture.specs.declared.status.Status.TheVariants.{BadTrace, TooMuch, OutOfMemory}
@@ -57,30 +57,30 @@ pub record HasText (r : Request) (items : List Item) (text : List ℕ) : Type 0 
   pub text_is : text ≡ picture_text window items r.width
 
 -- the text of what is asked for, and that there is too much of it
-abbrev pub IsTextFor : Form → Request → List Item → List ℕ → Type 0
-IsTextFor Svg r items text = HasText r items text
+abbrev pub IsTextFor : Drawing → Request → List Item → List ℕ → Type 0
+IsTextFor Picture r items text = HasText r items text
 IsTextFor Events r items text = (can_be_shown items ≡ true) × (text ≡ events_text items)
 
-abbrev pub IsNoneFor : Form → Request → List Item → Type 0
-IsNoneFor Svg r items = drawn_window r items ≡ None
+abbrev pub IsNoneFor : Drawing → Request → List Item → Type 0
+IsNoneFor Picture r items = drawn_window r items ≡ None
 IsNoneFor Events r items = can_be_shown items ≡ false
 
 -- these bytes are the text of the picture or of the trace events of the trace of which the input is the text
-pub record IsDrawn (r : Request) (input : List ℕ) (text : List ℕ) : Type 0 where
+pub record IsDrawn (d : Drawing) (r : Request) (input : List ℕ) (text : List ℕ) : Type 0 where
   pub short : length input ≤ INPUT_LIMIT
   pub told : Told
   pub read : read_of (trace_part input) ≡ Ok told
-  pub drawn : IsTextFor r.form r told.items text
+  pub drawn : IsTextFor d r told.items text
 
 -- there is too much to draw of the trace of which the input is the text
-pub record IsTooMuch (r : Request) (input : List ℕ) : Type 0 where
+pub record IsTooMuch (d : Drawing) (r : Request) (input : List ℕ) : Type 0 where
   pub short : length input ≤ INPUT_LIMIT
   pub told : Told
   pub read : read_of (trace_part input) ≡ Ok told
-  pub none : IsNoneFor r.form r told.items
+  pub none : IsNoneFor d r told.items
 
-abbrev pub IsNotDrawn : Request → List ℕ → Status → Type 0
-IsNotDrawn r input (BadTrace bad) = IsRefused input bad
-IsNotDrawn r input TooMuch = IsTooMuch r input
-IsNotDrawn r input OutOfMemory = ⊤
-IsNotDrawn r input other = ⊥
+abbrev pub IsNotDrawn : Drawing → Request → List ℕ → Status → Type 0
+IsNotDrawn d r input (BadTrace bad) = IsRefused input bad
+IsNotDrawn d r input TooMuch = IsTooMuch d r input
+IsNotDrawn d r input OutOfMemory = ⊤
+IsNotDrawn d r input other = ⊥

@@ -1,11 +1,16 @@
 -- What the program is asked to draw: options of two words each, in any order and each at most once.
 use Rattle.std.specs.Option.{option_map}
-use Rattle.std.specs.Prelude.{ℕ, ◌^◌, ◌-◌, Bool, true, not, ◌&&◌, List, [], ◌∷◌, codes, Option, Some, None, option_and_then, unwrap_or, is_some, nat_le, if◌then◌else◌}
+use Rattle.std.specs.Prelude.{ℕ, ◌^◌, ◌-◌, Bool, true, not, is_none, ◌&&◌, ◌||◌, List, [], ◌∷◌, codes, Option, Some, None, option_and_then, unwrap_or, is_some, nat_le, if◌then◌else◌}
 use Rattle.std.specs.Str.{bytes_eq}
 use Rattle.sa_text.specs.Number.{number_of}
 use Rattle.sa_svg.specs.declared.layout.TheConstants.{DEFAULT_WIDTH, MAX_WIDTH, MIN_WIDTH}
+use Rattle.sa_check_moment.specs.declared.rules.Rules.{Rules}
+use Rattle.sa_check_moment.specs.declared.rules.Rules.TheVariants.{FastThreads, Priorities}
 use Rattle.sa_picture.specs.declared.request.Form.{Form}
-use Rattle.sa_picture.specs.declared.request.Form.TheVariants.{Svg, Events}
+use Rattle.sa_picture.specs.declared.request.Form.TheVariants as form
+use Rattle.sa_picture.specs.declared.request.FormWord.{FormWord}
+use Rattle.sa_picture.specs.declared.request.FormWord.TheVariants.{Svg, Events, Page}
+use Rattle.sa_picture.specs.declared.request.Drawing.TheVariants as drawing
 use Rattle.sa_picture.specs.declared.request.Request.{Request}
 use Rattle.sa_picture.specs.declared.request.Settings.{Settings}
 
@@ -16,24 +21,32 @@ within low high n = if nat_le low n && nat_le n high then Some n else None
 abbrev pub set_once : Option ℕ → ℕ → ℕ → List ℕ → Option ℕ
 set_once old low high word = if is_some old then None else option_and_then (within low high) (number_of word)
 
--- the form that a word names, that was not set before
-abbrev pub form_of : List ℕ → Option Form
-form_of word = if bytes_eq word (codes "svg") then Some Svg else (if bytes_eq word (codes "events") then Some Events else None)
+-- the words of forms and of packages
+abbrev pub form_in : List ℕ → Option FormWord
+form_in word = if bytes_eq word (codes "svg") then Some Svg else (if bytes_eq word (codes "events") then Some Events else (if bytes_eq word (codes "page") then Some Page else None))
 
-abbrev pub set_form : Option Form → List ℕ → Option Form
-set_form old word = if is_some old then None else form_of word
+abbrev pub rules_in : List ℕ → Option Rules
+rules_in word = if bytes_eq word (codes "fast") then Some FastThreads else (if bytes_eq word (codes "prio") then Some Priorities else None)
 
---   --form    what is made of the trace: a picture, or trace events
+abbrev pub with_form : Settings → List ℕ → Option Settings
+with_form s word = if is_some s.form then None else option_map (λ f. record s { form = Some f }) (form_in word)
+
+abbrev pub with_package : Settings → List ℕ → Option Settings
+with_package s word = if is_some s.rules then None else option_map (λ r. record s { rules = Some r }) (rules_in word)
+
+--   --form    what is written: svg, as where none is named, events or page
+--   --package by whose rules a page's trace is judged: fast, as where none is named, or prio
 --   --from    the first event that is drawn, any number of 64 bits
 --   --to      the last one
 --   --width   how many pixels wide the picture is to be
 abbrev pub with_option : Settings → List ℕ → List ℕ → Option Settings
 with_option s name value =
-    if bytes_eq name (codes "--form") then option_map (λ f. record s { form = Some f }) (set_form s.form value)
-    else (if bytes_eq name (codes "--from") then option_map (λ n. record s { from = Some n }) (set_once s.from 0 (2 ^ 64 - 1) value)
+    if bytes_eq name (codes "--from") then option_map (λ n. record s { from = Some n }) (set_once s.from 0 (2 ^ 64 - 1) value)
     else (if bytes_eq name (codes "--to") then option_map (λ n. record s { to = Some n }) (set_once s.to 0 (2 ^ 64 - 1) value)
     else (if bytes_eq name (codes "--width") then option_map (λ n. record s { width = Some n }) (set_once s.width MIN_WIDTH MAX_WIDTH value)
-    else None)))
+    else (if bytes_eq name (codes "--form") then with_form s value
+    else (if bytes_eq name (codes "--package") then with_package s value
+    else None))))
 
 -- the settings after these words, which come in pairs
 abbrev pub settings_of : Settings → List (List ℕ) → Option Settings
@@ -46,20 +59,37 @@ abbrev pub in_order : Option ℕ → Option ℕ → Bool
 in_order (Some from) (Some to) = nat_le from to
 in_order from to = true
 
--- of trace events no part is asked for, nor a width
-abbrev pub fits_form : Form → Settings → Bool
-fits_form Svg s = true
-fits_form Events s = not (is_some s.from) && not (is_some s.to) && not (is_some s.width)
+-- no part of the events is asked for, and no width
+abbrev pub is_whole : Settings → Bool
+is_whole s = is_none s.from && is_none s.to && is_none s.width
 
-abbrev pub request_as : Form → Settings → Option Request
-request_as f s =
-    if in_order s.from s.to && fits_form f s
-    then Some (record { form = f; from = s.from; to = s.to; width = unwrap_or s.width DEFAULT_WIDTH })
-    else None
+-- a picture takes no package, trace events take no other option, and a page no events and no width
+abbrev pub picture_form : Settings → Option Form
+picture_form s = if is_some s.rules then None else Some (form.Drawn drawing.Picture)
+
+abbrev pub events_form : Settings → Option Form
+events_form s = if is_some s.rules || not (is_whole s) then None else Some (form.Drawn drawing.Events)
+
+abbrev pub page_form : Settings → Option Form
+page_form s = if not (is_whole s) then None else Some (form.Page (unwrap_or s.rules FastThreads))
+
+abbrev pub form_word : Option FormWord → Settings → Option Form
+form_word None s = picture_form s
+form_word (Some Svg) s = picture_form s
+form_word (Some Events) s = events_form s
+form_word (Some Page) s = page_form s
+
+abbrev pub form_by : Settings → Option Form
+form_by s = form_word s.form s
+
+abbrev pub request_in : Settings → Form → Option Request
+request_in s f =
+    if in_order s.from s.to then Some (record { form = f; from = s.from; to = s.to; width = unwrap_or s.width DEFAULT_WIDTH }) else None
 
 abbrev pub request_by : Settings → Option Request
-request_by s = request_as (unwrap_or s.form Svg) s
+request_by s = option_and_then (request_in s) (form_by s)
 
 -- the request of the words after the program's name
 abbrev pub request_of : List (List ℕ) → Option Request
-request_of words = option_and_then request_by (settings_of (record { form = None; from = None; to = None; width = None }) words)
+request_of words =
+    option_and_then request_by (settings_of (record { form = None; rules = None; from = None; to = None; width = None }) words)

@@ -1,7 +1,7 @@
 -- How the program ends.
 use Rattle.std.specs.Prelude.{ℕ, ⊤}
 use Rattle.sa_picture.specs.declared.status.Status.{Status}
-use Rattle.sa_picture.specs.declared.status.Status.TheVariants.{Drawn, Usage, ReadFault, WriteFault, OutOfMemory, BadTrace, TooMuch}
+use Rattle.sa_picture.specs.declared.status.Status.TheVariants.{Drawn, Usage, BadWorkload, ReadFault, WriteFault, OutOfMemory, BadTrace, TooMuch}
 use Rattle.sa_io.specs.declared.input.ReadError.{ReadError}
 use Rattle.sa_io.specs.declared.input.ReadError.TheVariants as read
 
@@ -9,6 +9,7 @@ use Rattle.sa_io.specs.declared.input.ReadError.TheVariants as read
 abbrev pub code_of : Status → ℕ
 code_of Drawn = 0
 code_of Usage = 1
+code_of (BadWorkload bad) = 2
 code_of ReadFault = 5
 code_of WriteFault = 6
 code_of OutOfMemory = 7

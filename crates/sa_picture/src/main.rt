@@ -1,8 +1,10 @@
 //! `sa_picture`: reads a trace text from standard input, and writes a picture of it to standard output, as one SVG file, or its trace
-//! events.
+//! events; or reads a workload and its trace, and writes a page that shows them event by event, as one HTML file.
 #![tactic(auto)]
 
 mod losses;
+mod paged;
+mod parts;
 mod request;
 mod status;
 mod text;
@@ -45,13 +47,14 @@ fn report(rt: &impl Eprint, status: Status) -> io::Result<()> {
     match status {
         Status::Usage => {
             eprintln!(rt;
-                "usage: sa_picture [--form svg|events] [--from EVENT] [--to EVENT] [--width PIXELS]"
+                "usage: sa_picture [--form svg] [--from EVENT] [--to EVENT] [--width PIXELS], sa_picture --form events, or sa_picture --form page [--package fast|prio]"
             )
         }
+        Status::BadWorkload(bad) => eprintln!(rt; "bad workload: {bad}"),
         Status::BadTrace(bad) => eprintln!(rt; "bad trace: {bad}"),
         Status::TooMuch => {
             eprintln!(rt;
-                "too much to draw: at most 16 processors and 16 spaces; a picture has at most 10000 events and 40000 lines (--from, --to), trace events 512 threads of a space"
+                "too much to draw: at most 16 processors and 16 spaces; a picture has at most 10000 events and 40000 lines (--from, --to), trace events 512 threads of a space, a page 100000 events"
             )
         }
         Status::ReadFault => eprintln!(rt; "read fault"),

@@ -1,21 +1,37 @@
 // What the program is asked to draw.
 ghost use Rattle.std.specs.Prelude.{◌≡◌, map, length, string_bytes};
-ghost use Rattle.sa_picture.specs.Request.{set_once, form_of, set_form, with_option, settings_of, in_order, fits_form, request_by, request_of};
+ghost use Rattle.sa_picture.specs.Request.{set_once, with_option, settings_of, in_order, request_by, request_of, form_in, rules_in, with_form, with_package, form_by, picture_form, events_form, page_form, is_whole};
 
+use sa_page::Rules;
 use sa_svg::{DEFAULT_WIDTH, MAX_WIDTH, MIN_WIDTH};
 use sa_text::read_number;
 
-/// What is made of a trace.
+/// What is made of a trace alone.
 #[derive(Clone, Copy, Debug, PartialEq, Eq)]
-pub enum Form {
+pub enum Drawing {
     /// A picture.
-    Svg,
+    Picture,
     /// Trace events.
     Events,
 }
 
-/// What the program is asked to draw: a picture of the events from one to another, each as it is where none is named, so wide in pixels; or
-/// trace events, of all events.
+/// What is written: what is made of a trace alone, or a page of a workload and its trace, by the rules of this package.
+#[derive(Clone, Copy, Debug, PartialEq, Eq)]
+pub enum Form {
+    Drawn(Drawing),
+    Page(Rules),
+}
+
+/// The word of a form.
+#[derive(Clone, Copy, Debug, PartialEq, Eq)]
+pub(crate) enum FormWord {
+    Svg,
+    Events,
+    Page,
+}
+
+/// What the program is asked to draw: in this form, and for a picture the events from one to another, each as it is where none
+/// is named, so wide in pixels.
 #[derive(Clone, Copy, Debug, PartialEq, Eq)]
 pub struct Request {
     pub form: Form,
@@ -27,7 +43,8 @@ pub struct Request {
 /// What the words set.
 #[derive(Clone, Copy, Debug)]
 pub(crate) struct Settings {
-    pub(crate) form: Option<Form>,
+    pub(crate) form: Option<FormWord>,
+    pub(crate) rules: Option<Rules>,
     pub(crate) from: Option<u64>,
     pub(crate) to: Option<u64>,
     pub(crate) width: Option<u64>,
@@ -39,6 +56,7 @@ pub fn read_request(words: &[String]) -> Option<Request>
 {
     let nothing = Settings {
         form: None,
+        rules: None,
         from: None,
         to: None,
         width: None,
@@ -46,12 +64,12 @@ pub fn read_request(words: &[String]) -> Option<Request>
     request_by(read_settings(nothing, words)?)
 }
 
-// The request of these settings, where its events are in order, and no part is asked for where there is none.
+// The request of these settings, where its events are in order.
 fn request_by(settings: Settings) -> Option<Request>
     ensures { result ≡ request_by settings }
 {
-    let form = settings.form.unwrap_or(Form::Svg);
-    if !in_order(settings.from, settings.to) || !fits_form(form, settings) {
+    let form = form_by(settings)?;
+    if !in_order(settings.from, settings.to) {
         return None;
     }
     Some(Request {
@@ -62,24 +80,57 @@ fn request_by(settings: Settings) -> Option<Request>
     })
 }
 
+// The form: a picture takes no package, trace events take no other option, and a page no events and no width.
+fn form_by(settings: Settings) -> Option<Form>
+    ensures { result ≡ form_by settings }
+{
+    match settings.form {
+        None | Some(FormWord::Svg) => picture_form(settings),
+        Some(FormWord::Events) => events_form(settings),
+        Some(FormWord::Page) => page_form(settings),
+    }
+}
+
+fn picture_form(settings: Settings) -> Option<Form>
+    ensures { result ≡ picture_form settings }
+{
+    if settings.rules.is_some() {
+        return None;
+    }
+    Some(Form::Drawn(Drawing::Picture))
+}
+
+fn events_form(settings: Settings) -> Option<Form>
+    ensures { result ≡ events_form settings }
+{
+    if settings.rules.is_some() || !is_whole(settings) {
+        return None;
+    }
+    Some(Form::Drawn(Drawing::Events))
+}
+
+fn page_form(settings: Settings) -> Option<Form>
+    ensures { result ≡ page_form settings }
+{
+    if !is_whole(settings) {
+        return None;
+    }
+    Some(Form::Page(settings.rules.unwrap_or(Rules::FastThreads)))
+}
+
+// No part of the events is asked for, and no width.
+fn is_whole(settings: Settings) -> bool
+    ensures { result ≡ is_whole settings }
+{
+    settings.from.is_none() && settings.to.is_none() && settings.width.is_none()
+}
+
 fn in_order(from: Option<u64>, to: Option<u64>) -> bool
     ensures { result ≡ in_order from to }
 {
     match (from, to) {
         (Some(from), Some(to)) => from <= to,
         _ => true,
-    }
-}
-
-// The settings are those of a picture, or there are none but the form.
-fn fits_form(form: Form, settings: Settings) -> bool
-    ensures { result ≡ fits_form form settings }
-{
-    match form {
-        Form::Svg => true,
-        Form::Events => {
-            settings.from.is_none() && settings.to.is_none() && settings.width.is_none()
-        }
     }
 }
 
@@ -101,13 +152,6 @@ fn read_settings(settings: Settings, words: &[String]) -> Option<Settings>
 fn with_option(settings: Settings, name: &str, value: &[u8]) -> Option<Settings>
     ensures { result ≡ with_option settings name.now value.now }
 {
-    if name == "--form" {
-        let form = set_form(settings.form, value)?;
-        return Some(Settings {
-            form: Some(form),
-            ..settings
-        });
-    }
     if name == "--from" {
         let from = set_once(settings.from, 0, u64::MAX, value)?;
         return Some(Settings {
@@ -129,29 +173,67 @@ fn with_option(settings: Settings, name: &str, value: &[u8]) -> Option<Settings>
             ..settings
         });
     }
+    if name == "--form" {
+        return with_form(settings, value);
+    }
+    if name == "--package" {
+        return with_package(settings, value);
+    }
     None
 }
 
-// The form that the word names, where none was set before.
-fn set_form(old: Option<Form>, word: &[u8]) -> Option<Form>
-    ensures { result ≡ set_form old word.now }
+// The form is the one of the word, where none was set before.
+fn with_form(settings: Settings, word: &[u8]) -> Option<Settings>
+    ensures { result ≡ with_form settings word.now }
 {
-    if old.is_some() {
+    if settings.form.is_some() {
         return None;
     }
-    form_of(word)
+    let form = form_in(word)?;
+    Some(Settings {
+        form: Some(form),
+        ..settings
+    })
 }
 
-fn form_of(word: &[u8]) -> Option<Form>
-    ensures { result ≡ form_of word.now }
+fn form_in(word: &[u8]) -> Option<FormWord>
+    ensures { result ≡ form_in word.now }
 {
     if word == b"svg".as_slice() {
-        return Some(Form::Svg);
+        Some(FormWord::Svg)
+    } else if word == b"events".as_slice() {
+        Some(FormWord::Events)
+    } else if word == b"page".as_slice() {
+        Some(FormWord::Page)
+    } else {
+        None
     }
-    if word == b"events".as_slice() {
-        return Some(Form::Events);
+}
+
+// The package is the one of the word, where none was set before.
+fn with_package(settings: Settings, word: &[u8]) -> Option<Settings>
+    ensures { result ≡ with_package settings word.now }
+{
+    if settings.rules.is_some() {
+        return None;
     }
-    None
+    let rules = rules_in(word)?;
+    Some(Settings {
+        rules: Some(rules),
+        ..settings
+    })
+}
+
+fn rules_in(word: &[u8]) -> Option<Rules>
+    ensures { result ≡ rules_in word.now }
+{
+    if word == b"fast".as_slice() {
+        Some(Rules::FastThreads)
+    } else if word == b"prio".as_slice() {
+        Some(Rules::Priorities)
+    } else {
+        None
+    }
 }
 
 // The number that the word spells, in its range, where none was set before.

@@ -8,7 +8,7 @@ use sa_io::ReadError;
 /// How the top call ended. `code` is the program's exit status.
 #[derive(Clone, Copy, Debug, PartialEq, Eq)]
 pub enum Status {
-    /// The picture was written, whole.
+    /// The picture or page was written, whole.
     Drawn,
     /// The words are no request.
     Usage,
@@ -18,9 +18,11 @@ pub enum Status {
     WriteFault,
     /// Memory ran out.
     OutOfMemory,
+    /// The first of two texts is no workload text.
+    BadWorkload(Bad),
     /// The input is too long, or no trace text.
     BadTrace(Bad),
-    /// There is more to draw than a picture may have.
+    /// There is more to draw than a picture or a page may have.
     TooMuch,
 }
 
@@ -36,13 +38,14 @@ impl From<ReadError> for Status {
 }
 
 impl Status {
-    /// The program's exit status: 0 where the picture was written. A status that `sa` has too means the same there.
+    /// The program's exit status: 0 where the picture or page was written. A status that `sa` has too means the same there.
     pub fn code(self) -> u8
         ensures { result ≡ code_of self }
     {
         match self {
             Status::Drawn => 0,
             Status::Usage => 1,
+            Status::BadWorkload(_) => 2,
             Status::ReadFault => 5,
             Status::WriteFault => 6,
             Status::OutOfMemory => 7,

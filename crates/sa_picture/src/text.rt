@@ -4,7 +4,7 @@ ghost use Rattle.sa_picture.specs.Refusal.{too_long};
 ghost use Rattle.sa_picture.specs.Drawn.{first_event, last_event, window_of, drawn_window, HasText, IsTextFor, IsNoneFor, IsDrawn, IsNotDrawn};
 
 use crate::losses::trace_part;
-use crate::request::{Form, Request};
+use crate::request::{Drawing, Request};
 use crate::status::Status;
 use sa_base::{Bad, Cause, Item, Unread};
 use sa_shapes::{Window, draw};
@@ -17,16 +17,21 @@ use std::alloc::{AllocError, Global};
 pub const INPUT_LIMIT: usize = 134_217_728;
 
 /// The text of the picture of the trace of which this is the text, or of its trace events.
-pub(crate) fn picture_of(alloc: Global, request: Request, input: &[u8]) -> Result<Vec<u8>, Status>
-    ensures ok { IfOk result (λ text. IsDrawn request input.now text.items) }
-    ensures err { IfErr result (IsNotDrawn request input.now) }
+pub(crate) fn drawn(
+    alloc: Global,
+    drawing: Drawing,
+    request: Request,
+    input: &[u8],
+) -> Result<Vec<u8>, Status>
+    ensures ok { IfOk result (λ text. IsDrawn drawing request input.now text.items) }
+    ensures err { IfErr result (IsNotDrawn drawing request input.now) }
 {
     if input.len() > INPUT_LIMIT {
-        return Err(Status::BadTrace(refusal_of_long(input)));
+        return Err(Status::BadTrace(refusal_of_long(INPUT_LIMIT, input)));
     }
     match read(alloc, trace_part(input)) {
-        Ok(text) => match text_of(alloc, request, text.trace.items()) {
-            Ok(Some(drawing)) => Ok(drawing),
+        Ok(text) => match text_of(alloc, drawing, request, text.trace.items()) {
+            Ok(Some(made)) => Ok(made),
             Ok(None) => Err(Status::TooMuch),
             Err(_) => Err(Status::OutOfMemory),
         },
@@ -36,13 +41,18 @@ pub(crate) fn picture_of(alloc: Global, request: Request, input: &[u8]) -> Resul
 }
 
 // The text of what is asked for of these items, where there is no more to draw than that may have.
-fn text_of(alloc: Global, request: Request, items: &[Item]) -> Result<Option<Vec<u8>>, AllocError>
-    ensures { IfOk result (λ drawing. MatchOption drawing
-        (IsNoneFor request.form request items.now) (λ text. IsTextFor request.form request items.now text.items)) }
+fn text_of(
+    alloc: Global,
+    drawing: Drawing,
+    request: Request,
+    items: &[Item],
+) -> Result<Option<Vec<u8>>, AllocError>
+    ensures { IfOk result (λ made. MatchOption made
+        (IsNoneFor drawing request items.now) (λ text. IsTextFor drawing request items.now text.items)) }
 {
-    match request.form {
-        Form::Svg => drawing_of(alloc, request, items),
-        Form::Events => print_events(alloc, items),
+    match drawing {
+        Drawing::Picture => drawing_of(alloc, request, items),
+        Drawing::Events => print_events(alloc, items),
     }
 }
 
@@ -91,15 +101,12 @@ fn last_event(items: &[Item]) -> u64
     }
 }
 
-// What an input is refused with that is longer than the limit.
+/// What an input is refused with that is longer than a limit.
 #[tactic(auto, unfolding(crate::specs::Refusal::too_long))]
-fn refusal_of_long(input: &[u8]) -> Bad
-    requires { INPUT_LIMIT ≤ length input.now }
-    ensures { result ≡ too_long input.now }
+pub(crate) fn refusal_of_long(limit: usize, input: &[u8]) -> Bad
+    requires { limit ≤ length input.now }
+    ensures { result ≡ too_long limit input.now }
 {
-    let before = input[..INPUT_LIMIT]
-        .iter()
-        .filter(|byte| **byte == b'\n')
-        .count();
+    let before = input[..limit].iter().filter(|byte| **byte == b'\n').count();
     Bad::new(before as u64 + 1, Cause::TooMany)
 }

@@ -6,13 +6,15 @@ ghost use Rattle.sa_picture.specs.Request.{request_of};
 ghost use Rattle.sa_picture.specs.Status.{WritesNothing};
 ghost use Rattle.sa_picture.specs.Answers.{World, world, Answers, AnswersTo};
 
+use crate::paged::text_of;
 use crate::request::{Request, read_request};
 use crate::status::Status;
-use crate::text::{INPUT_LIMIT, picture_of};
+use crate::text::INPUT_LIMIT;
 use sa_io::{Sink, Source, read_input, write_text};
 use std::alloc::Global;
 
-/// Does what the words ask for: reads the source's trace text, and writes the picture of the trace to the sink.
+/// Does what the words ask for: reads the source's trace text, or its workload and trace, and writes the picture or the page to
+/// the sink.
 pub fn top<S: Source, K: Sink>(
     alloc: Global,
     words: &[String],
@@ -61,7 +63,7 @@ fn draw_trace<S: Source, K: Sink>(
         Ok(input) => input,
         Err(error) => return Status::from(error),
     };
-    match picture_of(alloc, request, &input) {
+    match text_of(alloc, request, &input) {
         Ok(text) => match write_text(sink, &text) {
             Ok(()) => Status::Drawn,
             Err(_) => Status::WriteFault,

@@ -1,6 +1,6 @@
 use Rattle.std.proofs.Common.{rules, ◌≡◌, List, ℕ, Ok, subst, arith}
 use Rattle.sa_trace.specs.Reading.{read_of, told}
-use Rattle.sa_picture.proofs.text.picture_of.Goals as goal
+use Rattle.sa_picture.proofs.text.drawn.Goals as goal
 
 pub returns-in-Ok-Some-clause-ok : goal.returns-in-Ok-Some-clause-ok
 returns-in-Ok-Some-clause-ok c =

@@ -1,0 +1,4 @@
+mod Joined
+mod PlainPieces
+mod PlainWords
+mod Plain

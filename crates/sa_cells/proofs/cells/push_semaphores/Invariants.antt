@@ -1,0 +1,6 @@
+use Rattle.std.proofs.Common.{◌≡◌, ◌++◌}
+use Rattle.sa_cells.specs.Cells.{semaphore_cell, up_to}
+use Rattle.sa_cells.proofs.cells.push_semaphores.Given as goal
+
+abbrev pub invariant-loop-n : goal.invariant-loop-n
+invariant-loop-n l = l.cells.items ≡ l.initial.cells.items ++ up_to (semaphore_cell l.s) l.n

@@ -1,0 +1,12 @@
+pub mod Pieces
+pub mod Words
+pub mod Name
+pub mod Processor
+pub mod Space
+pub mod Life
+pub mod Thread
+pub mod Sync
+pub mod Text
+pub mod Cells
+pub mod Change
+pub mod Laws

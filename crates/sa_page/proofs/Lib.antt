@@ -1,0 +1,4 @@
+mod UrgedLemmas
+mod AdvanceLemmas
+mod ShownLemmas
+mod PageLemmas

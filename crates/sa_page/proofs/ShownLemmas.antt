@@ -1,0 +1,57 @@
+-- What is shown goes on event by event.
+use Rattle.std.proofs.Common.{◌≡◌, ℕ, sym, ◌∙◌, ap, subst, List, [], ◌∷◌, ◌++◌, map, take, drop, append_assoc, inl, inr, refl}
+use Rattle.std.proofs.lemmas.List.{append-nil}
+use Rattle.std.specs.List.{prefix_len}
+use Rattle.sa_base.specs.declared.record.Item.{Item}
+use Rattle.sa_base.specs.declared.record.Record.{Record}
+use Rattle.sa_laws.specs.Event.{Event, events_of}
+use Rattle.sa_laws.specs.Step.{IsStepwise}
+use Rattle.sa_check_moment.specs.Seen.{Seen, event}
+use Rattle.sa_check.specs.Items.{is_with, what_of}
+use Rattle.sa_check.specs.Judged.{after}
+use Rattle.sa_check.proofs.EventLemmas.{first-event}
+use Rattle.sa_page.specs.Shown.{changes, stop_line, Shows, WritesShown, GoesOn}
+
+-- so far this was written, and what shows the rest behind it shows the whole
+abbrev pub Continues : Seen → List Event → List ℕ → Seen → List Event → List ℕ → Type 0
+Continues start events old now rest out = (final : List ℕ) → WritesShown now rest out final → WritesShown start events old final
+
+-- nothing is left
+pub shown-all : (m : Seen) (out : List ℕ) → WritesShown m [] out out
+shown-all m out = record { text = []; shows = refl; written = sym (append-nil out) }
+
+-- an event, and those behind it
+pub events-are : (first : Item) (others : List Item) (n : ℕ) (records : List Record) → n ≡ prefix_len (is_with first) others
+    → records ≡ first.what ∷ map what_of (take n others)
+    → events_of (first ∷ others) ≡ event first.event first.proc records ∷ events_of (drop n others)
+events-are first others n records len is =
+    first-event first others
+    ∙ ap (λ k. event first.event first.proc (first.what ∷ map what_of (take k others)) ∷ events_of (drop k others)) (sym len)
+    ∙ ap (λ rs. event first.event first.proc rs ∷ events_of (drop n others)) (sym is)
+
+-- one event more
+more : (m next : Seen) (e : Event) (es : List Event) (old out final : List ℕ) → GoesOn m e old out next → WritesShown next es out final
+    → WritesShown m (e ∷ es) old final
+more m next e es old out final goes shown =
+    let rest : Shows (after m e) es shown.text = subst (λ (s : Seen). Shows s es shown.text) goes.moment shown.shows in
+    record {
+      text = changes m e ++ shown.text;
+      shows = inl (goes.steps, (shown.text, rest, refl));
+      written = shown.written ∙ ap (λ xs. xs ++ shown.text) goes.written ∙ append_assoc old (changes m e) shown.text;
+    }
+
+-- the event that stops
+stops : (m : Seen) (e : Event) (es : List Event) (out final : List ℕ) → (IsStepwise m.workload m.readings e → ⊥) → final ≡ out ++ stop_line e.number
+    → WritesShown m (e ∷ es) out final
+stops m e es out final none is = record { text = stop_line e.number; shows = inr (none, refl); written = is }
+
+pub goes-on : (start now next : Seen) (events all es : List Event) (old out new : List ℕ) (e : Event) → all ≡ e ∷ es
+    → GoesOn now e out new next → Continues start events old now all out → Continues start events old next es new
+goes-on start now next events all es old out new e at goes so final shown =
+    so final (subst (λ xs. WritesShown now xs out final) (sym at) (more now next e es out new final goes shown))
+
+pub ends-there : (start now : Seen) (events all es : List Event) (old out final : List ℕ) (e : Event) → all ≡ e ∷ es
+    → (IsStepwise now.workload now.readings e → ⊥) → final ≡ out ++ stop_line e.number → Continues start events old now all out
+    → WritesShown start events old final
+ends-there start now events all es old out final e at none written so =
+    so final (subst (λ xs. WritesShown now xs out final) (sym at) (stops now e es out final none written))

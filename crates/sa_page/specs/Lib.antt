@@ -1,0 +1,4 @@
+pub mod Gathered
+pub mod Advance
+pub mod Shown
+pub mod Page

@@ -1,0 +1,66 @@
+-- The text of a page: what every page has, and between it the verdict, the trace with its words, and what the cells hold.
+use Rattle.std.specs.Prelude.{◌≡◌, ⊤, ℕ, ◌<◌, ◌≤◌, List, ◌++◌, codes, decimal, Ok, Err}
+use Rattle.std.specs.List.{flat_map}
+use Rattle.sa_base.specs.declared.record.End.{End}
+use Rattle.sa_base.specs.declared.record.Item.{Item}
+use Rattle.sa_spaces.specs.Workload.{WorkloadView}
+use Rattle.sa_trace.specs.Reading.{Told, read_of}
+use Rattle.sa_trace.specs.TraceText.{line_of, end_word}
+use Rattle.sa_laws.specs.Event.{events_of}
+use Rattle.sa_check_moment.specs.declared.rules.Rules.{Rules}
+use Rattle.sa_check_moment.specs.Rules.{rules_of}
+use Rattle.sa_check_moment.specs.Seen.{opened}
+use Rattle.sa_check.specs.declared.verdict.Verdict.{Verdict}
+use Rattle.sa_check.specs.Verdict.{IsVerdict, last_line}
+use Rattle.sa_check.specs.Line.{line_of as verdict_text}
+use Rattle.sa_cells.specs.Words.{words_of}
+use Rattle.sa_cells.specs.Change.{opening_lines}
+use Rattle.sa_page.specs.declared.page.PageError.{PageError}
+use Rattle.sa_page.specs.declared.page.PageError.TheVariants.{BadTrace, TooMuch, OutOfMemory}
+use Rattle.sa_page.specs.declared.page.TheConstants.{MAX_EVENTS}
+use Rattle.sa_page.specs.declared.shell.TheConstants.{HEAD, TRACE, CELLS, TAIL}
+use Rattle.sa_page.specs.Shown.{Shows}
+
+-- the line of an item, and its words
+unfoldable pub item_text : Item → List ℕ
+item_text i = line_of i ++ words_of i.what ++ codes "\n"
+
+abbrev pub items_text : List Item → List ℕ
+items_text items = flat_map item_text items
+
+-- how the run ended
+unfoldable pub end_text : End → ℕ → List ℕ
+end_text end events = codes "end " ++ end_word end ++ codes " " ++ decimal events ++ codes "\n"
+
+-- the whole page, of what its parts are
+unfoldable pub page_text : List ℕ → List ℕ → List ℕ → List ℕ → List ℕ → List ℕ
+page_text verdict end trace opening shown = HEAD.now ++ verdict ++ end ++ TRACE.now ++ trace ++ CELLS.now ++ opening ++ shown ++ TAIL.now
+
+-- the text is that of the page with this verdict
+pub record IsPrinted (rules : Rules) (w : WorkloadView) (verdict : Verdict) (told : Told) (text : List ℕ) : Type 0 where
+  pub shown : List ℕ
+  pub shows : Shows (opened rules w) (events_of told.items) shown
+  pub is :
+      text
+      ≡ page_text (verdict_text rules verdict) (end_text told.end told.events) (items_text told.items) (opening_lines (opened rules w)) shown
+
+-- the text is the page of this workload and trace text, by these rules
+pub record IsPage (rules : Rules) (w : WorkloadView) (trace text : List ℕ) : Type 0 where
+  pub told : Told
+  pub read : read_of trace ≡ Ok told
+  pub few : told.events ≤ MAX_EVENTS
+  pub verdict : Verdict
+  pub holds : IsVerdict (rules_of rules) w told.items (last_line told) verdict
+  pub printed : IsPrinted rules w verdict told text
+
+-- a trace of more events than a page may have
+pub record HasManyEvents (trace : List ℕ) : Type 0 where
+  pub told : Told
+  pub read : read_of trace ≡ Ok told
+  pub many : MAX_EVENTS < told.events
+
+-- why there is no page
+abbrev pub HasNoPage : List ℕ → PageError → Type 0
+HasNoPage trace (BadTrace bad) = read_of trace ≡ Err bad
+HasNoPage trace TooMuch = HasManyEvents trace
+HasNoPage trace OutOfMemory = ⊤

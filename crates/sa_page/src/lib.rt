@@ -1,0 +1,12 @@
+//! The text of a page that shows a trace event by event, beside its workload: one HTML file.
+#![tactic(auto)]
+
+mod advance;
+mod event;
+mod lines;
+mod page;
+mod shell;
+mod shown;
+
+pub use page::{MAX_EVENTS, PageError, page_of};
+pub use sa_check_moment::Rules;

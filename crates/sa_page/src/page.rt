@@ -1,0 +1,95 @@
+// The page.
+ghost use Rattle.std.specs.Prelude.{◌≡◌, ◌≤◌, ◌++◌, Ok, IfOk, IfErr, OnOk};
+ghost use Rattle.sa_trace.specs.Reading.{read_of, told};
+ghost use Rattle.sa_page.specs.Page.{IsPage, IsPrinted, HasNoPage};
+
+use crate::lines::{push_end, push_items};
+use crate::shell::{CELLS, HEAD, TAIL, TRACE};
+use crate::shown::{Pair, push_shown};
+use sa_base::{Bad, Unread};
+use sa_cells::push_opening;
+use sa_check::{Rules, Verdict, check, verdict_line};
+use sa_spaces::Workload;
+use sa_trace::{TraceText, read};
+use std::alloc::{AllocError, Global};
+
+/// The most events of a trace that a page shows.
+pub const MAX_EVENTS: u64 = 100_000;
+
+/// Why there is no page.
+#[derive(Clone, Copy, Debug, PartialEq, Eq)]
+pub enum PageError {
+    /// The bytes are no trace text.
+    BadTrace(Bad),
+    /// The trace has more events than a page may have.
+    TooMuch,
+    /// Memory ran out, or a count would not fit.
+    OutOfMemory,
+}
+
+/// The text of the page of the trace of this text, beside its workload, by these rules.
+pub fn page_of(
+    alloc: Global,
+    rules: Rules,
+    workload: &Workload,
+    text: &[u8],
+) -> Result<Vec<u8>, PageError>
+    ensures ok { IfOk result (λ page. IsPage rules workload.now text.now page.items) }
+    ensures err { IfErr result (HasNoPage text.now) }
+{
+    match read(alloc, text) {
+        Ok(trace) => page_with(alloc, rules, workload, text, &trace),
+        Err(Unread::Bad(bad)) => Err(PageError::BadTrace(bad)),
+        Err(Unread::OutOfMemory) => Err(PageError::OutOfMemory),
+    }
+}
+
+// The same, where the trace was read.
+fn page_with(
+    alloc: Global,
+    rules: Rules,
+    workload: &Workload,
+    text: &[u8],
+    trace: &TraceText,
+) -> Result<Vec<u8>, PageError>
+    requires { read_of text.now ≡ Ok (told trace.now.trace.items trace.now.end trace.now.events) }
+    ensures ok { IfOk result (λ page. IsPage rules workload.now text.now page.items) }
+    ensures err { IfErr result (HasNoPage text.now) }
+{
+    if trace.events > MAX_EVENTS {
+        return Err(PageError::TooMuch);
+    }
+    match check(alloc, rules, workload, text) {
+        Ok(verdict) => match print(alloc, rules, workload, verdict, trace) {
+            Ok(page) => Ok(page),
+            Err(AllocError) => Err(PageError::OutOfMemory),
+        },
+        Err(Unread::Bad(bad)) => Err(PageError::BadTrace(bad)),
+        Err(Unread::OutOfMemory) => Err(PageError::OutOfMemory),
+    }
+}
+
+// The text of the page with this verdict.
+fn print(
+    alloc: Global,
+    rules: Rules,
+    workload: &Workload,
+    verdict: Verdict,
+    trace: &TraceText,
+) -> Result<Vec<u8>, AllocError>
+    ensures { IfOk result (λ page. IsPrinted rules workload.now verdict
+        (told trace.now.trace.items trace.now.end trace.now.events) page.items) }
+{
+    let pair = Pair::start(alloc, rules, workload)?;
+    let mut out = Vec::new(alloc);
+    out.extend_from_slice(HEAD)?;
+    out.extend_from_slice(&verdict_line(alloc, rules, verdict)?)?;
+    push_end(&mut out, trace.end, trace.events)?;
+    out.extend_from_slice(TRACE)?;
+    push_items(&mut out, trace.trace.items())?;
+    out.extend_from_slice(CELLS)?;
+    push_opening(&mut out, alloc, &pair.now)?;
+    push_shown(&mut out, alloc, pair, trace.trace.items())?;
+    out.extend_from_slice(TAIL)?;
+    Ok(out)
+}

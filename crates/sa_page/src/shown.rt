@@ -1,0 +1,37 @@
+// What is written of cells along a trace.
+ghost use Rattle.std.specs.Prelude.{◌≡◌, IfOk};
+ghost use Rattle.sa_check_moment.specs.Seen.{seen};
+
+mod walk;
+
+use sa_cells::View;
+use sa_check_moment::Rules;
+use sa_spaces::Workload;
+use std::alloc::{AllocError, Global};
+pub(crate) use walk::push_shown;
+
+/// One moment twice: the one goes along an event, and the other follows once the cells of both were compared.
+#[derive(Debug, Drop)]
+pub(crate) struct Pair {
+    pub(crate) before: View,
+    pub(crate) now: View,
+    ghost same: { seen before.moment ≡ seen now.moment },
+}
+
+impl Pair {
+    ghost use Rattle.sa_check_moment.specs.Seen.{opened};
+
+    /// Before any record of a trace of this workload.
+    pub(crate) fn start(
+        alloc: Global,
+        rules: Rules,
+        workload: &Workload,
+    ) -> Result<Pair, AllocError>
+        ensures { IfOk result (λ pair. seen pair.now.moment ≡ opened rules workload.now) }
+    {
+        Ok(Pair {
+            before: View::start(alloc, rules, workload)?,
+            now: View::start(alloc, rules, workload)?,
+        })
+    }
+}

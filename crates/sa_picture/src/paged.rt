@@ -1,0 +1,43 @@
+// What is written for a request: what is drawn of a trace, or the page of a workload and its trace.
+ghost use Rattle.std.specs.Prelude.{◌≡◌, ◌≤◌, length, IfOk, IfErr};
+ghost use Rattle.sa_picture.specs.declared.text.TheConstants.{INPUT_LIMIT};
+ghost use Rattle.sa_picture.specs.Paged.{IsWritten, IsNotWritten, IsPaged, IsNotPaged};
+
+use crate::parts::parts_of;
+use crate::request::{Form, Request};
+use crate::status::Status;
+use crate::text::{INPUT_LIMIT, drawn, refusal_of_long};
+use sa_base::Unread;
+use sa_page::{PageError, Rules, page_of};
+use std::alloc::Global;
+
+/// The text that is asked for of the input.
+pub(crate) fn text_of(alloc: Global, request: Request, input: &[u8]) -> Result<Vec<u8>, Status>
+    ensures ok { IfOk result (λ text. IsWritten request input.now text.items) }
+    ensures err { IfErr result (IsNotWritten request input.now) }
+{
+    match request.form {
+        Form::Drawn(drawing) => drawn(alloc, drawing, request, input),
+        Form::Page(rules) => page_in(alloc, rules, input),
+    }
+}
+
+// The page of the workload and trace of the input, by these rules.
+fn page_in(alloc: Global, rules: Rules, input: &[u8]) -> Result<Vec<u8>, Status>
+    ensures ok { IfOk result (λ text. IsPaged rules input.now text.items) }
+    ensures err { IfErr result (IsNotPaged input.now) }
+{
+    if input.len() > INPUT_LIMIT {
+        return Err(Status::BadTrace(refusal_of_long(INPUT_LIMIT, input)));
+    }
+    match parts_of(alloc, input) {
+        Ok((workload, second)) => match page_of(alloc, rules, &workload, second) {
+            Ok(page) => Ok(page),
+            Err(PageError::BadTrace(bad)) => Err(Status::BadTrace(bad)),
+            Err(PageError::TooMuch) => Err(Status::TooMuch),
+            Err(PageError::OutOfMemory) => Err(Status::OutOfMemory),
+        },
+        Err(Unread::Bad(bad)) => Err(Status::BadWorkload(bad)),
+        Err(Unread::OutOfMemory) => Err(Status::OutOfMemory),
+    }
+}
