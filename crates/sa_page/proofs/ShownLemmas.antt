@@ -55,3 +55,12 @@ pub ends-there : (start now : Seen) (events all es : List Event) (old out final 
     → WritesShown start events old final
 ends-there start now events all es old out final e at none written so =
     so final (subst (λ xs. WritesShown now xs out final) (sym at) (stops now e es out final none written))
+
+-- only one text shows some events
+pub shown-one : (m : Seen) (events : List Event) (a b : List ℕ) → Shows m events a → Shows m events b → a ≡ b
+shown-one m [] a b p q = p ∙ sym q
+shown-one m (e ∷ es) a b (inl p) (inl q) =
+    p.1.2 ∙ ap (λ rest. changes m e ++ rest) (shown-one (after m e) es p.1.0 q.1.0 p.1.1 q.1.1) ∙ sym q.1.2
+shown-one m (e ∷ es) a b (inl p) (inr q) = absurd (q.0 p.0)
+shown-one m (e ∷ es) a b (inr p) (inl q) = absurd (p.0 q.0)
+shown-one m (e ∷ es) a b (inr p) (inr q) = p.1 ∙ sym q.1

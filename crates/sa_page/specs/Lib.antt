@@ -2,3 +2,4 @@ pub mod Gathered
 pub mod Advance
 pub mod Shown
 pub mod Page
+pub mod Laws

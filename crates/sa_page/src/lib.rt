@@ -3,6 +3,7 @@
 
 mod advance;
 mod event;
+pub mod laws;
 mod lines;
 mod page;
 mod shell;
