@@ -82,6 +82,16 @@ module _ {U C : Type 0} (f : Calls U C) where
   pub ended-not : (budget : ℕ) (m : Machine U C) → end_of f budget m ≡ None → end f m ≡ None
   ended-not budget m none = sym (end-other budget m (λ spent. (let e : Some Budget ≡ None = sym spent ∙ none in cc))) ∙ none
 
+  pub not-spent : (budget : ℕ) (m : Machine U C) → end_of f budget m ≡ None → m.event ≡ budget → ⊥
+  not-spent budget m none same =
+      go (all_done f m) (is_stuck f m) (m.event == budget) (end-is budget m _ _ _ refl refl refl) (grind (arith, nat_tests, same))
+    where
+      go : (d s b : Bool) → (end f m ≡ by d s false) × (end_of f budget m ≡ by d s b) → b ≡ true → ⊥
+      go true s b both spent = let e : None ≡ Some AllDone = sym none ∙ both.1 in cc
+      go false true b both spent = let e : None ≡ Some Stuck = sym none ∙ both.1 in cc
+      go false false true both spent = let e : None ≡ Some Budget = sym none ∙ both.1 in cc
+      go false false false both spent = cc
+
   -- one turn more
   pub one-more : (w : WorkloadView) (done : List ProcNo) (m after : Machine U C) (p : ProcNo) → LeadTo f w done m → IsOpenTurn f m p after
       → LeadTo f w (done ++ p ∷ []) after
@@ -176,6 +186,19 @@ module _ {U C D : Type 0} (f : Calls U C) (plain : Option SpaceView → C → D)
       ready-to m p (goes m lead) (record {
         within = subst (λ (v : WorkloadView). p.0 < v.processors) (sym of.1) within;
         event = omega (arith, event, few);
+      })
+
+  -- a turn more, where the run has no end
+  pub ready-on : (turns : List ProcNo) (p : ProcNo) (m : Machine U C) → LeadTo f w turns m → end_of f MAX_EVENTS m ≡ None → p.0 < w.processors
+      → IsReady m p
+  ready-on turns p m lead none within =
+      let of = event-of turns m lead in
+      let event = of.0 in
+      let few = few-turns turns m lead in
+      let apart = not-spent f MAX_EVENTS m none in
+      ready-to m p (ended-not f MAX_EVENTS m none) (record {
+        within = subst (λ (v : WorkloadView). p.0 < v.processors) (sym of.1) within;
+        event = grind (arith, event, few, apart);
       })
 
   -- THE TURN LINES: where there is no end, all were done

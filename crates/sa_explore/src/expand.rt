@@ -4,6 +4,7 @@ ghost use Rattle.sa_base.specs.declared.limits.TheConstants.{MAX_EVENTS};
 ghost use Rattle.sa_keys.specs.Key.{key_of};
 ghost use Rattle.sa_explore_model.specs.declared.answer.State.{State};
 ghost use Rattle.sa_explore_model.specs.Search.{AreLinked};
+ghost use Rattle.sa_explore.specs.Ahead.{AreAhead};
 ghost use Rattle.sa_explore.specs.Doing.{states_of, turns_to, GoesOn, HasDone, AreMade, HasStopped};
 
 use crate::progress::Progress;
@@ -28,9 +29,12 @@ impl Search {
     // Passes over a state that has an end. Fails only where memory runs out.
     fn pass_over<U: Keyed>(&mut self, scope: &Scope, at: u32) -> Result<(), AllocError>
         requires done { HasDone U.calls U.plain (key_of U.value_key U.context_key) scope.now self.old at 0 }
+        requires ahead { AreAhead U.calls U.plain (key_of U.value_key U.context_key) scope.now self.old }
         requires ends { (s : State) × (slice_get (states_of self.old) at ≡ Some s) × IsSome s.end }
-        ensures { IfOk result (λ _. AreMade U.calls U.plain (key_of U.value_key U.context_key)
+        ensures made { IfOk result (λ _. AreMade U.calls U.plain (key_of U.value_key U.context_key)
             scope.now true self.new at) }
+        ensures ahead { IfOk result (λ _. AreAhead U.calls U.plain (key_of U.value_key U.context_key)
+            scope.now self.new) }
     {
         scope.workload.ranges();
         for _p in 0..scope.workload.processors() {
@@ -48,11 +52,14 @@ impl Search {
         at: u32,
     ) -> Result<bool, AllocError>
         requires done { HasDone U.calls U.plain (key_of U.value_key U.context_key) scope.now self.old at 0 }
+        requires ahead { AreAhead U.calls U.plain (key_of U.value_key U.context_key) scope.now self.old }
         requires goes { GoesOn self.old at }
         requires turns { turns.now ≡ turns_to scope.now self.old at }
         requires few { length turns.now < MAX_EVENTS }
-        ensures { IfOk result (λ all. AreMade U.calls U.plain (key_of U.value_key U.context_key)
+        ensures made { IfOk result (λ all. AreMade U.calls U.plain (key_of U.value_key U.context_key)
             scope.now all self.new at) }
+        ensures ahead { IfOk result (λ _. AreAhead U.calls U.plain (key_of U.value_key U.context_key)
+            scope.now self.new) }
     {
         scope.workload.ranges();
         for p in 0..scope.workload.processors() {
@@ -71,9 +78,12 @@ impl Search {
         at: u32,
     ) -> Result<bool, AllocError>
         requires done { HasDone U.calls U.plain (key_of U.value_key U.context_key) scope.now self.old at 0 }
+        requires ahead { AreAhead U.calls U.plain (key_of U.value_key U.context_key) scope.now self.old }
         requires within { at < length (states_of self.old) }
-        ensures { IfOk result (λ all. AreMade U.calls U.plain (key_of U.value_key U.context_key)
+        ensures made { IfOk result (λ all. AreMade U.calls U.plain (key_of U.value_key U.context_key)
             scope.now all self.new at) }
+        ensures ahead { IfOk result (λ _. AreAhead U.calls U.plain (key_of U.value_key U.context_key)
+            scope.now self.new) }
     {
         scope.workload.ranges();
         let states = self.store.states();
@@ -110,6 +120,7 @@ impl Search {
         progress: &mut P,
     ) -> Result<Stopped, AllocError>
         requires done { HasDone U.calls U.plain (key_of U.value_key U.context_key) scope.now self.old 0 0 }
+        requires ahead { AreAhead U.calls U.plain (key_of U.value_key U.context_key) scope.now self.old }
         requires few { scope.now.most ≤ MAX_STATES }
         ensures { IfOk result (λ stopped. HasStopped U.calls U.plain (key_of U.value_key U.context_key)
             scope.now stopped.extent self.new stopped.at) }

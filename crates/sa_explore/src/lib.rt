@@ -1,6 +1,7 @@
 //! A search through every order of turns of a workload, breadth first, over any user level of which bytes say the value.
 #![tactic(auto)]
 
+mod ahead;
 mod answer;
 mod begin;
 mod expand;

@@ -10,7 +10,7 @@ use sa_keys::Keyed;
 use sa_spaces::Workload;
 use std::alloc::{AllocError, Global};
 
-/// The run of these turns, with room for one turn more. Fails only where memory runs out.
+/// The run of these turns, with room for two turns more. Fails only where memory runs out.
 pub(crate) fn replay<U: Keyed>(
     alloc: Global,
     workload: &Workload,
@@ -22,7 +22,7 @@ pub(crate) fn replay<U: Keyed>(
 {
     workload.ranges();
     let mut core = Core::<U>::start(alloc, workload.copy(alloc)?, MAX_EVENTS)?;
-    core.reserve(turns.len() + 1)?;
+    core.reserve(turns.len() + 2)?;
     for p in turns {
         core.turn(*p)?;
     }

@@ -1,14 +1,15 @@
-// A search: what is searched, what was done, and the turns that are tried.
+// A search: what is searched, and what was done.
 ghost use Rattle.std.specs.Prelude.{◌≡◌, ◌<◌, ◌≤◌, length, IfOk};
 ghost use Rattle.sa_base.specs.declared.limits.TheConstants.{MAX_EVENTS};
 ghost use Rattle.sa_core.specs.View.{machine};
 ghost use Rattle.sa_keys.specs.Key.{key_of};
 ghost use Rattle.sa_states.specs.Store.{store_of};
-ghost use Rattle.sa_explore_runs.specs.Runs.{LeadTo, CanLead};
-ghost use Rattle.sa_explore_runs.specs.Searching.{IsOpen, IsTried};
+ghost use Rattle.sa_explore_runs.specs.Runs.{LeadTo};
+ghost use Rattle.sa_explore.specs.Ahead.{AreAhead};
 ghost use Rattle.sa_explore.specs.Doing.{states_of, turns_to, GoesOn, HasDone, IsMade};
 
-use crate::replay::{end_at, replay};
+use crate::ahead::{Tried, keep_ahead, turn_from};
+use crate::replay::end_at;
 use sa_base::ProcNo;
 use sa_core::Core;
 use sa_explore_model::State;
@@ -17,6 +18,7 @@ use sa_keys::{Keyed, key};
 use sa_spaces::Workload;
 use sa_states::Store;
 use std::alloc::{AllocError, Global};
+use std::collections::VecDeque;
 
 /// What is searched.
 #[derive(Drop)]
@@ -35,41 +37,9 @@ pub(crate) struct Search {
     /// The number of the state to which each turn led, in the order in which the turns were made; any number for those of a state that has an
     /// end.
     pub(crate) nexts: Vec<u32>,
-}
-
-// Where a turn led to.
-#[derive(Drop)]
-struct Tried {
-    key: Vec<u8>,
-    state: State,
-}
-
-// Makes one turn of the processor after these turns, which lead to state `at`. Fails only where memory runs out.
-fn try_turn<U: Keyed>(
-    alloc: Global,
-    workload: &Workload,
-    turns: &[ProcNo],
-    at: u32,
-    p: ProcNo,
-) -> Result<Tried, AllocError>
-    requires leads { CanLead U.calls workload.now turns.now }
-    requires goes { IsOpen U.calls workload.now turns.now }
-    requires within { p.0 < workload.now.processors }
-    requires few { length turns.now < MAX_EVENTS }
-    ensures { IfOk result (λ tried. IsTried U.calls U.plain (key_of U.value_key U.context_key)
-        workload.now turns.now p at tried.key.items tried.state) }
-{
-    workload.ranges();
-    let mut core = replay::<U>(alloc, workload, turns)?;
-    core.turn(p)?;
-    Ok(Tried {
-        key: key(alloc, &core)?,
-        state: State {
-            before: at,
-            proc: p,
-            end: end_at(&core),
-        },
-    })
+    /// Turns that were made ahead, each of the last processor from a state from which no turns were made yet, in the order of the states: a run
+    /// that has come to a new state makes it at little cost, while each run from the opening costs as much as many turns.
+    pub(crate) ahead: VecDeque<Tried>,
 }
 
 impl Search {
@@ -81,8 +51,10 @@ impl Search {
     ) -> Result<Search, AllocError>
         requires some { 1 ≤ scope.now.most }
         requires leads { LeadTo U.calls scope.now.workload scope.now.begun.items (machine core.now) }
-        ensures { IfOk result (λ search. HasDone U.calls U.plain (key_of U.value_key U.context_key)
+        ensures done { IfOk result (λ search. HasDone U.calls U.plain (key_of U.value_key U.context_key)
             scope.now search 0 0) }
+        ensures ahead { IfOk result (λ search. AreAhead U.calls U.plain (key_of U.value_key U.context_key)
+            scope.now search) }
     {
         keys_tell_outlooks::<U>();
         scope.workload.ranges();
@@ -96,6 +68,7 @@ impl Search {
         Ok(Search {
             store,
             nexts: Vec::new(alloc),
+            ahead: VecDeque::new(alloc),
         })
     }
 
@@ -110,20 +83,37 @@ impl Search {
         p: ProcNo,
     ) -> Result<bool, AllocError>
         requires done { HasDone U.calls U.plain (key_of U.value_key U.context_key) scope.now self.old at p.0 }
+        requires ahead { AreAhead U.calls U.plain (key_of U.value_key U.context_key) scope.now self.old }
         requires within { p.0 < scope.now.workload.processors }
         requires goes { GoesOn self.old at }
         requires turns { turns.now ≡ turns_to scope.now self.old at }
         requires few { length turns.now < MAX_EVENTS }
-        ensures { IfOk result (λ made. IsMade U.calls U.plain (key_of U.value_key U.context_key)
+        ensures made { IfOk result (λ made. IsMade U.calls U.plain (key_of U.value_key U.context_key)
             scope.now made self.old self.new at p.0) }
+        ensures ahead { IfOk result (λ _. AreAhead U.calls U.plain (key_of U.value_key U.context_key)
+            scope.now self.new) }
     {
         keys_tell_outlooks::<U>();
         scope.workload.ranges();
-        let tried = try_turn::<U>(alloc, &scope.workload, turns, at, p)?;
-        let Some(to) = self.store.arrive(tried.key, tried.state, scope.most)? else {
+        let ahead = &mut self.ahead;
+        let turned = turn_from::<U>(alloc, &scope.workload, ahead, turns, at, p)?;
+        let states = self.store.states().len();
+        let Some(to) = self
+            .store
+            .arrive(turned.tried.key, turned.tried.state, scope.most)?
+        else {
             return Ok(false);
         };
         self.nexts.push(to)?;
+        let is_new = to as usize == states;
+        keep_ahead::<U>(
+            alloc,
+            &scope.workload,
+            &mut self.ahead,
+            turned.run,
+            is_new,
+            to,
+        )?;
         Ok(true)
     }
 }

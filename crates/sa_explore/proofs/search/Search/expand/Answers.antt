@@ -11,8 +11,8 @@ use Rattle.sa_explore.proofs.Replays.{none-of}
 use Rattle.sa_explore.proofs.Doings.{way-few}
 use Rattle.sa_explore.proofs.search.Search.expand.Goals as goal
 
-pub returns-then-len-eq-MAX_EVENTS : goal.returns-then-len-eq-MAX_EVENTS
-returns-then-len-eq-MAX_EVENTS g c =
+pub returns-then-len-eq-MAX_EVENTS-clause-made : goal.returns-then-len-eq-MAX_EVENTS-clause-made
+returns-then-len-eq-MAX_EVENTS-clause-made g c =
     let scope = c.args.scope.now in
     let is : c.in_ok-turns.turns.items ≡ turns_to scope c.args.self.now c.args.at =
     c.in_ok-turns.ensures

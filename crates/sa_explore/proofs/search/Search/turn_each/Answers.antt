@@ -8,22 +8,23 @@ use Rattle.sa_explore.proofs.search.Search.turn_each.Goals as goal
 pub loop-p-init : goal.loop-p-init
 loop-p-init g c =
     let goes = c.requires.goes in
-    record { done = c.requires.done; within = slice_get_within (states_of c.args.self.now) c.args.at goes.0 goes.1; turns = refl; state = refl }
+    record { done = c.requires.done; ahead = c.requires.ahead; within = slice_get_within (states_of c.args.self.now) c.args.at goes.0 goes.1; turns = refl; state = refl }
 
 pub loop-p-preserved : goal.loop-p-preserved
 loop-p-preserved g c =
     let made : HasMade g.U.UserLevel.calls g.U.Keyed.plain (key_of g.U.Keyed.value_key g.U.Keyed.context_key) c.args.scope.now c.loop-p.self c.turn.new.self c.args.at c.loop-p.p =
     subst (λ (b : Bool). IsMade g.U.UserLevel.calls g.U.Keyed.plain (key_of g.U.Keyed.value_key g.U.Keyed.context_key) c.args.scope.now b c.loop-p.self c.turn.new.self c.args.at c.loop-p.p)
-    c.if-not-branch.false c.in_ok-turn.ensures in
+    c.if-not-branch.false c.in_ok-turn.ensures.made in
     record {
       done = made.done;
+      ahead = c.in_ok-turn.ensures.ahead;
       within = made.within;
       turns = made.turns ∙ c.loop-p.invariant.turns;
       state = made.state ∙ c.loop-p.invariant.state;
     }
 
-pub returns : goal.returns
-returns g c =
+pub returns-clause-made : goal.returns-clause-made
+returns-clause-made g c =
     let level = (g.met.U.UserLevel g.world.𝓛 g.world.𝓜 g.world.𝓡 ((λ s x. x), (λ x. x), (λ x. x), λ x. x)) in
     let keyed = (g.met.U.Keyed g.world.𝓛 g.world.𝓜 g.world.𝓡 ((λ s x. x), (λ x. x), (λ x. x), λ x. x)) in
     let all : c.loop-p.p ≡ c.args.scope.now.workload.processors =
