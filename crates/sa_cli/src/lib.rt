@@ -18,5 +18,5 @@ mod writing;
 pub use calls::{limits_of, run_one, run_threads};
 pub use outcome::{Finding, Outcome, Ran, Status};
 pub use sa_command::Words;
-pub use sa_explore::{NoProgress, Progress};
+pub use sa_explore::Progress;
 pub use sa_workers::Limits;

@@ -5,12 +5,11 @@ use Rattle.std.specs.List.{prefix_len}
 use Rattle.sa_base.specs.declared.record.Item.{Item}
 use Rattle.sa_base.specs.declared.record.Record.{Record}
 use Rattle.sa_laws.specs.Event.{Event, events_of}
-use Rattle.sa_laws.specs.Step.{IsStepwise}
 use Rattle.sa_check_moment.specs.Seen.{Seen, event}
 use Rattle.sa_check.specs.Items.{is_with, what_of}
 use Rattle.sa_check.specs.Judged.{after}
 use Rattle.sa_check.proofs.EventLemmas.{first-event}
-use Rattle.sa_page.specs.Shown.{changes, stop_line, Shows, WritesShown, GoesOn}
+use Rattle.sa_page.specs.Shown.{changes, Shows, WritesShown, GoesOn}
 
 -- so far this was written, and what shows the rest behind it shows the whole
 abbrev pub Continues : Seen → List Event → List ℕ → Seen → List Event → List ℕ → Type 0
@@ -40,21 +39,10 @@ more m next e es old out final goes shown =
       written = shown.written ∙ ap (λ xs. xs ++ shown.text) goes.written ∙ append_assoc old (changes m e) shown.text;
     }
 
--- the event that stops
-stops : (m : Seen) (e : Event) (es : List Event) (out final : List ℕ) → (IsStepwise m.workload m.readings e → ⊥) → final ≡ out ++ stop_line e.number
-    → WritesShown m (e ∷ es) out final
-stops m e es out final none is = record { text = stop_line e.number; shows = inr (none, refl); written = is }
-
 pub goes-on : (start now next : Seen) (events all es : List Event) (old out new : List ℕ) (e : Event) → all ≡ e ∷ es
     → GoesOn now e out new next → Continues start events old now all out → Continues start events old next es new
 goes-on start now next events all es old out new e at goes so final shown =
     so final (subst (λ xs. WritesShown now xs out final) (sym at) (more now next e es out new final goes shown))
-
-pub ends-there : (start now : Seen) (events all es : List Event) (old out final : List ℕ) (e : Event) → all ≡ e ∷ es
-    → (IsStepwise now.workload now.readings e → ⊥) → final ≡ out ++ stop_line e.number → Continues start events old now all out
-    → WritesShown start events old final
-ends-there start now events all es old out final e at none written so =
-    so final (subst (λ xs. WritesShown now xs out final) (sym at) (stops now e es out final none written))
 
 -- only one text shows some events
 pub shown-one : (m : Seen) (events : List Event) (a b : List ℕ) → Shows m events a → Shows m events b → a ≡ b
