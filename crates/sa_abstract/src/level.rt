@@ -1,7 +1,7 @@
 // The trait of user levels.
-ghost use Rattle.std.specs.Prelude.{◌≡◌, ℕ, ◌+◌, ◌≤◌, ◌++◌, Bool, IfOk, length};
+ghost use Rattle.std.specs.Prelude.{◌≡◌, ◌+◌, ◌≤◌, ◌++◌, IfOk, length};
 ghost use Rattle.sa_base.specs.Items.{items_at, items_from};
-ghost use Rattle.sa_abstract.specs.Calls.{Calls, Contexts};
+ghost use Rattle.sa_abstract.specs.Calls.{Calls};
 ghost use Rattle.sa_abstract.specs.Setting.{Setting, IsSetting};
 ghost use Rattle.sa_abstract.specs.Keeps.{Standing, IsBefore, IsOf, IsSeenOf, IsTelling, IsStep, IsGoing, Keeps};
 

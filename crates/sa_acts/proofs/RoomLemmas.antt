@@ -114,20 +114,9 @@ first-grown old new s n grown room first k below = elim (cases_eq k s) [
       (sym (ap (λ qs. queue_at qs k) grown.is ∙ get_or-set_other old s k _ _ apart)) (first k (omega (arith, below, apart)))
 ]
 
-pub all-from_first : (queues : List QueueView) (n : ℕ) → FirstHaveRoom (length queues) n queues → HaveRoom n queues
-all-from_first queues n first k d below = subst (λ (x : QueueView). n ≤ x.room) (get_or-default queues k below) (first k below)
-  where
-    get_or-default : (qs : List QueueView) (k : ℕ) → k < length qs → queue_at qs k ≡ slice_index_or qs k d
-    get_or-default [] k below = absurd (omega (arith, below))
-    get_or-default (x ∷ xs) zero below = refl
-    get_or-default (x ∷ xs) (suc k) below = get_or-default xs k (omega (arith, below))
-
 -- past the queues there is none
 pub none-there : (queues : List QueueView) (s : ℕ) → length queues ≤ s → slice_get (queue_at queues s).numbers 0 ≡ None
 none-there queues s past = ap (λ (q : QueueView). slice_get q.numbers 0) (get_or_past queues s _ past)
-
-pub shorter-past : (queues : List QueueView) (s : ℕ) → length queues ≤ s → shorter queues s ≡ queues
-shorter-past queues s past = set_past queues s _ past
 
 module _ {C : Type 0} where
   -- 1 for a number in use

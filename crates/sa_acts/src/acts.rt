@@ -1,4 +1,4 @@
-ghost use Rattle.std.specs.Prelude.{◌≡◌, ℕ, ◌+◌, ◌≤◌, ◌<◌, ◌^◌, length, replicate, [], ◌∷◌, ◌++◌, drop, slice_set, Some, None, IsSome, IfSome, slice_get, All, OnOk, OnErr};
+ghost use Rattle.std.specs.Prelude.{◌≡◌, ℕ, ◌+◌, ◌≤◌, ◌<◌, ◌^◌, length, replicate, [], ◌∷◌, ◌++◌, drop, slice_set, Some, None, IsSome, slice_get, All, OnOk, OnErr};
 ghost use Rattle.std.specs.Option.{option_copied};
 ghost use Rattle.sa_acts.specs.Queues.{queue_at, queued, all_numbers, HaveRoom, IsGrown};
 ghost use Rattle.sa_acts.specs.Table.{acts_of, IsRunning, held_of, activated, saved, took, gave_back, taken_in};

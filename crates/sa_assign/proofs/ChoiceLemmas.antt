@@ -97,9 +97,6 @@ choice-passes shares marks aims p e =
       ]
     ]
 
-pub choice-within : (shares : List ℕ) (marks : List Bool) (aims : List (Option SpaceNo)) (p : ℕ) → choice shares marks aims ≡ Some p → p < length aims
-choice-within shares marks aims p e = elim (choice-passes shares marks aims p e) [ inl free ↦ free.within | inr spared ↦ spared.within ]
-
 -- where none is chosen, each is aimed, and at a space that has no more than its share
 pub choice-none : (shares : List ℕ) (marks : List Bool) (aims : List (Option SpaceNo)) → choice shares marks aims ≡ None
     → (p : ℕ) → p < length aims → (has_no_aim aims p ≡ false) × (can_be_spared shares aims p ≡ false)

@@ -1,4 +1,4 @@
-ghost use Rattle.std.specs.Prelude.{◌≡◌, ℕ, ◌+◌, ◌*◌, ◌≤◌, ◌<◌, List, ◌++◌, length, replicate, false, None, Some, IfSome, slice_index_or, slice_set};
+ghost use Rattle.std.specs.Prelude.{◌≡◌, ℕ, ◌+◌, ◌*◌, ◌≤◌, ◌<◌, ◌++◌, length, replicate, false, None, Some, slice_index_or, slice_set};
 ghost use Rattle.sa_share.specs.Share.{IsFirst, share_at};
 ghost use Rattle.sa_share.specs.Rounds.{shares_of};
 
@@ -46,7 +46,7 @@ impl Model for Assign {
 
 impl Assign {
     ghost use Rattle.sa_assign.specs.AssignView.{AssignView};
-    ghost use Rattle.sa_assign.specs.Aims.{aimed, has_no_aim, can_be_spared, is_idle_and_spared, least_below, greatest_below, choice, missing, changes_for};
+    ghost use Rattle.sa_assign.specs.Aims.{aimed, choice, missing, changes_for};
     ghost use Rattle.sa_base.specs.Items.{items_at};
     ghost use Rattle.sa_assign.specs.Reaim.{reaimed, reaim_records, carried_out};
 

@@ -1,4 +1,4 @@
-ghost use Rattle.std.specs.Prelude.{◌≡◌, None};
+ghost use Rattle.std.specs.Prelude.{◌≡◌};
 ghost use Rattle.sa_base.specs.Cause.{cause_number, bad_at};
 ghost use Rattle.sa_base.specs.declared.refusal.Unread.TheVariants.{OutOfMemory};
 

@@ -3,7 +3,7 @@ ghost use Rattle.std.specs.Prelude.{◌≡◌, ◌++◌, ◌<◌, [], length, On
 ghost use Rattle.std.specs.List.{flat_map};
 ghost use Rattle.sa_check_moment.specs.Seen.{seen};
 ghost use Rattle.sa_cells.specs.Space.{act_if};
-ghost use Rattle.sa_cells.specs.Cells.{processor_cells, list_cells, thread_cell, mutex_cell, semaphore_cell, shared_cell, up_to, cells_of_space, space_cells, act_cells, acts_in, all_acts, has_act, with_act, each_once, acts_of, cells_of};
+ghost use Rattle.sa_cells.specs.Cells.{processor_cells, list_cells, thread_cell, mutex_cell, semaphore_cell, shared_cell, up_to, cells_of_space, space_cells, act_cells, acts_in, has_act, with_act, each_once, acts_of, cells_of};
 
 use crate::cell::Cell;
 use crate::space::{act_of_note, push_act, push_running};

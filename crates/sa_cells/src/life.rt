@@ -4,7 +4,7 @@ ghost use Rattle.std.specs.List.{flat_map};
 ghost use Rattle.sa_laws.specs.State.{space_at};
 ghost use Rattle.sa_laws.specs.Record.{same_note};
 ghost use Rattle.sa_check_moment.specs.Seen.{seen};
-ghost use Rattle.sa_cells.specs.Life.{is_on, is_untold, off_text, resting_text, on_or_off, place_text, lock_text, locks_text, hand_thread, hand_text, place_of, locks_of, hand_of};
+ghost use Rattle.sa_cells.specs.Life.{is_on, is_untold, off_text, resting_text, on_or_off, place_text, lock_text, locks_text, hand_thread, place_of, locks_of, hand_of};
 
 use crate::pieces::{push_and_thread, push_numbered, push_one};
 use sa_base::{ActNo, Note, SpaceNo, ThreadNo};

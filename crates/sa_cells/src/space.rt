@@ -1,7 +1,6 @@
 // What the cells of a space hold.
 ghost use Rattle.std.specs.Prelude.{◌≡◌, ◌++◌, length, OnOk, IfOk};
 ghost use Rattle.std.specs.List.{flat_map, range_with_len};
-ghost use Rattle.sa_laws.specs.Readings.{untold_of};
 ghost use Rattle.sa_check_moment.specs.Seen.{seen};
 ghost use Rattle.sa_cells.specs.Space.{note_text, untold_text, listed_in, list_text, act_if, act_of_io, act_of_io_if, io_act, act_of_note, candidates, lock_among, lock_in, lock_at, held_text, held_or, holder_in, holder_text};
 

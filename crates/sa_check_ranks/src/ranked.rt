@@ -1,6 +1,6 @@
 // The ready threads of all spaces by their ranks.
-ghost use Rattle.std.specs.Prelude.{◌≡◌, ℕ, [], ◌∷◌, ◌++◌, length, replicate, IfOk, OnOk};
-ghost use Rattle.sa_check_ranks.specs.Ranked.{row_at, row_stack, stack_at, without, newest, opening_row, HasStack, IsBest};
+ghost use Rattle.std.specs.Prelude.{◌≡◌, [], ◌∷◌, ◌++◌, replicate, IfOk, OnOk};
+ghost use Rattle.sa_check_ranks.specs.Ranked.{row_at, stack_at, without, newest, opening_row, HasStack, IsBest};
 
 use crate::row::RankedRow;
 use sa_base::{SpaceNo, ThreadNo};

@@ -2,19 +2,13 @@
 use Rattle.std.proofs.Common.{◌≡◌, ℕ, ◌≤◌, List, [], ◌++◌, length, Option, Some, None, Ok, Err, refl, sym, ap, ◌∙◌, subst, arith, inl, inr, length-append}
 use Rattle.std.proofs.lemmas.List.{append-nil}
 use Rattle.std.specs.Prelude.{IfSome, ◌↔◌}
-use Rattle.sa_base.specs.declared.record.Item.{Item}
 use Rattle.sa_base.specs.declared.refusal.Bad.{Bad}
 use Rattle.sa_spaces.specs.Workload.{WorkloadView}
-use Rattle.sa_laws.specs.declared.rule.Rule.{Rule}
-use Rattle.sa_laws.specs.Ends.{LastLine}
-use Rattle.sa_laws.specs.Rules.{UserRules}
-use Rattle.sa_laws.specs.Legal.{IsRight, FirstBreak}
 use Rattle.sa_workload.specs.Bad.{BadAt}
 use Rattle.sa_workload.specs.Text.{IsText}
 use Rattle.sa_workload.proofs.whole.OneBad.{texts_differ}
 use Rattle.sa_trace.specs.Reading.{Told, read_of}
 use Rattle.sa_check.specs.declared.verdict.Verdict.{Verdict}
-use Rattle.sa_check.specs.declared.verdict.Verdict.TheVariants.{Legal, Broken}
 use Rattle.sa_check.specs.Verdict.{IsVerdict}
 use Rattle.sa_check_moment.specs.declared.rules.Rules.{Rules}
 use Rattle.sa_check_moment.specs.Rules.{rules_of}
@@ -101,11 +95,3 @@ read-found rules (Some xs) (Some ys) bytes (BadTrace bad) reads (inl long) =
     )
 read-found rules (Some xs) (Some ys) bytes (BadTrace bad) reads (inr wrong) =
     whole-of rules bytes (BadTrace bad) wrong.has.whole (inr wrong) xs ys reads.taken (reads.end refl wrong.has.whole)
-
--- a verdict that is exact is true
-pub holds-verdict : (u : UserRules) (w : WorkloadView) (items : List Item) (line : LastLine) (v : Verdict)
-    → ((v ≡ Legal) ↔ IsRight u w items line)
-    → ((event : ℕ) (rule : Rule) → (v ≡ Broken event rule) ↔ FirstBreak u w items line event rule)
-    → IsVerdict u w items line v
-holds-verdict u w items line Legal right broken = right.0 refl
-holds-verdict u w items line (Broken event rule) right broken = (broken event rule).0 refl

@@ -1,12 +1,11 @@
 -- What the parts of a command say together.
-use Rattle.std.proofs.Common.{◌≡◌, ◌⊎◌, ℕ, List, [], refl, sym, subst, inl, inr}
+use Rattle.std.proofs.Common.{◌≡◌, ◌⊎◌, ℕ, List, [], sym, subst, inl, inr}
 use Rattle.sa_base.specs.Recorded.{Recorded}
 use Rattle.sa_base.specs.declared.record.Item.{Item}
 use Rattle.sa_base.specs.declared.record.End.{End}
 use Rattle.sa_base.specs.declared.record.End.TheVariants as end
 use Rattle.sa_spaces.specs.Workload.{WorkloadView, IsWorkload}
 use Rattle.sa_workload.specs.Text.{IsText}
-use Rattle.sa_workload.specs.Bad.{BadAt, BadAt1}
 use Rattle.sa_run.specs.Run.{RunsTo, RunsUnended}
 use Rattle.sa_command.specs.declared.command.Command.{Command}
 use Rattle.sa_command.specs.declared.command.Command.TheVariants.{Run, Threads, Load, Migrate, Check, Vp, Debug, Explore}
@@ -15,30 +14,10 @@ use Rattle.sa_cli.specs.declared.outcome.Status.TheVariants.{AllDone, Usage, Bad
 use Rattle.sa_cli.specs.declared.outcome.Ran.{Ran}
 use Rattle.sa_cli.specs.declared.outcome.Ran.TheVariants.{Plain}
 use Rattle.sa_cli.specs.Outcome.{status_of_end, history}
-use Rattle.sa_cli.specs.Input.{GaveText, GaveSliced}
-use Rattle.sa_cli.specs.Refusals.{NothingRead}
+use Rattle.sa_cli.specs.Input.{GaveText}
 use Rattle.sa_cli.specs.Answers.{World, Plan, Ended, Came, RunAnswers, TookAll, TookSome, Writes}
-use Rattle.sa_cli.specs.Commands.{AnswersRun, MigrateAnswers, Answers}
+use Rattle.sa_cli.specs.Commands.{AnswersRun, Answers}
 use Rattle.sa_cli.proofs.Packages.{AreKept}
-
--- where nothing was read, nothing ran
-pub nothing-run : (plan : Plan) (old new : World) (status : Status)
-    → NothingRead BadAt old.left old.reads new.reads status → AnswersRun plan old new [] status
-nothing-run plan old new (BadWorkload bad) cause = (cause, refl)
-nothing-run plan old new ReadFault cause = (cause, refl)
-nothing-run plan old new OutOfMemory cause = inl refl
-nothing-run plan old new AllDone cause = absurd cause
-nothing-run plan old new Usage cause = absurd cause
-nothing-run plan old new Stuck cause = absurd cause
-nothing-run plan old new Budget cause = absurd cause
-nothing-run plan old new WriteFault cause = absurd cause
-nothing-run plan old new Migrated cause = absurd cause
-nothing-run plan old new Checked cause = absurd cause
-nothing-run plan old new (Broken event rule) cause = absurd cause
-nothing-run plan old new (BadTrace bad) cause = absurd cause
-nothing-run plan old new Quit cause = absurd cause
-nothing-run plan old new (BadScript bad) cause = absurd cause
-nothing-run plan old new (Explored finding) cause = absurd cause
 
 -- what a run answers, `run` answers
 pub run-answers : (plan : Plan) (old new : World) (items : List Item) (status : Status)
@@ -110,32 +89,6 @@ module _ (mine : WorkloadView → Type 0) (plan : Plan) (kept : AreKept plan.run
         | inl none ↦ inl none
         | inr so_far ↦ inr (came-so trace.items w is ok so_far)
       ]))
-
--- the same of a workload that is written anew
-pub nothing-migrated : (slice : ℕ) (old new : World) (status : Status)
-    → NothingRead BadAt1 old.left old.reads new.reads status → MigrateAnswers slice old new status
-nothing-migrated slice old new (BadWorkload bad) cause = cause
-nothing-migrated slice old new ReadFault cause = cause
-nothing-migrated slice old new OutOfMemory cause = tt
-nothing-migrated slice old new AllDone cause = absurd cause
-nothing-migrated slice old new Usage cause = absurd cause
-nothing-migrated slice old new Stuck cause = absurd cause
-nothing-migrated slice old new Budget cause = absurd cause
-nothing-migrated slice old new WriteFault cause = absurd cause
-nothing-migrated slice old new Migrated cause = absurd cause
-nothing-migrated slice old new Checked cause = absurd cause
-nothing-migrated slice old new (Broken event rule) cause = absurd cause
-nothing-migrated slice old new (BadTrace bad) cause = absurd cause
-nothing-migrated slice old new Quit cause = absurd cause
-nothing-migrated slice old new (BadScript bad) cause = absurd cause
-nothing-migrated slice old new (Explored finding) cause = absurd cause
-
-pub migrated-answers : (slice : ℕ) (old new : World) (text : List ℕ) (status : Status) → GaveSliced slice old.left new.left text
-    → Writes old.taken new.taken old.writes new.writes text Migrated status → MigrateAnswers slice old new status
-migrated-answers slice old new text status gave (inl whole) =
-    subst (λ (v : Status). MigrateAnswers slice old new v) (sym whole.0) (record { text = text; gave = gave; went = whole.1 })
-migrated-answers slice old new text status gave (inr cut) =
-    subst (λ (v : Status). MigrateAnswers slice old new v) (sym cut.0) (cut.1, record { text = text; gave = gave; went = cut.2 })
 
 -- no command is answered as words that are none
 pub not-usage : (command : Command) (old new : World) (ran : Ran) → Answers command old new ran Usage → ⊥

@@ -1,5 +1,5 @@
 -- What an entry makes of the machine, and the upcall after it.
-use Rattle.std.proofs.Common.{◌≡◌, ◌≢◌, Bool, true, false, Some, None, refl, sym, ap, subst, ◌∙◌}
+use Rattle.std.proofs.Common.{◌≡◌, ◌≢◌, true, false, Some, None, refl, sym, ap, subst, ◌∙◌}
 use Rattle.std.proofs.lemmas.Option.{same_Some}
 use Rattle.sa_base.specs.declared.number.ProcNo.{ProcNo}
 use Rattle.sa_base.specs.declared.number.SpaceNo.{SpaceNo}
@@ -7,25 +7,14 @@ use Rattle.sa_base.specs.declared.number.ActNo.{ActNo}
 use Rattle.sa_abstract.specs.Calls.{Calls}
 use Rattle.sa_abstract.specs.Keeps.{Standing}
 use Rattle.sa_kernel_model.specs.declared.entry.Entry.{Entry}
-use Rattle.sa_kernel_model.specs.declared.entry.Given.{Given}
-use Rattle.sa_kernel_model.specs.declared.entry.Given.TheVariants.{Nothing}
 use Rattle.sa_kernel_model.specs.State.{KernelState, Scene, owner_of}
 use Rattle.sa_kernel_model.specs.Entries.{entered}
 use Rattle.sa_kernel_model.specs.Entering.{upcalls}
-use Rattle.sa_kernel_model.specs.Enters.{given_by}
 use Rattle.sa_kernel_model.specs.Sound.{AreClaimed}
 use Rattle.sa_core_model.specs.Machine.{Machine, user_of, seen_on, scene_of, with_scene, with_pair, context_begun, answered}
 use Rattle.sa_core_model.specs.Turn.{kernel_entered, told_all, welcomed_in, welcomed_if, entered_on, hinted, answered_in}
 use Rattle.sa_core_model.specs.Standing.{Stands}
 use Rattle.sa_core.specs.Needs.{Welcomes}
-
-pub given-true : (b : Bool) (a : ActNo) (given : Given) → given ≡ given_by b a → given ≢ Nothing → b ≡ true
-given-true true a given is other = refl
-given-true false a given is other = absurd (other is)
-
-pub given-false : (b : Bool) (a : ActNo) (given : Given) → given ≡ given_by b a → given ≡ Nothing → b ≡ false
-given-false true a given is none = absurd (let e = sym none ∙ is in cc)
-given-false false a given is none = refl
 
 module _ {U C : Type 0} where
   -- an entry of the kernel is one of the machine

@@ -1,5 +1,5 @@
 // The machine in the middle of an event.
-ghost use Rattle.std.specs.Prelude.{◌≡◌, ◌≢◌, ℕ, ◌+◌, ◌*◌, ◌≤◌, ◌<◌, true, false, List, Some, None, IfOk, IfSome, OnOk, IsSome, [], ◌∷◌, length, replicate};
+ghost use Rattle.std.specs.Prelude.{◌≡◌, ◌≢◌, ℕ, ◌+◌, ◌*◌, ◌≤◌, ◌<◌, true, false, List, Some, None, IfOk, IsSome, [], ◌∷◌, length, replicate};
 ghost use Rattle.sa_base.specs.declared.number.ActNo.{ActNo};
 ghost use Rattle.sa_base.specs.declared.record.Note.{Note};
 ghost use Rattle.sa_base.specs.declared.limits.TheConstants.{MAX_EVENTS};
@@ -8,11 +8,11 @@ ghost use Rattle.sa_kernel_model.specs.Entering.{MayEnter, upcalls};
 ghost use Rattle.sa_kernel_model.specs.Sound.{AreClaimed};
 ghost use Rattle.sa_core_model.specs.Machine.{context_begun, answered, stopped_in, stepped, without_context};
 ghost use Rattle.sa_core_model.specs.Turn.{next_event, more_events, ticked, ends_slice, sliced, kernel_entered, told_one, told_all, welcomed_in, entered_on, hinted, blocked, interrupted, asked, turned_owned, turned_now, turned, gone_in, committed};
-ghost use Rattle.sa_core_model.specs.End.{is_inside, is_any_inside, local_on, within_slice};
+ghost use Rattle.sa_core_model.specs.End.{is_inside, is_any_inside, local_on};
 ghost use Rattle.sa_core_model.specs.Run.{opening, CanGo};
 ghost use Rattle.sa_core_model.specs.Standing.{Stands, IsBetween};
 ghost use Rattle.sa_core.specs.View.{machine_of};
-ghost use Rattle.sa_core.specs.Room.{owed, HasRoom, Spends};
+ghost use Rattle.sa_core.specs.Room.{owed, Spends};
 ghost use Rattle.sa_core.specs.Needs.{ByFresh, Welcomes, IsNext, Asks};
 
 use crate::users::Users;

@@ -1,5 +1,5 @@
 // Room for events, and how a run ends.
-ghost use Rattle.std.specs.Prelude.{◌≡◌, ℕ, ◌+◌, ◌*◌, ◌≤◌, ◌<◌, [], OnOk, OnErr, IfSome};
+ghost use Rattle.std.specs.Prelude.{◌≡◌, ℕ, ◌+◌, ◌*◌, ◌≤◌, ◌<◌, [], OnOk, IfSome};
 ghost use Rattle.sa_core_model.specs.End.{all_done, is_stuck, committable};
 ghost use Rattle.sa_core_model.specs.Standing.{IsBetween};
 ghost use Rattle.sa_core.specs.View.{machine_of};

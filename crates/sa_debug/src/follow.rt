@@ -1,7 +1,6 @@
 // A replay that follows a trace.
 ghost use Rattle.std.specs.Prelude.{◌≡◌, length, OnOk};
 ghost use Rattle.sa_laws.specs.State.{opening_state};
-ghost use Rattle.sa_replay.specs.Replayed.{opened};
 ghost use Rattle.sa_debug.specs.Reached.{CanPlay};
 ghost use Rattle.sa_debug.specs.Views.{view_in, IsBehind};
 

@@ -2,7 +2,7 @@
 use Rattle.std.proofs.Common.{◌≡◌, ℕ, ◌+◌, ◌<◌, ◌≤◌, List, [], ◌∷◌, ◌++◌, length, get_or, take, Option, Some, None, refl, sym, ap, ◌∙◌, subst, inl, inr}
 use Rattle.std.specs.Prelude.{unwrap_or}
 use Rattle.std.proofs.lemmas.Grind.{flat_map-append}
-use Rattle.std.proofs.lemmas.List.{append-nil, take_more, take_all}
+use Rattle.std.proofs.lemmas.List.{append-nil, take_more}
 use Rattle.std.proofs.lemmas.Option.{slice_get-get_or}
 use Rattle.sa_base.specs.declared.record.End.{End}
 use Rattle.sa_base.specs.declared.record.End.TheVariants.{Budget}
@@ -41,10 +41,6 @@ do-push o (d ∷ cs) s between t replies c reply done does = (
   do-push o cs done.0 between t done.2 c reply done.5 does,
 )
 
--- nothing was done yet
-pub done-none : (budget : ℕ) (commands : List DebugCommand) (s : Session FastMachine) (text : List ℕ) → text ≡ [] → AreDone budget (take 0 commands) s s text
-done-none budget commands s text empty = record { replies = []; done = (refl, refl); says = empty }
-
 -- one command more is done
 pub done-more : (budget now : ℕ) (commands : List DebugCommand) (i : ℕ) (d : DebugCommand) (s between t : Session FastMachine) (text more : List ℕ)
     (reply : Reply)
@@ -60,11 +56,6 @@ done-more budget now commands i d s between t text more reply same within are do
       ∙ ap (λ bs. replies_text are.replies ++ bs) (sym (append-nil (reply_text reply)))
       ∙ sym (flat_map-append reply_text are.replies (reply ∷ []));
 }
-
--- all of them are
-pub done-all : (budget : ℕ) (commands : List DebugCommand) (i : ℕ) (s t : Session FastMachine) (text : List ℕ) → length commands ≤ i
-    → AreDone budget (take i commands) s t text → AreDone budget commands s t text
-done-all budget commands i s t text past are = subst (λ cs. AreDone budget cs s t text) (take_all i commands past) are
 
 -- memory ran out at a command, and after one
 pub came-at : (budget now : ℕ) (commands : List DebugCommand) (i : ℕ) (d : DebugCommand) (s between t : Session FastMachine) (text : List ℕ)

@@ -1,11 +1,11 @@
 -- How the I/Os under way are kept in a heap.
 use Rattle.std.proofs.Common.{◌≡◌, ℕ, zero, suc, ◌+◌, ◌<◌, ◌≤◌, false, ◌⊎◌, inl, inr, List, [], ◌∷◌, ◌++◌, length, set, Option, Some, None, option_map, refl, sym, ap, subst, ◌∙◌, arith, Contains, ◌-◌, slice_index_or, length-set, IsSome, IfSome, OnSome}
 use Rattle.std.specs.Ordering.{is_lt}
-use Rattle.std.specs.BinaryHeap.{IsHeap, KeepsHeap, PopsGreatest, IsUpperBound, lt_by_cmp}
+use Rattle.std.specs.BinaryHeap.{KeepsHeap, PopsGreatest, IsUpperBound, lt_by_cmp}
 use Rattle.std.specs.List.Sorted.{IsPermutation}
-use Rattle.std.proofs.lemmas.Bool.{cases_eq, cases_lt}
+use Rattle.std.proofs.lemmas.Bool.{cases_lt}
 use Rattle.std.proofs.lemmas.Bool.Decides.{nat_tests}
-use Rattle.std.proofs.lemmas.List.{get_or-set_same, get_or-set_other, get_or_past, get_or_append_left, get_or_at, length-append}
+use Rattle.std.proofs.lemmas.List.{get_or_past, get_or_append_left, get_or_at, length-append}
 use Rattle.std.proofs.lemmas.List.Elements.{All-from_recursion}
 use Rattle.std.proofs.lemmas.List.Sorted.{Contains-permutation, IsPermutation-sym}
 use Rattle.std.proofs.lemmas.Option.{none-some, same_Some}
@@ -70,19 +70,6 @@ AreKept-begin places e keys after old moved order =
 
 -- ---- an I/O is over
 
-pub HaveKeys-over : (places : List (Option Entry)) (i : ℕ) (keys : List Key) → HaveKeys places keys → HaveKeys (set places i None) keys
-HaveKeys-over places i keys old n ends at = elim (cases_eq n i) [
-  | inr apart ↦ old n ends (sym (ap (λ (x : Option Entry). option_map (λ (y : Entry). y.ends) x) (get_or-set_other places i n None None apart)) ∙ at)
-  | inl same ↦ elim (cases_lt i (length places)) [
-    | inl below ↦
-        absurd (none-some ends (sym (ap (λ (x : Option Entry). option_map (λ (y : Entry). y.ends) x)
-        (ap (entry_at (set places i None)) same ∙ get_or-set_same places i None None below)) ∙ at))
-    | inr past ↦
-        absurd (none-some ends (sym (ap (λ (x : Option Entry). option_map (λ (y : Entry). y.ends) x)
-        (get_or_past (set places i None) n None (omega (arith, length-set places i None)))) ∙ at))
-  ]
-]
-
 -- the first key is taken, whose I/O is over
 pub HaveKeys-pop : (places : List (Option Entry)) (key : Key) (keys after : List Key) → HaveKeys places keys → IsPermutation keys (key ∷ after)
     → (IsOfOne places key → ⊥) → HaveKeys places after
@@ -101,23 +88,6 @@ pub NotAfter-first : (x y : Key) (keys : List Key) → IsUpperBound key_cmp x ke
 NotAfter-first x y keys bound at =
     let all = All-from_recursion (λ (k : Key). lt_by_cmp key_cmp x k ≡ false) keys bound in
     NotAfter-from_lt x y (subst (λ (k : Key). lt_by_cmp key_cmp x k ≡ false) at.2 (all at.0 y at.1))
-
--- the first key is that of an I/O under way
-pub AreKept-first : (places : List (Option Entry)) (x : Key) (keys : List Key) → IsHeap key_cmp keys → HaveKeys places keys → IsUpperBound key_cmp x keys
-    → IsOfOne places x → AreKept places keys
-AreKept-first places x keys ordered keyed bound one = record {
-  ordered = ordered;
-  keyed = keyed;
-  covered = λ key at. record { by = x; one = one; first = NotAfter-first x key keys bound at };
-}
-
--- there is no key
-pub AreKept-empty : (places : List (Option Entry)) (keys : List Key) → IsHeap key_cmp keys → HaveKeys places keys → length keys ≡ 0 → AreKept places keys
-AreKept-empty places keys ordered keyed none = record {
-  ordered = ordered;
-  keyed = keyed;
-  covered = λ key at. absurd (omega (arith, at.1));
-}
 
 first-one : (places : List (Option Entry)) (x : Key) (keys : List Key) → AreKept places keys → Contains keys x → IsUpperBound key_cmp x keys → IsOfOne places x
 first-one places x keys kept at bound =

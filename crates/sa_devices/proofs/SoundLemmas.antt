@@ -3,9 +3,9 @@ use Rattle.std.proofs.Common.{◌≡◌, ℕ, zero, suc, ◌+◌, ◌≤◌, ◌
 use Rattle.std.specs.List.{list_any, AllAdjacentBelow}
 use Rattle.std.specs.List.Sorted.{IsNonDecreasingBy, IsPartitionedBy, IsPartitionPoint}
 use Rattle.std.proofs.lemmas.Bool.{cases_eq, cases_lt, cases_Bool, lt-ltb, ltb-true, ltb-false, ne_eqb, cond-true, cond-false}
-use Rattle.std.proofs.lemmas.List.{length-append, length-set, take_rest, length-drop, length-replicate, get_or-drop, get_or-replicate, get_or_past, get_or_default}
-use Rattle.std.proofs.lemmas.List.Sums.{sum_by-cons, sum_by_push, count_by-le-length}
-use Rattle.std.proofs.lemmas.List.Elements.{All-nil, All-cons, All-head, All-tail, All-push}
+use Rattle.std.proofs.lemmas.List.{length-set, take_rest, length-drop, length-replicate, get_or-drop, get_or-replicate, get_or_default}
+use Rattle.std.proofs.lemmas.List.Sums.{sum_by-cons}
+use Rattle.std.proofs.lemmas.List.Elements.{All-nil, All-cons, All-head, All-tail}
 use Rattle.std.proofs.lemmas.Option.{none-some, same_Some}
 use Rattle.sa_spaces.specs.declared.workload.Evict.{Evict}
 use Rattle.sa_spaces.specs.Workload.{IsEviction, IsBefore}
@@ -14,7 +14,7 @@ use Rattle.sa_devices.specs.declared.kind.IoKind.{IoKind}
 use Rattle.sa_devices.specs.declared.kind.IoKind.TheVariants.{Plain, Page, Upcall}
 use Rattle.sa_devices.specs.Ios.{Io, is_number, io_at, without, fetches, one_fetch}
 use Rattle.sa_devices.specs.Pages.{IsKind, gone, evicted, completed, with_page, without_page, upcall_page, HasPage}
-use Rattle.sa_devices.specs.DevicesView.{IosView, begun_with, ended_with}
+use Rattle.sa_devices.specs.DevicesView.{IosView, ended_with}
 use Rattle.sa_devices.specs.Sound.{IsSound}
 
 -- one for an I/O that fetches the upcall page of s
@@ -69,19 +69,6 @@ All-io_at P n (x ∷ xs) io all at = go (is_number n x) at (All-io_at P n xs io 
 pub IsKind-found : (n spaces : ℕ) (ios : List Io) (kind : IoKind) → All (λ (io : Io). IsKind spaces io.kind) ios → Found n ios kind → IsKind spaces kind
 IsKind-found n spaces ios kind all at = subst (IsKind spaces) at.is (All-io_at (λ (io : Io). IsKind spaces io.kind) n ios at.io all at.at)
 
--- the count of fetches is small, and counts an I/O under way
-pub few-fetches : (ios : IosView) (fetching pages : List ℕ) (evictions : List Evict) → IsSound ios fetching pages evictions → ios.io_count < 2 ^ 32 → (s : ℕ)
-    → slice_index fetching s < 2 ^ 32
-few-fetches ios fetching pages evictions sound few s = elim (cases_lt s (length pages)) [
-  | inl below ↦
-      let count = sound.counts s below in
-      let le = count_by-le-length (fetches s) ios.under_way in
-      let all = sound.few in omega arith
-  | inr past ↦
-      let size = sound.spaces in
-      let none = get_or_past fetching s 0 (omega arith) in omega arith
-]
-
 pub counted-fetch : (ios : IosView) (fetching pages : List ℕ) (evictions : List Evict) (n : ℕ) (kind : IoKind) → IsSound ios fetching pages evictions
     → Found n ios.under_way kind → (s : ℕ) → one_fetch s kind ≤ slice_index fetching s
 counted-fetch ios fetching pages evictions n kind sound at s = elim (cases_lt s (length pages)) [
@@ -96,20 +83,6 @@ counted-fetch ios fetching pages evictions n kind sound at s = elim (cases_lt s 
   no-fetch past (Page t a p) is_kind = omega arith
   no-fetch past (Upcall t) is_kind =
       let other : one_fetch s (Upcall t) ≡ 0 = cond-false (eqb t.0 s) 1 0 (ne_eqb t.0 s (λ e. omega arith)) in omega arith
-
-pub IsSound-begin : (ios : IosView) (fetching after pages : List ℕ) (evictions : List Evict) (kind : IoKind) (ends : ℕ) → IsSound ios fetching pages evictions
-    → IsKind (length pages) kind → length after ≡ length fetching → ((s : ℕ) → slice_index after s ≡ slice_index fetching s + one_fetch s kind)
-    → IsSound (begun_with ios kind ends) after pages evictions
-IsSound-begin ios fetching after pages evictions kind ends sound is_kind size counts =
-    let io : Io = record { number = ios.io_count; ends = ends; kind = kind } in
-    record {
-      spaces = size ∙ sound.spaces;
-      kinds = All-push (λ (x : Io). IsKind (length pages) x.kind) ios.under_way io sound.kinds is_kind;
-      counts = λ s below. counts s ∙ ap (λ (n : ℕ). n + one_fetch s kind) (sound.counts s below) ∙ sym (sum_by_push (one_of s) ios.under_way io);
-      few = (let more = length-append ios.under_way (io ∷ []) in let few = sound.few in omega arith);
-      in_range = sound.in_range;
-      in_order = sound.in_order;
-    }
 
 pub IsSound-complete : (ios : IosView) (fetching after pages come : List ℕ) (evictions : List Evict) (n : ℕ) (kind : IoKind)
     → IsSound ios fetching pages evictions → Found n ios.under_way kind → length after ≡ length fetching → length come ≡ length pages

@@ -40,7 +40,7 @@ impl Model for Devices {
 }
 
 impl Devices {
-    ghost use Rattle.sa_devices.specs.DevicesView.{DevicesView, IosView, opening, begun_with, ended_with};
+    ghost use Rattle.sa_devices.specs.DevicesView.{DevicesView, opening, begun_with, ended_with};
     ghost use Rattle.sa_devices.specs.Ios.{Io, due_of, io_at, io_no, fetches};
     ghost use Rattle.sa_devices.specs.Kept.{entry_of};
 

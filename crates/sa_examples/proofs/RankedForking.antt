@@ -6,7 +6,6 @@ use Rattle.sa_base.specs.declared.record.Record.TheVariants.{Ins, Run, Ready, Ta
 use Rattle.sa_instr.specs.declared.instr.Instr.{Instr}
 use Rattle.sa_laws.specs.declared.rule.Rule.TheVariants.{OrderKept}
 use Rattle.sa_laws.specs.Event.{Event}
-use Rattle.sa_laws.specs.Life.{Lock}
 use Rattle.sa_laws.specs.Readings.{Readings, IsLocked}
 use Rattle.sa_laws.specs.Locks.{HoldsLock}
 use Rattle.sa_laws.specs.History.{event_begun}

@@ -1,11 +1,11 @@
 // The turns that are tried: each by a run from the opening, and where that run comes to a new state, one turn ahead.
-ghost use Rattle.std.specs.Prelude.{◌≡◌, ℕ, ◌<◌, ◌+◌, List, Some, None, All, [], ◌∷◌, ◌++◌, length, slice_get, IfOk, IfSome, OnOk};
+ghost use Rattle.std.specs.Prelude.{◌≡◌, ◌<◌, ◌+◌, List, Some, None, [], ◌∷◌, ◌++◌, length, slice_get, IfOk, IfSome, OnOk};
 ghost use Rattle.sa_base.specs.declared.number.ProcNo.{ProcNo};
 ghost use Rattle.sa_base.specs.declared.limits.TheConstants.{MAX_EVENTS};
 ghost use Rattle.sa_core_model.specs.Run.{CanTurn};
 ghost use Rattle.sa_core.specs.View.{machine};
 ghost use Rattle.sa_keys.specs.Key.{key_of};
-ghost use Rattle.sa_explore_runs.specs.Runs.{end, LeadTo, CanLead};
+ghost use Rattle.sa_explore_runs.specs.Runs.{end, CanLead};
 ghost use Rattle.sa_explore_runs.specs.Searching.{IsOpen, IsTried};
 ghost use Rattle.sa_explore.specs.Ahead.{IsRun, IsMadeBy, IsMadeFrom, AreFrom, IsLater, IsMore};
 

@@ -3,10 +3,9 @@ ghost use Rattle.std.specs.Prelude.{◌≡◌, ◌<◌, ◌≤◌, length, IfOk}
 ghost use Rattle.sa_base.specs.declared.limits.TheConstants.{MAX_EVENTS};
 ghost use Rattle.sa_core.specs.View.{machine};
 ghost use Rattle.sa_keys.specs.Key.{key_of};
-ghost use Rattle.sa_states.specs.Store.{store_of};
 ghost use Rattle.sa_explore_runs.specs.Runs.{LeadTo};
 ghost use Rattle.sa_explore.specs.Ahead.{AreAhead};
-ghost use Rattle.sa_explore.specs.Doing.{states_of, turns_to, GoesOn, HasDone, IsMade};
+ghost use Rattle.sa_explore.specs.Doing.{turns_to, GoesOn, HasDone, IsMade};
 
 use crate::ahead::{Tried, keep_ahead, turn_from};
 use crate::replay::end_at;

@@ -1,6 +1,6 @@
 -- What a search has done when it stops is what it answers for.
-use Rattle.std.proofs.Common.{◌≡◌, ℕ, zero, suc, ◌+◌, ◌-◌, ◌<◌, ◌≤◌, ◌⊎◌, inl, inr, Bool, true, false, if◌then◌else◌, Option, Some, None, IsSome, List, [], ◌∷◌, ◌++◌, length, slice_get, count_by, refl, sym, ap, subst, ◌∙◌, arith, length-append}
-use Rattle.std.proofs.lemmas.Option.{slice_get_within, same_Some}
+use Rattle.std.proofs.Common.{◌≡◌, ℕ, suc, ◌+◌, ◌-◌, ◌<◌, ◌≤◌, ◌⊎◌, inl, inr, if◌then◌else◌, Option, Some, None, IsSome, List, [], ◌∷◌, ◌++◌, length, slice_get, count_by, refl, sym, ap, subst, ◌∙◌, arith, length-append}
+use Rattle.std.proofs.lemmas.Option.{slice_get_within}
 use Rattle.std.proofs.lemmas.List.Sums.{sum_by-cons}
 use Rattle.sa_lemmas.proofs.ListReads.{read-at}
 use Rattle.sa_base.specs.declared.number.ProcNo.{ProcNo}
@@ -12,8 +12,8 @@ use Rattle.sa_explore_model.specs.declared.answer.Extent.TheVariants.{All, Part}
 use Rattle.sa_explore_model.specs.declared.answer.Found.{Found}
 use Rattle.sa_explore_model.specs.declared.answer.Explored.{Explored}
 use Rattle.sa_explore_model.specs.Order.{ComesFirst}
-use Rattle.sa_explore_model.specs.Answer.{found_of, IsLookedAt, is_end, IsKept, IsReached, LeadsToEnd, IsLeast, IsComplete, IsCounted, IsDepth}
-use Rattle.sa_explore_model.specs.Search.{way_to, IsBefore, IsSearch, IsFirst, IsFoundIn, IsStopped}
+use Rattle.sa_explore_model.specs.Answer.{found_of, IsLookedAt, is_end, LeadsToEnd, IsLeast, IsComplete, IsCounted, IsDepth}
+use Rattle.sa_explore_model.specs.Search.{way_to, IsSearch, IsFirst, IsFoundIn, IsStopped}
 use Rattle.sa_explore_model.proofs.Orders.{first-trans, first-behind, length-first}
 use Rattle.sa_explore_model.proofs.Ways.{ways-first}
 use Rattle.sa_explore_model.proofs.Places.{before-more}

@@ -1,19 +1,19 @@
 -- The states from which no turns lead to an end.
-use Rattle.std.proofs.Common.{◌≡◌, ℕ, zero, suc, ◌+◌, ◌*◌, ◌<◌, ◌≤◌, ◌⊎◌, inl, inr, Bool, true, false, not, Option, Some, None, IsSome, List, [], ◌∷◌, ◌++◌, length, slice_get, count_by, refl, sym, ap, subst, ◌∙◌, arith}
-use Rattle.std.proofs.lemmas.Option.{slice_get_within, same_Some}
+use Rattle.std.proofs.Common.{◌≡◌, ℕ, zero, suc, ◌+◌, ◌*◌, ◌<◌, ◌≤◌, ◌⊎◌, inl, inr, Bool, true, false, Option, Some, None, IsSome, List, [], ◌∷◌, ◌++◌, length, slice_get, refl, sym, subst, ◌∙◌, arith}
+use Rattle.std.proofs.lemmas.Option.{slice_get_within}
 use Rattle.sa_lemmas.proofs.ListReads.{read-at}
 use Rattle.sa_base.specs.declared.number.ProcNo.{ProcNo}
 use Rattle.sa_base.specs.declared.record.End.{End}
 use Rattle.sa_explore_model.specs.declared.answer.State.{State}
 use Rattle.sa_explore_model.specs.declared.answer.Found.{Found}
 use Rattle.sa_explore_model.specs.Order.{ComesFirst}
-use Rattle.sa_explore_model.specs.Answer.{HasEnd, LeadsOn, CanEnd, IsEndless, AreEndless}
-use Rattle.sa_explore_model.specs.Search.{way_to, IsSearch, IsOver, IsNext, Ends, AreMarked, IsFirstUnmarked, AreUnmarked}
+use Rattle.sa_explore_model.specs.Answer.{HasEnd, CanEnd, IsEndless, AreEndless}
+use Rattle.sa_explore_model.specs.Search.{way_to, IsSearch, IsOver, Ends, AreMarked, IsFirstUnmarked, AreUnmarked}
 use Rattle.sa_explore_model.proofs.Orders.{first-trans, first-behind}
 use Rattle.sa_explore_model.proofs.Ways.{ways-first}
 use Rattle.sa_explore_model.proofs.Places.{place-below}
 use Rattle.sa_explore_model.proofs.Laws.{Laws}
-use Rattle.sa_explore_model.proofs.Seen.{proc_of, IsSeen, IsBehind, of-kept, within-kept, seen-all}
+use Rattle.sa_explore_model.proofs.Seen.{proc_of, IsSeen, of-kept, within-kept, seen-all}
 
 none-or-some : (o : Option End) → (o ≡ None) ⊎ IsSome o
 none-or-some None = inl refl

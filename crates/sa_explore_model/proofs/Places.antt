@@ -1,6 +1,6 @@
 -- Where a turn stands in the order of turns.
-use Rattle.std.proofs.Common.{◌≡◌, ℕ, zero, suc, ◌+◌, ◌*◌, ◌<◌, ◌≤◌, ◌⊎◌, inl, inr, arith, sym, subst, refl}
-use Rattle.std.proofs.Math.Nat.{mul-le-mul_left, mul-le-mul_right}
+use Rattle.std.proofs.Common.{◌≡◌, ℕ, ◌+◌, ◌*◌, ◌<◌, ◌≤◌, ◌⊎◌, inl, inr, arith, sym, subst}
+use Rattle.std.proofs.Math.Nat.{mul-le-mul_right}
 use Rattle.std.proofs.lemmas.Bool.{cases_lt, cases_order}
 use Rattle.sa_explore_model.specs.Search.{IsBefore}
 
@@ -23,9 +23,6 @@ cases_before j p k q =
 -- the next turn is that of the next processor
 pub before-more : (j p k q : ℕ) → IsBefore j p k q → IsBefore j p k (q + 1)
 before-more j p k q before = elim before [ inl lower ↦ inl lower | inr one ↦ inr (one.0, let less = one.1 in omega arith) ]
-
-pub before-here : (k q : ℕ) → IsBefore k q k (q + 1)
-before-here k q = inr (refl, omega arith)
 
 -- or of the next state
 pub before-next : (j p k q : ℕ) → IsBefore j p k q → IsBefore j p (k + 1) 0

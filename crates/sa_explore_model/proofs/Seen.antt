@@ -1,14 +1,12 @@
 -- Each run comes to a state that is kept, by a way that is not behind it, or it comes after all that was done.
 use Rattle.std.proofs.Common.{◌≡◌, ℕ, zero, suc, ◌+◌, ◌*◌, ◌<◌, ◌≤◌, ◌⊎◌, inl, inr, Option, Some, None, List, [], ◌∷◌, ◌++◌, length, slice_get, refl, sym, ap, subst, ◌∙◌, arith, append_assoc}
 use Rattle.std.proofs.lemmas.Option.{slice_get_within}
-use Rattle.std.proofs.lemmas.Bool.{cases_lt}
 use Rattle.sa_lemmas.proofs.ListReads.{read-at}
 use Rattle.sa_base.specs.declared.number.ProcNo.{ProcNo}
 use Rattle.sa_base.specs.declared.record.End.{End}
 use Rattle.sa_explore_model.specs.declared.answer.State.{State}
 use Rattle.sa_explore_model.specs.Order.{ComesFirst}
-use Rattle.sa_explore_model.specs.Answer.{IsReached}
-use Rattle.sa_explore_model.specs.Search.{way_to, IsBefore, IsTurned, IsSearch}
+use Rattle.sa_explore_model.specs.Search.{way_to, IsBefore, IsSearch}
 use Rattle.sa_explore_model.proofs.Orders.{first-trans, first-append, first-more}
 use Rattle.sa_explore_model.proofs.Ways.{way-linked, turns-first}
 use Rattle.sa_explore_model.proofs.Places.{place-below, cases_before}

@@ -1,16 +1,15 @@
 -- What one step of a search adds keeps what a search has done.
 use Rattle.std.proofs.Common.{◌≡◌, ℕ, zero, suc, ◌+◌, ◌*◌, ◌<◌, ◌≤◌, ◌⊎◌, inl, inr, Option, Some, None, List, [], ◌∷◌, ◌++◌, length, slice_get, refl, sym, ap, subst, ◌∙◌, arith, length-append}
 use Rattle.std.proofs.lemmas.Option.{slice_get_within, same_Some}
-use Rattle.sa_lemmas.proofs.ListReads.{read-at}
 use Rattle.sa_lemmas.proofs.ListUpdates.{slice_get-append_left, slice_get-append_seam, slice_get-push_cases}
 use Rattle.sa_base.specs.declared.number.ProcNo.{ProcNo}
 use Rattle.sa_base.specs.declared.record.End.{End}
 use Rattle.sa_explore_model.specs.declared.answer.State.{State}
-use Rattle.sa_explore_model.specs.Answer.{AreDifferent, IsReached}
+use Rattle.sa_explore_model.specs.Answer.{AreDifferent}
 use Rattle.sa_explore_model.specs.Search.{way_to, AreLinked, IsBefore, IsTurned, IsSearch}
 use Rattle.sa_explore_model.proofs.Orders.{same-proc}
 use Rattle.sa_explore_model.proofs.Ways.{way-linked, way-push}
-use Rattle.sa_explore_model.proofs.Places.{place-below, before-more, before-here, before-next, cases_last, cases_below}
+use Rattle.sa_explore_model.proofs.Places.{place-below, before-more, before-next, cases_last, cases_below}
 
 module _ {M O : Type 0} (look : M → O) (end : M → Option End) (Way : List ProcNo → M → Type 0) (Turn : M → ProcNo → M → Type 0) (processors : ℕ) where
   abbrev Search : List State → List M → List ℕ → ℕ → ℕ → Type 0

@@ -1,6 +1,5 @@
 -- The ways to states: each is the way to the state before it and one turn more, and they rise.
 use Rattle.std.proofs.Common.{◌≡◌, ℕ, zero, suc, ◌+◌, ◌<◌, ◌≤◌, ◌⊎◌, inl, inr, Option, Some, None, List, [], ◌∷◌, ◌++◌, length, slice_get, refl, sym, ap, subst, ◌∙◌, arith, length-append}
-use Rattle.std.proofs.lemmas.Option.{slice_get_within}
 use Rattle.std.proofs.lemmas.Bool.{cases_lt}
 use Rattle.sa_lemmas.proofs.ListUpdates.{slice_get-append_left}
 use Rattle.sa_lemmas.proofs.ListReads.{read-at}

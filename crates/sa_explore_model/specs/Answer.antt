@@ -4,8 +4,7 @@ use Rattle.std.specs.Prelude.{◌≡◌, ℕ, zero, suc, ◌≤◌, ◌⊎◌, B
 use Rattle.sa_base.specs.declared.number.ProcNo.{ProcNo}
 use Rattle.sa_base.specs.declared.record.End.{End}
 use Rattle.sa_base.specs.declared.record.End.TheVariants.{AllDone, Stuck, Budget}
-use Rattle.sa_explore_model.specs.declared.answer.Extent.{Extent}
-use Rattle.sa_explore_model.specs.declared.answer.Extent.TheVariants.{All, Part}
+use Rattle.sa_explore_model.specs.declared.answer.Extent.TheVariants.{All}
 use Rattle.sa_explore_model.specs.declared.answer.Found.{Found}
 use Rattle.sa_explore_model.specs.declared.answer.Explored.{Explored}
 use Rattle.sa_explore_model.specs.Order.{ComesFirst}

@@ -1,5 +1,5 @@
 -- The order of schedules: the shorter first, and of those of one length by the first processor in which they differ.
-use Rattle.std.specs.Prelude.{◌≡◌, ℕ, ◌<◌, ◌⊎◌, List, [], ◌∷◌, length}
+use Rattle.std.specs.Prelude.{◌≡◌, ◌<◌, ◌⊎◌, List, [], ◌∷◌, length}
 use Rattle.sa_base.specs.declared.number.ProcNo.{ProcNo}
 
 -- of one length: equal, or less at the first place at which they differ

@@ -1,5 +1,5 @@
 ghost use Rattle.std.specs.Prelude.{◌≡◌, ◌≤◌, ◌++◌, OnOk, IfOk};
-ghost use Rattle.sa_gen.specs.Probe.{forking_program, io_program, probe_space, turns_of, probe_turns, probing};
+ghost use Rattle.sa_gen.specs.Probe.{probe_space, turns_of, probe_turns, probing};
 
 use sa_base::ProcNo;
 use sa_instr::{Instr, Program, Reg};

@@ -1,6 +1,6 @@
 // A source and a sink in memory, whose calls fail where their numbers say so.
-ghost use Rattle.std.specs.Prelude.{◌≡◌, ℕ, ◌+◌, ◌<◌, ◌≤◌, ◌↔◌, List, [], ◌++◌, Some, length, take, drop, min, Contains, IsTrue, IsErr, IfOk, OnOk, OnErr};
-ghost use Rattle.sa_io.specs.Faults.{AppendsPrefix, HasRisen, count_up};
+ghost use Rattle.std.specs.Prelude.{◌≡◌, ◌+◌, ◌<◌, ◌≤◌, ◌↔◌, [], ◌++◌, Some, length, take, drop, min, Contains, IsTrue, IsErr, IfOk, OnOk, OnErr};
+ghost use Rattle.sa_io.specs.Faults.{AppendsPrefix, HasRisen};
 ghost use Rattle.sa_io.specs.Store.{NextWriteFails, after_write, after_failed_write};
 ghost use Rattle.sa_io.specs.Supply.{NextReadFails, next_count, after_read, after_failed_read};
 

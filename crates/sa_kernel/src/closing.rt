@@ -1,5 +1,5 @@
 // The closing of an event.
-ghost use Rattle.std.specs.Prelude.{◌≡◌, ◌+◌, ◌*◌, ◌≤◌, ◌<◌, ◌&&◌, length, not, is_some, Some, None, IfSome, slice_index_or};
+ghost use Rattle.std.specs.Prelude.{◌≡◌, ◌+◌, ◌*◌, ◌≤◌, ◌<◌, ◌&&◌, length, is_some, Some, None, IfSome, slice_index_or};
 ghost use Rattle.std.specs.List.{list_any};
 ghost use Rattle.sa_acts.specs.Table.{held_of};
 ghost use Rattle.sa_assign.specs.Aims.{aimed, least_below};

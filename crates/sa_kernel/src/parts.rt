@@ -1,4 +1,4 @@
-ghost use Rattle.std.specs.Prelude.{◌≡◌, ◌+◌, ◌≤◌, ◌<◌, length, not, Some, None};
+ghost use Rattle.std.specs.Prelude.{◌≡◌, ◌+◌, ◌≤◌, ◌<◌, length, Some, None};
 ghost use Rattle.sa_acts.specs.Table.{IsRunning};
 ghost use Rattle.sa_assign.specs.Aims.{is_aim};
 ghost use Rattle.sa_base.specs.Recorded.{Adds};

@@ -22,18 +22,6 @@ put-put f i a b = fun_ext (λ j. elim (cases_eq j i) [
   | inr apart ↦ put-other (put f i a) i j b apart ∙ put-other f i j a apart ∙ sym (put-other f i j b apart)
 ])
 
--- updates at two places may be exchanged
-pub put_comm : {A : Type 0} (f : ℕ → A) (i j : ℕ) (a b : A) → i ≢ j → put (put f i a) j b ≡ put (put f j b) i a
-put_comm f i j a b apart = fun_ext (λ k. elim (cases_eq k j) [
-  | inl same ↦
-      let other : k ≢ i = λ e. apart (sym e ∙ same) in
-      put-at (put f i a) j k b same ∙ sym (put-at f j k b same) ∙ sym (put-other (put f j b) i k a other)
-  | inr differs ↦ put-other (put f i a) j k b differs ∙ elim (cases_eq k i) [
-    | inl same ↦ put-at f i k a same ∙ sym (put-at (put f j b) i k a same)
-    | inr other ↦ put-other f i k a other ∙ sym (put-other f j k b differs) ∙ sym (put-other (put f j b) i k a other)
-  ]
-])
-
 -- an update by what is there changes nothing
 pub put-self : {A : Type 0} (f : ℕ → A) (i : ℕ) → put f i (f i) ≡ f
 put-self f i = fun_ext (λ j. elim (cases_eq j i) [

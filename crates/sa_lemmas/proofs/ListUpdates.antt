@@ -1,9 +1,7 @@
 -- A list that was updated at one place, or got one item more. Lemmas on `get_or`, two updates, the length and
 -- `map` after an update are in `Rattle.std.proofs.lemmas.List`; those on sums and counts are in its `Sums`, and
 -- those on folds over `++` in its `Sums` and `Folds`.
-use Rattle.std.proofs.Common.{◌≡◌, ◌≢◌, ℕ, zero, suc, ◌<◌, ◌≤◌, Some, None, List, [], ◌∷◌, ◌++◌, length, slice_get, slice_set, ◌⊎◌, inl, inr, refl, ap, arith}
-use Rattle.std.proofs.lemmas.List.{length-set}
-use Rattle.std.proofs.lemmas.Option.{slice_get_past}
+use Rattle.std.proofs.Common.{◌≡◌, ◌≢◌, ℕ, zero, suc, ◌<◌, ◌≤◌, Some, List, [], ◌∷◌, ◌++◌, length, slice_get, slice_set, ◌⊎◌, inl, inr, refl, ap, arith}
 
 -- at the place itself, within the list
 pub slice_get-set_same : {A : Type 0} (xs : List A) (i : ℕ) (x : A) → i < length xs → slice_get (slice_set xs i x) i ≡ Some x
@@ -18,10 +16,6 @@ slice_get-set_other (y ∷ xs) zero zero x apart = absurd (apart refl)
 slice_get-set_other (y ∷ xs) zero (suc j) x apart = refl
 slice_get-set_other (y ∷ xs) (suc i) zero x apart = refl
 slice_get-set_other (y ∷ xs) (suc i) (suc j) x apart = slice_get-set_other xs i j x (λ e. apart (ap suc e))
-
--- past the end there is nothing after an update either
-pub slice_get-set_past : {A : Type 0} (xs : List A) (i j : ℕ) (x : A) → length xs ≤ j → slice_get (slice_set xs i x) j ≡ None
-slice_get-set_past xs i j x past = slice_get_past (slice_set xs i x) j (omega (arith, length-set xs i x))
 
 -- an item after an update is the new one or an old one
 pub slice_get-set_cases : {A : Type 0} (xs : List A) (i j : ℕ) (x y : A) → slice_get (slice_set xs i x) j ≡ Some y

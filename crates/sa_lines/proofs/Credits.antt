@@ -4,7 +4,6 @@ use Rattle.std.proofs.lemmas.Bool.Decides.{nat_tests}
 use Rattle.std.proofs.lemmas.List.{set-set}
 use Rattle.sa_base.specs.declared.limits.TheConstants.{MAX_EVENTS}
 use Rattle.sa_base.specs.declared.record.End.TheVariants.{AllDone, Stuck, Budget}
-use Rattle.atomic_table.specs.Seated.{TableId}
 use Rattle.sa_lines.specs.declared.credit.Account.{Account}
 use Rattle.sa_lines.specs.declared.credit.Credit.{Credit}
 use Rattle.sa_lines.specs.declared.credit.Credit.TheVariants.{Turns, End as Ended}
@@ -14,8 +13,8 @@ use Rattle.sa_lines.specs.declared.view.View.TheVariants.{Keeping, Polling, Spen
 use Rattle.sa_lines.specs.Credit.{credited, MayCredit, number_of, end_of, credit_of}
 use Rattle.sa_lines.specs.Words.{lane_at, changed, lanes_of, IsKeeping}
 use Rattle.sa_lines.specs.Steps.{granted, cleared, on_lane}
-use Rattle.sa_lines.specs.Seen.{credited_lane, IsQuiet, KeepsWell, MayGrant}
-use Rattle.sa_lines.proofs.Steps.{lane_here, length_changed, all_changed}
+use Rattle.sa_lines.specs.Seen.{credited_lane, IsQuiet, MayGrant}
+use Rattle.sa_lines.proofs.Steps.{lane_here}
 
 turns_back : (b : Bool) (n : ℕ) → nat_lt MAX_EVENTS n ≡ b → n ≤ MAX_EVENTS → (if b then Ended (end_of (n - MAX_EVENTS)) else Turns n) ≡ Turns n
 turns_back true n e le = absurd (let lt : MAX_EVENTS < n = grind (arith, nat_tests, e) in omega (arith, lt, le))
@@ -69,20 +68,6 @@ pub credit_view : (v : View) (p : ℕ) (c : Credit) → IsKeeping v → p < leng
 credit_view (Keeping lanes split) p c k lt none_handed back = ap (λ (l : List Lane). Keeping l split) (credit_lanes lanes p c lt none_handed back)
 credit_view (Polling q own) p c k lt none_handed back = refl
 credit_view Spent p c k lt none_handed back = refl
-
--- after a credit the keeper is as between calls
-pub keeps_credited : (table : TableId) (v : View) (p : ℕ) (c : Credit) → KeepsWell table v → MayCredit (lane_at (lanes_of v) p).account c
-    → KeepsWell table (on_lane p (credited_lane c) v)
-keeps_credited table (Polling q own) p c well may = absurd well.keeping
-keeps_credited table Spent p c well may = absurd well.keeping
-keeps_credited table (Keeping lanes split) p c well may = record {
-  keeping = tt;
-  size = well.size ∙ ap (λ (n : ℕ). 2 * n) (sym (length_changed p (credited_lane c) lanes));
-  quiet = λ q. all_changed IsQuiet (credited_lane c) lanes p q well.quiet record {
-    none_handed = (well.quiet p).none_handed;
-    counted = room_for c (lane_at lanes p).account may (well.quiet p).counted;
-  };
-}
 
 -- the same, with the processor and the number as the code has them
 pub grants : (v : View) (lanes : List Lane) (p q n : ℕ) (c : Credit) → q ≡ p → n ≡ number_of c → lanes_of v ≡ lanes → IsKeeping v

@@ -2,7 +2,7 @@
 ghost use Rattle.std.specs.Prelude.{◌≡◌, ◌+◌, ◌*◌, ◌<◌, ◌≤◌, [], MatchBool};
 ghost use Rattle.std.specs.Bool.{OnTrue};
 ghost use Rattle.sa_base.specs.declared.limits.TheConstants.{MAX_EVENTS};
-ghost use Rattle.sa_lines.specs.Credit.{fresh_account, applied, credit_of, number_of};
+ghost use Rattle.sa_lines.specs.Credit.{applied, credit_of, number_of};
 ghost use Rattle.sa_lines.specs.Words.{credit_word, fresh_polled};
 ghost use Rattle.sa_lines.specs.Steps.{on_poller, taken, polled_of};
 ghost use Rattle.sa_lines.specs.Seen.{IsPollerOf, fresh_poller, with_poll, with_credit};

@@ -1,5 +1,5 @@
 // The words, and how they are made and closed.
-ghost use Rattle.std.specs.Prelude.{◌≡◌, ◌+◌, ◌*◌, ◌<◌, ◌≤◌, [], vec_len, IfOk, All, replicate};
+ghost use Rattle.std.specs.Prelude.{◌≡◌, ◌+◌, ◌*◌, ◌<◌, ◌≤◌, [], IfOk, All, replicate};
 ghost use Rattle.atomic_table.specs.Seated.{TableId};
 ghost use Rattle.sa_lines.specs.Words.{fresh_lane, line_word, credit_word};
 ghost use Rattle.sa_lines.specs.declared.view.View.TheVariants.{Keeping};

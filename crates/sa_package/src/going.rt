@@ -1,10 +1,6 @@
 // Runs of local instructions.
 ghost use Rattle.std.specs.Prelude.{◌≡◌, ◌+◌, ◌≤◌, ◌<◌, ◌++◌, length};
 ghost use Rattle.sa_base.specs.Items.{items_from};
-ghost use Rattle.sa_spaces.specs.Space.{SpaceView};
-ghost use Rattle.sa_abstract.specs.Walk.{program_at};
-ghost use Rattle.sa_fast.specs.Threads.{block_at};
-ghost use Rattle.sa_fast.specs.Instruction.{IsAt};
 ghost use Rattle.sa_package_model.specs.Conditions.{CanGo};
 ghost use Rattle.sa_package_model.specs.Step.{went, block_after, says_between};
 

@@ -1,11 +1,10 @@
 // The check of a notice.
-ghost use Rattle.std.specs.Prelude.{◌≡◌, ◌+◌, ◌≤◌, length, IfSome};
-ghost use Rattle.std.specs.Option.{ForSome};
-ghost use Rattle.sa_copies.specs.Copies.{package_ops, copy_at};
+ghost use Rattle.std.specs.Prelude.{◌≡◌, ◌+◌, ◌≤◌, IfSome};
+ghost use Rattle.sa_copies.specs.Copies.{package_ops};
 ghost use Rattle.sa_package_model.specs.Conditions.{CanTakeOver, CanBeTold};
 ghost use Rattle.sa_package_model.specs.Step.{told, told_of};
-ghost use Rattle.sa_package_model.specs.Context.{at_copy, section_in, carried_by};
-ghost use Rattle.sa_package_model.specs.Rules.{pair, took_over, thread_alone};
+ghost use Rattle.sa_package_model.specs.Context.{section_in};
+ghost use Rattle.sa_package_model.specs.Rules.{pair, took_over};
 
 use crate::package::FastThreads;
 use crate::settling::place;

@@ -3,7 +3,7 @@ ghost use Rattle.std.specs.Prelude.{◌≡◌, ◌<◌, Some, None};
 ghost use Rattle.sa_fast.specs.Work.{IsWork};
 ghost use Rattle.sa_package_model.specs.Conditions.{CanBeDue, IsThread};
 ghost use Rattle.sa_package_model.specs.Context.{settled_to, is_left};
-ghost use Rattle.sa_package_model.specs.Rules.{Pair, pair, load, owed, settled, placed, put_last};
+ghost use Rattle.sa_package_model.specs.Rules.{pair, load, owed, settled, placed, put_last};
 
 use crate::package::FastThreads;
 use sa_base::{BULK_RETURN, Seen, ThreadNo};

@@ -1,15 +1,12 @@
 // The step of a context.
-ghost use Rattle.std.specs.Prelude.{◌≡◌, ◌≢◌, ◌+◌, ◌<◌, ◌≤◌, ◌++◌, [], ◌∷◌, length, Some, None, IfSome, slice_get};
-ghost use Rattle.sa_base.specs.Items.{items_at};
+ghost use Rattle.std.specs.Prelude.{◌≡◌, ◌≢◌, ◌+◌, ◌<◌, ◌≤◌, ◌++◌, [], ◌∷◌, length, Some, None, slice_get};
 ghost use Rattle.sa_copies.specs.Copies.{package_ops};
-ghost use Rattle.sa_code.specs.Micro.{CanDo, HasList};
-ghost use Rattle.sa_lists.specs.ReadyView.{sought};
 ghost use Rattle.sa_lists.specs.ReadyView as ready;
 ghost use Rattle.sa_fast.specs.Work.{IsWork};
 ghost use Rattle.sa_fast.specs.Instruction.{CanRun};
 ghost use Rattle.sa_package_model.specs.Conditions.{CanBeDue, CanCode, CanStep, CanWork, IsThread};
 ghost use Rattle.sa_package_model.specs.Context.{carried_by};
-ghost use Rattle.sa_package_model.specs.Rules.{own_list, Steps, moved_by, context_after, coded, continued, pushing, used, is_idle, popping, looked, with_shared};
+ghost use Rattle.sa_package_model.specs.Rules.{own_list, Steps, moved_by, context_after, coded, continued, pushing, used, is_idle, popping, looked};
 ghost use Rattle.sa_package_model.specs.Step.{resettled, stepped, stepped_at, worked};
 
 use crate::package::FastThreads;

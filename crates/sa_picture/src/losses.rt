@@ -1,7 +1,6 @@
 // The lines of losses that may follow a trace text: a run on virtual processors ends in them.
-ghost use Rattle.std.specs.Prelude.{◌≡◌, ◌≤◌, length, take, drop};
-ghost use Rattle.std.specs.List.{list_all};
-ghost use Rattle.sa_text.specs.Line.{lines_of, IsWithin};
+ghost use Rattle.std.specs.Prelude.{◌≡◌, ◌≤◌, length};
+ghost use Rattle.sa_text.specs.Line.{IsWithin};
 ghost use Rattle.sa_picture.specs.Losses.{losses_at, is_loss_of, is_loss, are_losses, trace_part};
 
 use sa_text::{Line, Lines, Pieces, read_number};

@@ -1,5 +1,5 @@
 // What the program is asked to draw.
-ghost use Rattle.std.specs.Prelude.{◌≡◌, map, length, string_bytes};
+ghost use Rattle.std.specs.Prelude.{◌≡◌, map, string_bytes};
 ghost use Rattle.sa_picture.specs.Request.{set_once, with_option, settings_of, in_order, request_by, request_of, form_in, rules_in, with_form, with_package, form_by, picture_form, events_form, page_form, is_whole};
 
 use sa_page::Rules;

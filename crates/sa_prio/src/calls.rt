@@ -3,7 +3,6 @@ ghost use Rattle.std.specs.Prelude.{◌≡◌, IfSome};
 ghost use Rattle.std.specs.Option.{option_map};
 ghost use Rattle.sa_package_model.specs.Conditions.{CanBeTold, CanTakeOver, IsThread};
 ghost use Rattle.sa_package_model.specs.Context.{carried_by};
-ghost use Rattle.sa_package_model.specs.Rules.{Pair, pair};
 ghost use Rattle.sa_package_model.specs.Step as fast;
 ghost use Rattle.sa_prio_model.specs.Conditions.{CanRank};
 ghost use Rattle.sa_prio_model.specs.Prio.{with_base};

@@ -3,7 +3,7 @@ ghost use Rattle.std.specs.Prelude.{◌≡◌, ◌<◌};
 ghost use Rattle.sa_base.specs.declared.limits.TheConstants.{MAX_PROCESSORS};
 ghost use Rattle.sa_package_model.specs.Conditions.{IsThread};
 ghost use Rattle.sa_prio_model.specs.Conditions.{CanRank};
-ghost use Rattle.sa_prio_model.specs.Prio.{on_at, with_on, rank_below, outranked_on, outranked, lower, lowest_below, lowest, has_pair};
+ghost use Rattle.sa_prio_model.specs.Prio.{on_at, with_on, rank_below, outranked_on, outranked, lower, lowest, has_pair};
 
 use crate::threads::PrioThreads;
 use sa_base::{ProcNo, Seen, ThreadNo, has_bit};

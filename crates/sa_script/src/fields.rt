@@ -1,7 +1,7 @@
 // What follows the first word of a line.
-ghost use Rattle.std.specs.Prelude.{◌≡◌, ◌≤◌, IfOk};
+ghost use Rattle.std.specs.Prelude.{◌≡◌, ◌≤◌};
 ghost use Rattle.sa_trace.specs.Pieces.{number_in, with_rest};
-ghost use Rattle.sa_script.specs.Fields.{taken, space_in, thread_in, place_in, proc_in, turns_in, thread_at, point_at};
+ghost use Rattle.sa_script.specs.Fields.{taken, space_in, proc_in, turns_in, thread_at, point_at};
 
 use crate::command::Point;
 use sa_base::{Cause, MAX_EVENTS, MAX_THREADS, ProcNo, SpaceNo, ThreadNo};

@@ -1,7 +1,7 @@
 -- A burst goes on by one instruction, and ends.
 use Rattle.std.proofs.Common.{◌≡◌, ◌≢◌, ℕ, zero, suc, ◌+◌, ◌<◌, ◌++◌, Bool, true, false, Some, None, List, [], ◌∷◌, length, replicate, refl, sym, ap, subst, ◌∙◌, arith, add-one}
 use Rattle.std.proofs.lemmas.Option.{same_Some}
-use Rattle.std.proofs.lemmas.List.{append_assoc, append-nil}
+use Rattle.std.proofs.lemmas.List.{append_assoc}
 use Rattle.atomic_table.specs.Seated.{TableId}
 use Rattle.sa_base.specs.declared.limits.TheConstants.{MAX_BURST}
 use Rattle.sa_spaces.specs.Workload.{WorkloadView}
@@ -12,9 +12,7 @@ use Rattle.sa_abstract.specs.declared.answer.SeatState.{SeatState}
 use Rattle.sa_abstract.specs.declared.answer.SeatState.TheVariants.{Local, Away}
 use Rattle.sa_abstract.specs.Walk.{Spot, AreLocal, after_one, after_many}
 use Rattle.sa_lines.specs.Seen.{PollerSeen, with_poll}
-use Rattle.sa_seat.specs.declared.answer.BurstEnd.{BurstEnd}
-use Rattle.sa_seat.specs.declared.answer.BurstEnd.TheVariants.{Shared, Limit, Line, Away as NoContext}
-use Rattle.sa_seat.specs.Seat.{SeatView, code_of, IsPlace, moved, CanMove, next_answer, IsSeatOf, IsStep, IsBurst, IsCode, IsReady, IsAdvanced}
+use Rattle.sa_seat.specs.Seat.{SeatView, code_of, IsPlace, moved, CanMove, next_answer, IsSeatOf, IsStep, IsCode, IsReady, IsAdvanced}
 
 -- one more local instruction
 
@@ -43,10 +41,6 @@ can-suc w n Away can next = absurd (let z : None ≡ Some Went = next in cc)
 
 pub can-more : (w : WorkloadView) (n : ℕ) (x : SeatState) → CanMove w n x → next_answer w (moved w n x) ≡ Some Went → CanMove w (n + 1) x
 can-more w n x can next = subst (λ (k : ℕ). CanMove w k x) (sym (add-one n)) (can-suc w n x can next)
-
-pub moved-none : (w : WorkloadView) (x : SeatState) → moved w 0 x ≡ x
-moved-none w (Local space thread program pc regs) = refl
-moved-none w Away = refl
 
 -- what running it came to
 
@@ -105,19 +99,6 @@ pub record Bursting (w : WorkloadView) (old s : SeatView) (i : ℕ) : Type 0 whe
   pub local : CanMove w i old.copy
   pub poller : s.poller ≡ record old.poller { read = old.poller.read ++ zeros i }
 
-can-none : (w : WorkloadView) (x : SeatState) → CanMove w 0 x
-can-none w (Local space thread program pc regs) = tt
-can-none w Away = refl
-
-pub burst-begins : (w : WorkloadView) (old : SeatView) → old.pending ≡ 0 → Bursting w old old 0
-burst-begins w old none = record {
-  pending = none;
-  start = refl;
-  copy = sym (moved-none w old.copy);
-  local = can-none w old.copy;
-  poller = ap (λ (l : List ℕ). record old.poller { read = l }) (sym (append-nil old.poller.read));
-}
-
 zeros-more : (n : ℕ) → zeros n ++ one_zero ≡ zeros (suc n)
 zeros-more zero = refl
 zeros-more (suc n) = ap (λ (l : List ℕ). 0 ∷ l) (zeros-more n)
@@ -132,63 +113,4 @@ burst-more w old s next i b step = subst (λ (z : SeatView). Bursting w old z (i
   copy = ap (λ (x : SeatState). moved w 1 x) b.copy ∙ moved-more w i old.copy;
   local = can-more w i old.copy b.local (ap (λ (x : SeatState). next_answer w x) (sym b.copy) ∙ step.0);
   poller = ap (λ (p : PollerSeen). with_poll None p) b.poller ∙ ap (λ (l : List ℕ). record old.poller { read = l }) (read-more old.poller.read i);
-}
-
--- the program stays
-code-moved : (w : WorkloadView) (code : List Instr) (i : ℕ) (x : SeatState) → IsCode w code x → IsCode w code (moved w i x)
-code-moved w code i (Local space thread program pc regs) is = is
-code-moved w code i Away is = is
-
-pub code-still : (w : WorkloadView) (code : List Instr) (old s : SeatView) (i : ℕ) → Bursting w old s i → IsCode w code old.copy → IsCode w code s.copy
-code-still w code old s i b is = subst (λ (x : SeatState). IsCode w code x) (sym b.copy) (code-moved w code i old.copy is)
-
-not-away : (w : WorkloadView) (code : List Instr) (x : SeatState) → IsCode w code x → x ≢ Away
-not-away w code (Local space thread program pc regs) is = λ e. absurd (let z = e in cc)
-not-away w code Away is = absurd is
-
-pub burst-limit : (w : WorkloadView) (code : List Instr) (limit : ℕ) (old s : SeatView) → Bursting w old s limit → IsCode w code old.copy
-    → IsBurst w limit old Limit s
-burst-limit w code limit old s b is = record {
-  few = (let e = b.pending in omega (arith, e));
-  start = b.start;
-  copy = b.copy ∙ ap (λ (k : ℕ). moved w k old.copy) (sym b.pending);
-  local = subst (λ (k : ℕ). CanMove w k old.copy) (sym b.pending) b.local;
-  poller = b.poller ∙ ap (λ (l : List ℕ). record old.poller { read = l })
-      (ap (λ (k : ℕ). old.poller.read ++ zeros k) (sym b.pending) ∙ sym (append-nil (old.poller.read ++ zeros s.pending)));
-  ends = (not-away w code old.copy is, b.pending);
-}
-
-pub burst-ends : (w : WorkloadView) (code : List Instr) (limit : ℕ) (old s next : SeatView) (i : ℕ) (end : BurstEnd) → Bursting w old s i → i < limit
-    → IsCode w code old.copy
-    → IsStep w s (Some end) next → IsBurst w limit old end next
-burst-ends w code limit old s next i Shared b more is step = subst (λ (z : SeatView). IsBurst w limit old Shared z) (sym step.1) record {
-  few = (let e = b.pending in omega (arith, e, more));
-  start = b.start;
-  copy = b.copy ∙ ap (λ (k : ℕ). moved w k old.copy) (sym b.pending);
-  local = subst (λ (k : ℕ). CanMove w k old.copy) (sym b.pending) b.local;
-  poller = b.poller ∙ ap (λ (l : List ℕ). record old.poller { read = l })
-      (ap (λ (k : ℕ). old.poller.read ++ zeros k) (sym b.pending) ∙ sym (append-nil (old.poller.read ++ zeros s.pending)));
-  ends = (not-away w code old.copy is, (let e = b.pending in omega (arith, e, more)), step.0);
-}
-burst-ends w code limit old s next i (Line e) b more is step = subst (λ (z : SeatView). IsBurst w limit old (Line e) z) (sym step.1) record {
-  few = (let z = b.pending in omega (arith, z, more));
-  start = b.start;
-  copy = b.copy ∙ ap (λ (k : ℕ). moved w k old.copy) (sym b.pending);
-  local = subst (λ (k : ℕ). CanMove w k old.copy) (sym b.pending) b.local;
-  poller = ap (λ (p : PollerSeen). with_poll (Some e) p) b.poller
-      ∙ ap (λ (k : ℕ). record old.poller { read = (old.poller.read ++ zeros k) ++ (e + 1) ∷ [] }) (sym b.pending);
-  ends = (not-away w code old.copy is, (let z = b.pending in omega (arith, z, more)), step.0);
-}
-burst-ends w code limit old s next i Limit b more is step = absurd step
-burst-ends w code limit old s next i NoContext b more is step = absurd step
-
-pub burst-away : (w : WorkloadView) (limit : ℕ) (old : SeatView) → old.pending ≡ 0 → old.copy ≡ Away → IsBurst w limit old NoContext old
-burst-away w limit old none away = record {
-  few = omega (arith, none);
-  start = refl;
-  copy = sym (ap (λ (k : ℕ). moved w k old.copy) none ∙ moved-none w old.copy);
-  local = subst (λ (k : ℕ). CanMove w k old.copy) (sym none) (can-none w old.copy);
-  poller = ap (λ (l : List ℕ). record old.poller { read = l })
-      (sym (append-nil (old.poller.read ++ zeros old.pending) ∙ ap (λ (k : ℕ). old.poller.read ++ zeros k) none ∙ append-nil old.poller.read));
-  ends = away;
 }

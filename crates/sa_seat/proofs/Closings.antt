@@ -55,18 +55,6 @@ length-zeros : (n : ℕ) → length (zeros n) ≡ n
 length-zeros zero = refl
 length-zeros (suc n) = ap suc (length-zeros n)
 
-pub join-begins : (all : List SeatView) (keeper : KeeperSeen) (places : ℕ) → Joining all all keeper keeper (zeros places) places
-join-begins all keeper places = record {
-  table_is = refl;
-  size = refl;
-  lanes = λ p. record { account = refl; raised = refl };
-  few = omega arith;
-  part = λ p s e. e;
-  over = λ p s e. inl e;
-  none = λ p le. zero-at places p;
-  counts = length-zeros places;
-}
-
 module _ (all left rest : List SeatView) (s : SeatView) (old new next : KeeperSeen) (turns after : List ℕ) (places : ℕ)
     (joining : Joining all left old new turns places)
     (popped : left ≡ rest ++ s ∷ []) (inside : length all ≤ length old.lanes) (room : length all ≤ places) (in_order : (p : ℕ) (x : SeatView)
@@ -140,18 +128,6 @@ module _ (all left rest : List SeatView) (s : SeatView) (old new next : KeeperSe
         count-next p apart ∙ joining.none p le;
     counts = ap (λ (l : List ℕ). length l) counts ∙ length-set turns s.poller.proc.0 s.poller.account.count ∙ joining.counts;
   }
-
-pub join-ends : (all left : List SeatView) (old new : KeeperSeen) (turns : List ℕ) (places n : ℕ) → Joining all left old new turns places → length left ≡ 0
-    → length all ≡ n
-    → AreJoined n all old new turns
-join-ends all left old new turns places n joining gone same = record {
-  table_is = joining.table_is;
-  size = joining.size;
-  lanes = joining.lanes;
-  joined = λ p s e. elim (joining.over p s e) [ inl still ↦ absurd (let z = slice_get_within left p s still in omega (arith, z, gone)) | inr done ↦ done.1 ];
-  counts = λ p s e. elim (joining.over p s e) [ inl still ↦ absurd (let z = slice_get_within left p s still in omega (arith, z, gone)) | inr done ↦ done.2 ];
-  none = λ p le. joining.none p (omega (arith, le, same));
-}
 
 -- each seat is settled
 

@@ -1,6 +1,6 @@
 // What a processor does, as far as a looker is told.
 ghost use Rattle.std.specs.Prelude.{◌≡◌};
-ghost use Rattle.sa_shapes.specs.Look.{owner, working, continued, announcing, in_space, owned_by, same_look, look_after};
+ghost use Rattle.sa_shapes.specs.Look.{owner, working, continued, announcing, owned_by, same_look, look_after};
 
 use sa_base::{ProcNo, Record, SpaceNo, ThreadNo};
 

@@ -1,5 +1,5 @@
 // The titles of shapes: what a pointer on one shows.
-ghost use Rattle.std.specs.Prelude.{◌≡◌, ◌++◌, OnOk, codes};
+ghost use Rattle.std.specs.Prelude.{◌≡◌, ◌++◌, OnOk};
 ghost use Rattle.std.specs.List.{flat_map};
 ghost use Rattle.sa_trace.specs.TraceText.{field, line_of, record_text};
 ghost use Rattle.sa_svg.specs.Titles.{concerns, part, lines_of, line_if, track_title, shown_title, stretch_title};

@@ -1,6 +1,6 @@
 // The words of shapes, and their classes, which the style sheet colours.
-ghost use Rattle.std.specs.Prelude.{◌≡◌, ◌++◌, [], OnOk, codes};
-ghost use Rattle.sa_svg.specs.Markup.{rect, numbered};
+ghost use Rattle.std.specs.Prelude.{◌≡◌, ◌++◌, [], OnOk};
+ghost use Rattle.sa_svg.specs.Markup.{rect};
 ghost use Rattle.sa_svg.specs.Words.{look_class, named, look_word, look_title, of_space, of_space_numbered, aimed_count, mark_class, mark_word};
 
 use crate::markup::{Rect, push_numbered, push_numbered_rect, push_rect};

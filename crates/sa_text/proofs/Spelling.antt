@@ -1,12 +1,10 @@
 -- A number below 2 ^ 64 and its decimal text.
 use Rattle.std.proofs.Common.{◌≡◌, ◌≢◌, ℕ, ◌^◌, ◌<◌, ◌≤◌, get_or, inl, inr, List, length, Option, Some, None, decimal, MatchOption, All, arith, sym, ◌∙◌, ap, subst}
 use Rattle.std.specs.Str.Parse.{IsNumeral, AllDigits, digits_value}
-use Rattle.std.proofs.lemmas.Fmt.{decimal-digits_value, decimal_is_IsNumeral, decimal_digit, first_decimal, decimal_injective, IsAscii-from_digits}
+use Rattle.std.proofs.lemmas.Fmt.{decimal-digits_value, decimal_is_IsNumeral, decimal_digit, first_decimal, decimal_injective}
 use Rattle.std.proofs.lemmas.Str.Parse.{numerals_by_value, tells_digits, tells_by_index, digit_at, IsNumeralModel}
 use Rattle.std.specs.Int.{IsInRange}
 use Rattle.std.proofs.lemmas.List.Elements.{All-from_get_or, All-get_or, All-weaker}
-use Rattle.std.specs.Str.{IsUtf8}
-use Rattle.std.proofs.lemmas.Str.{IsUtf8-from_ascii}
 use Rattle.std.proofs.lemmas.Bool.{cases_lt}
 use Rattle.sa_text.specs.Number.{BeginsNumber, ReadsDigits, IsSpellingOf}
 
@@ -30,10 +28,6 @@ begins_decimal n h =
 -- digits that begin a number are the text of their value
 pub spelled : (bytes : List ℕ) → BeginsNumber bytes → IsNumeral 10 bytes → digits_value 10 bytes < 2 ^ 64 → bytes ≡ decimal (digits_value 10 bytes)
 spelled bytes b d h = sym (decimal-digits_value own bytes d.1 d.0 b.no_leading_zero h)
-
--- bytes that are no UTF-8 are no digits
-pub no_digits : (bytes : List ℕ) → (IsUtf8 bytes → ⊥) → ReadsDigits bytes None
-no_digits bytes other = λ d. other (IsUtf8-from_ascii bytes (IsAscii-from_digits bytes d.0.1))
 
 -- what reading digits says of the number
 pub read_is : (bytes : List ℕ) (r : Option ℕ) → BeginsNumber bytes → ReadsDigits bytes r → MatchOption r ((n : ℕ) → n < 2 ^ 64

@@ -1,5 +1,5 @@
 // What a line of a trace text says after the items before it.
-ghost use Rattle.std.specs.Prelude.{◌≡◌, Ok, MatchResult, IfSome};
+ghost use Rattle.std.specs.Prelude.{◌≡◌, Ok, IfSome};
 ghost use Rattle.sa_text.specs.Line.{IsWithin, text_of_line};
 ghost use Rattle.sa_trace.specs.declared.line.Said.TheVariants.{Next};
 ghost use Rattle.sa_trace.specs.Pieces.{number_in};

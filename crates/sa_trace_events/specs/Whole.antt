@@ -1,5 +1,5 @@
 -- The whole file, as a function of the items.
-use Rattle.std.specs.Prelude.{◌≡◌, ℕ, ◌+◌, ◌-◌, ◌^◌, Bool, true, false, ◌&&◌, List, [], ◌∷◌, ◌++◌, length, slice_get, Option, Some, None, codes, max, min, nat_le}
+use Rattle.std.specs.Prelude.{◌≡◌, ℕ, ◌+◌, ◌-◌, ◌^◌, Bool, ◌&&◌, List, [], ◌∷◌, ◌++◌, length, slice_get, Option, Some, None, codes, max, min, nat_le}
 use Rattle.std.specs.List.{flat_map, range_with_len}
 use Rattle.sa_base.specs.declared.number.ThreadNo.{ThreadNo}
 use Rattle.sa_base.specs.declared.limits.TheConstants.{MAX_THREADS}
@@ -140,8 +140,3 @@ events_by span shape items =
 
 abbrev pub events_text : List Item → List ℕ
 events_text items = events_by (span_of items) (shape_of items) items
-
--- the text of the trace events of these items, where there are no more processors, spaces and threads than a workload may have
-abbrev pub IsEventsOf : List Item → Option (List ℕ) → Type 0
-IsEventsOf items None = can_be_shown items ≡ false
-IsEventsOf items (Some text) = (can_be_shown items ≡ true) × (text ≡ events_text items)

@@ -1,5 +1,5 @@
 // The text of the trace events: the slices of every track, the marks, and the arrows.
-ghost use Rattle.std.specs.Prelude.{◌≡◌, ◌++◌, OnOk, codes};
+ghost use Rattle.std.specs.Prelude.{◌≡◌, ◌++◌, OnOk};
 ghost use Rattle.std.specs.List.{flat_map};
 ghost use Rattle.sa_svg.specs.Titles.{part};
 ghost use Rattle.sa_trace_events.specs.Events.{names_thread, concerns, line_if, rest_text, lines_text, slice_text, track_text, titled_track, has_mark, mark_text, notice_of, told_arrow};

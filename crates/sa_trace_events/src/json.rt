@@ -1,6 +1,5 @@
 // The records of trace events.
-ghost use Rattle.std.specs.Prelude.{◌≡◌, ◌++◌, OnOk, codes};
-ghost use Rattle.sa_svg.specs.Markup.{numbered};
+ghost use Rattle.std.specs.Prelude.{◌≡◌, ◌++◌, OnOk};
 ghost use Rattle.sa_trace_events.specs.Json.{time_of, length_of, place_text, name_text, sort_text, titled_text, quoted, slice_head, slice_times, arrow_head, arrow_rest, arrow_text};
 
 use crate::words::{push_numbered, push_words};

@@ -1,7 +1,7 @@
 // What the tracks show: the state of each after an item.
 ghost use Rattle.std.specs.Prelude.{◌≡◌};
 ghost use Rattle.sa_shapes.specs.Change.{is_aimed, is_space, with_aim};
-ghost use Rattle.sa_trace_events.specs.State.{act_after, context_after, same_space, same_act, same_context, is_thread, is_thread_of, left, at_list, own_or_left, doing_by, same_doing, held, holder_by, same_holder, more, less, more_if, less_if, demand_by, aimed_to, aimed_by, owned_by, ready_by, told_by, untold_by, tally_by};
+ghost use Rattle.sa_trace_events.specs.State.{act_after, context_after, same_space, same_act, same_context, is_thread, is_thread_of, left, at_list, own_or_left, doing_by, same_doing, held, holder_by, same_holder, more_if, less_if, demand_by, aimed_to, aimed_by, owned_by, ready_by, told_by, untold_by, tally_by};
 
 use crate::track::{Count, Level};
 use sa_base::{ActNo, IoNo, Item, Note, ProcNo, Record, SpaceNo, ThreadNo};

@@ -1,8 +1,8 @@
 // The whole file.
-ghost use Rattle.std.specs.Prelude.{◌≡◌, ◌++◌, false, true, MatchOption, IfOk, OnOk, codes};
+ghost use Rattle.std.specs.Prelude.{◌≡◌, ◌++◌, false, true, MatchOption, IfOk, OnOk};
 ghost use Rattle.std.specs.List.{flat_map};
 ghost use Rattle.sa_trace_events.specs.Events.{mark_text, notice_of};
-ghost use Rattle.sa_trace_events.specs.Whole.{thread_of, above_thread, threads_of, first_event, end_of, span_of, can_be_shown, lane_text, lanes_text, counts_text, lock_text, locks_text, thread_text, threads_text, space_head, space_text, spaces_text, line_ends, lines_ends, thread_ends, space_ends, spaces_ends, arrows_text, events_by, events_text};
+ghost use Rattle.sa_trace_events.specs.Whole.{thread_of, above_thread, threads_of, first_event, end_of, span_of, can_be_shown, lane_text, lanes_text, counts_text, locks_text, threads_text, space_head, space_text, spaces_text, lines_ends, space_ends, spaces_ends, arrows_text, events_by, events_text};
 
 use crate::arrows::{Arrow, push_ends};
 use crate::events::{push_mark, push_notice, push_titled_track, push_track};

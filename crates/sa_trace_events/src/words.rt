@@ -1,6 +1,5 @@
 // The words of tracks and slices.
-ghost use Rattle.std.specs.Prelude.{◌≡◌, ◌++◌, OnOk, codes};
-ghost use Rattle.sa_trace.specs.TraceText.{field};
+ghost use Rattle.std.specs.Prelude.{◌≡◌, ◌++◌, OnOk};
 ghost use Rattle.sa_svg.specs.Markup.{numbered};
 ghost use Rattle.sa_trace_events.specs.Words.{count_word, owner_name, act_name, work_name, context_name, twice_numbered, doing_name, holder_name, state_name, category, track_name, words_of};
 

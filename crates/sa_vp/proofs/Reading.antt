@@ -1,5 +1,5 @@
 -- What is read of the parts of a run, and what records can follow.
-use Rattle.std.proofs.Common.{◌≡◌, ℕ, suc, ◌-◌, ◌<◌, Bool, true, false, List, [], ◌∷◌, length, get_or, slice_get, Option, Some, None, refl, sym, ap, subst, ◌∙◌, arith}
+use Rattle.std.proofs.Common.{◌≡◌, ℕ, suc, ◌-◌, ◌<◌, List, [], ◌∷◌, length, get_or, slice_get, Option, Some, None, sym, ap, subst, ◌∙◌, arith}
 use Rattle.std.specs.Option.{option_map}
 use Rattle.std.proofs.lemmas.Option.{same_Some}
 use Rattle.std.proofs.lemmas.List.{get_or_read}
@@ -12,7 +12,7 @@ use Rattle.sa_links.specs.Lists.{Lists}
 use Rattle.sa_laws.specs.State.{State}
 use Rattle.sa_replay.specs.Needs.{CanChange}
 use Rattle.sa_vp_model.specs.Board.{no_lists}
-use Rattle.sa_vp_model.specs.Turn.{thread, picked, is_some_list}
+use Rattle.sa_vp_model.specs.Turn.{thread}
 
 -- the lists of a space, at a place that is its number
 pub row : (rows : List Lists) (i s : ℕ) (x : Lists) → i ≡ s → s < length rows → x ≡ get_or rows i x → x ≡ get_or rows s no_lists
@@ -39,12 +39,3 @@ last_some : (x : ℕ) (xs : List ℕ) → slice_get (x ∷ xs) (length (x ∷ xs
 last_some x [] is = cc
 last_some x (y ∷ ys) is = let same : length (x ∷ y ∷ ys) - 1 ≡ suc (length (y ∷ ys) - 1) = omega arith in
     last_some y ys (sym (ap (slice_get (x ∷ y ∷ ys)) same) ∙ is)
-
--- a list that has a thread gives one
-pub picked-some : (xs : List ℕ) (own : Bool) → is_some_list xs ≡ true → option_map thread (picked xs own) ≡ None → ⊥
-picked-some [] own some none = cc
-picked-some (x ∷ xs) true some none = cc
-picked-some (x ∷ xs) false some none = go (slice_get (x ∷ xs) (length (x ∷ xs) - 1)) refl none where
-  go : (o : Option ℕ) → slice_get (x ∷ xs) (length (x ∷ xs) - 1) ≡ o → option_map thread o ≡ None → ⊥
-  go None is e = last_some x xs is
-  go (Some n) is e = cc

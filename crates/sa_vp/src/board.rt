@@ -1,5 +1,5 @@
 // The parts of a run, and what a turn does to them, part by part.
-ghost use Rattle.std.specs.Prelude.{◌≡◌, ℕ, ◌+◌, ◌-◌, ◌≤◌, ◌<◌, true, List, [], ◌∷◌, ◌++◌, Some, None, IsSome, IfSome, find, length, slice_get, slice_index, slice_index_or};
+ghost use Rattle.std.specs.Prelude.{◌≡◌, ℕ, ◌+◌, ◌-◌, ◌≤◌, ◌<◌, true, [], ◌∷◌, ◌++◌, Some, None, IsSome, IfSome, find, length, slice_get, slice_index_or};
 ghost use Rattle.std.specs.Option.{option_map};
 ghost use Rattle.sa_base.specs.declared.limits.TheConstants.{MAX_EVENTS, MAX_THREADS};
 ghost use Rattle.sa_devices.specs.declared.kind.IoKind.TheVariants.{Plain, Page};
@@ -10,7 +10,7 @@ ghost use Rattle.sa_laws.specs.State.{thread_at};
 ghost use Rattle.sa_replay.specs.Replayed.{after};
 ghost use Rattle.sa_virtual.specs.Virtual.{space_of, list_of};
 ghost use Rattle.sa_virtual.specs.Turn.{of_io, round_from};
-ghost use Rattle.sa_vp_model.specs.Board.{of_space, list_in, with_list_in, queued, said};
+ghost use Rattle.sa_vp_model.specs.Board.{of_space, list_in, with_list_in, queued};
 ghost use Rattle.sa_vp_model.specs.Turn.{act, thread, held_by, completes, places, places_first, relieves, readies, blocks, goes, ends_with, missed_page, runs, looks, steps, carried_on, with_step, is_some_list, picked, left_of};
 ghost use Rattle.sa_vp_model.specs.Needs.{IsTabled, IsVirtual, CanComeBack, CanPlaceOn, CanGiveWay, CanReady, CanBlockOn, CanGoOn, CanRunOn, CanLook, CanStep};
 ghost use Rattle.sa_vp.specs.View.{board_of};

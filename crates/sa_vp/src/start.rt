@@ -1,5 +1,5 @@
 // The opening of a run.
-ghost use Rattle.std.specs.Prelude.{◌≡◌, ◌≤◌, [], ◌∷◌, None, length, replicate, IfOk};
+ghost use Rattle.std.specs.Prelude.{◌≡◌, ◌≤◌, [], ◌∷◌, None, replicate, IfOk};
 ghost use Rattle.sa_base.specs.declared.limits.TheConstants.{MAX_PROCESSORS};
 ghost use Rattle.sa_vp_model.specs.Board.{empty, first_ready, opened, act_numbers};
 ghost use Rattle.sa_virtual.specs.Virtual.{opening_queue};

@@ -1,5 +1,5 @@
 // Why a line is refused, before it is known which line it is.
-ghost use Rattle.std.specs.Prelude.{◌≡◌, None};
+ghost use Rattle.std.specs.Prelude.{◌≡◌};
 ghost use Rattle.sa_workload.specs.declared.cause.Refusal.TheVariants.{Because, OutOfMemory};
 ghost use Rattle.sa_workload.specs.Stage.{unread_at};
 

@@ -1,7 +1,7 @@
 // Printing a workload.
 ghost use Rattle.std.specs.Prelude.{◌≡◌, ◌++◌, ◌==◌, IfOk, OnOk};
-ghost use Rattle.std.specs.List.{flat_map, list_all};
-ghost use Rattle.sa_workload.specs.Text.{text_of, line_text, version_of, machine_lines, slice_lines, closing_lines, space_lines, space_line, sem_line, absent_line, program_lines, instr_line, evict_line, turn_line};
+ghost use Rattle.std.specs.List.{flat_map};
+ghost use Rattle.sa_workload.specs.Text.{text_of, line_text, version_of, machine_lines, slice_lines, closing_lines, space_lines, space_line, sem_line, absent_line, program_lines, evict_line, turn_line};
 
 use crate::push::{push_instr, push_line};
 use crate::table::are_impatient;

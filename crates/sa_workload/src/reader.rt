@@ -1,13 +1,12 @@
 // The reader: one line after another.
 ghost use Rattle.std.specs.Prelude.{◌≡◌, ℕ, ◌≤◌, MatchResult, IfOk, IfErr, Ok, Err, true};
 ghost use Rattle.std.specs.Option.{is_some};
-ghost use Rattle.sa_base.specs.Cause.{cause_number};
 ghost use Rattle.sa_spaces.specs.Workload.{WorkloadView};
 ghost use Rattle.sa_text.specs.Line.{IsWithin, text_of_line};
 ghost use Rattle.sa_workload.specs.Answer.{IfBad};
 ghost use Rattle.sa_workload.specs.Bad.{BadAt, BadAt1};
 ghost use Rattle.sa_workload.specs.Text.{IsText, IsText1};
-ghost use Rattle.sa_workload.specs.Position.{Position, IsReached};
+ghost use Rattle.sa_workload.specs.Position.{IsReached};
 ghost use Rattle.sa_workload.specs.Fields.{and_then, index_of, line_numbers, numbered};
 ghost use Rattle.sa_workload.specs.Next.{fields_of, last_numbers, next_by};
 ghost use Rattle.sa_workload.specs.Steps.{expected};

@@ -12,7 +12,7 @@ use Rattle.sa_kernel_model.specs.State.{KernelState, Scene, line_of}
 use Rattle.sa_kernel_model.specs.Entries.{evicted_at}
 use Rattle.sa_kernel_model.specs.Entering.{MayEnter}
 use Rattle.sa_kernel_laws.specs.Turn.{SaysRightly}
-use Rattle.sa_kernel_laws.specs.Histories.{IsHistory, IsUnderWay, IsLonger, GoesOnLawfully, QuietEventsGoOn, last_of, read_from, read_within}
+use Rattle.sa_kernel_laws.specs.Histories.{IsHistory, IsUnderWay, IsLonger, GoesOnLawfully, QuietEventsGoOn, read_from, read_within}
 use Rattle.sa_kernel_laws.proofs.histories.Histories.{last_of-push}
 use Rattle.sa_laws.specs.Readings.{Readings}
 use Rattle.sa_laws.specs.History.{Test}

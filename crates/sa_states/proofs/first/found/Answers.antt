@@ -1,4 +1,4 @@
-use Rattle.std.proofs.Common.{◌≡◌, ℕ, Bool, true, None, Some, get_or, position, sym}
+use Rattle.std.proofs.Common.{◌≡◌, ℕ, Bool, None, Some, get_or, position, sym}
 use Rattle.sa_explore_model.specs.declared.answer.State.{State}
 use Rattle.sa_explore_model.specs.Answer.{is_end}
 use Rattle.sa_states.proofs.Firsts.{first-passes, first-at, none-passes, is-end, end-is}

@@ -1,4 +1,4 @@
-use Rattle.std.proofs.Common.{◌≡◌, ℕ, ◌<◌, ◌++◌, [], ◌∷◌, None, Some, Option, List, Bool, true, length, nat_lt, if◌then◌else◌, refl, arith, sym, ap, ◌∙◌}
+use Rattle.std.proofs.Common.{◌≡◌, ℕ, ◌<◌, ◌++◌, [], ◌∷◌, None, Some, Option, List, length, if◌then◌else◌, arith, sym, ap, ◌∙◌}
 use Rattle.std.proofs.lemmas.Bool.{cond_below}
 use Rattle.std.specs.Str.{bytes_eq}
 use Rattle.sa_explore_model.specs.declared.answer.State.{State}
