@@ -36,7 +36,8 @@ use Rattle.sa_cells.specs.Life.{is_on, is_untold, off_text, resting_text, on_or_
 use Rattle.sa_cells.specs.Thread.{operand_text, instr_text, place_text, next_text, going_text, made_text, is_made}
 use Rattle.sa_cells.specs.Sync.{queue_text, holder_text, mutex_text, semaphore_text, mutex_in, semaphore_in, cell_in, of_sync}
 use Rattle.sa_cells.specs.Text.{text_of}
-use Rattle.sa_cells.proofs.PlainPieces.{plain-append, plain-decimal, plain-choice, plain-numbered, plain-one, plain-each, plain-space, plain-act, plain-and-thread}
+use Rattle.sa_svg.proofs.Plain.{plain-append}
+use Rattle.sa_cells.proofs.PlainPieces.{plain-decimal, plain-choice, plain-numbered, plain-one, plain-each, plain-space, plain-act, plain-and-thread}
 
 -- names
 of-space : (s : ℕ) (word : List ℕ) (n : ℕ) → is_plain word ≡ true → is_plain (of_space s word n) ≡ true

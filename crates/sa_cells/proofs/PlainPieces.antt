@@ -4,25 +4,14 @@ use Rattle.std.specs.Prelude.{codes, decimal, ◌==◌, nat_lt, if◌then◌else
 use Rattle.std.specs.Fmt.{digits, digits_onto, digit_glyph}
 use Rattle.std.specs.List.{flat_map}
 use Rattle.std.proofs.Math.Nat.{mod-lt}
-use Rattle.std.proofs.lemmas.Bool.{ne_eqb, and_from}
+use Rattle.std.proofs.lemmas.Bool.{and_from}
 use Rattle.std.proofs.lemmas.Bool.Decides.{nat_tests}
-use Rattle.std.proofs.lemmas.List.Folds.{list_all-append}
 use Rattle.sa_base.specs.declared.number.SpaceNo.{SpaceNo}
 use Rattle.sa_base.specs.declared.number.ThreadNo.{ThreadNo}
 use Rattle.sa_base.specs.declared.number.ActNo.{ActNo}
 use Rattle.sa_svg.specs.Laws.{is_plain}
+use Rattle.sa_svg.proofs.Plain.{plain-append, plain-digit}
 use Rattle.sa_cells.specs.Pieces.{one, two, three, numbered, space_if, act_if, a_space, a_thread, and_thread}
-
-other : (b n : ℕ) → (b ≡ n → ⊥) → not (eqb b n) ≡ true
-other b n differ = ap not (ne_eqb b n differ)
-
-plain-low : (b : ℕ) → 48 ≤ b → b ≤ 57 → (not (eqb b 60) && not (eqb b 62) && not (eqb b 38)) ≡ true
-plain-low b low high =
-    and_from (not (eqb b 60) && not (eqb b 62)) (not (eqb b 38))
-    (and_from (not (eqb b 60)) (not (eqb b 62)) (other b 60 (λ e. omega arith)) (other b 62 (λ e. omega arith))) (other b 38 (λ e. omega arith))
-
-pub plain-append : (xs ys : List ℕ) → is_plain xs ≡ true → is_plain ys ≡ true → is_plain (xs ++ ys) ≡ true
-plain-append xs ys p q = list_all-append (λ b. not (eqb b 60) && not (eqb b 62) && not (eqb b 38)) xs ys ∙ and_from (is_plain xs) (is_plain ys) p q
 
 plain-cons : (b : ℕ) (bs : List ℕ) → (not (eqb b 60) && not (eqb b 62) && not (eqb b 38)) ≡ true → is_plain bs ≡ true → is_plain (b ∷ bs) ≡ true
 plain-cons b bs p q = and_from (not (eqb b 60) && not (eqb b 62) && not (eqb b 38)) (is_plain bs) p q
@@ -35,26 +24,23 @@ plain-glyph : (n : ℕ) → (let d = digit_glyph false (n % 10) in not (eqb d 60
 plain-glyph n =
     let low : n % 10 < 10 = mod-lt n (omega arith) in
     let is = glyph-is (n % 10) low in
-    plain-low (digit_glyph false (n % 10)) (omega (arith, is)) (omega (arith, is, low))
+    plain-digit (digit_glyph false (n % 10)) (omega (arith, is)) (omega (arith, is, low))
 
-plain-if : (b : Bool) (xs ys : List ℕ) → is_plain xs ≡ true → is_plain ys ≡ true → is_plain (if b then xs else ys) ≡ true
-plain-if true xs ys p q = p
-plain-if false xs ys p q = q
+-- a choice
+pub plain-choice : (b : Bool) (xs ys : List ℕ) → is_plain xs ≡ true → is_plain ys ≡ true → is_plain (if b then xs else ys) ≡ true
+plain-choice true xs ys p q = p
+plain-choice false xs ys p q = q
 
 plain-onto : (k n : ℕ) (acc : List ℕ) → is_plain acc ≡ true → is_plain (digits_onto k 10 false n acc) ≡ true
 plain-onto zero n acc p = p
 plain-onto (suc k) n acc p =
     let more = plain-cons (digit_glyph false (n % 10)) acc (plain-glyph n) p in
-    plain-if (n / 10 == 0) (digit_glyph false (n % 10) ∷ acc) (digits_onto k 10 false (n / 10) (digit_glyph false (n % 10) ∷ acc)) more
+    plain-choice (n / 10 == 0) (digit_glyph false (n % 10) ∷ acc) (digits_onto k 10 false (n / 10) (digit_glyph false (n % 10) ∷ acc)) more
     (plain-onto k (n / 10) (digit_glyph false (n % 10) ∷ acc) more)
 
 pub plain-decimal : (n : ℕ) → is_plain (decimal n) ≡ true
 unfolding digits
 plain-decimal n = plain-onto 64 n [] refl
-
--- a choice
-pub plain-choice : (b : Bool) (xs ys : List ℕ) → is_plain xs ≡ true → is_plain ys ≡ true → is_plain (if b then xs else ys) ≡ true
-plain-choice = plain-if
 
 -- numbers between words
 pub plain-numbered : (word : List ℕ) (n : ℕ) → is_plain word ≡ true → is_plain (numbered word n) ≡ true

@@ -12,7 +12,8 @@ use Rattle.sa_base.specs.declared.record.Record.TheVariants as the
 use Rattle.sa_svg.specs.Laws.{is_plain}
 use Rattle.sa_cells.specs.Pieces.{one, two, a_space, a_thread}
 use Rattle.sa_cells.specs.Words.{list_words, stop_words, block_words, unblock_words, cont_words, back_words, move_words, aim_words, words_of}
-use Rattle.sa_cells.proofs.PlainPieces.{plain-append, plain-one, plain-two, plain-three, plain-a-space, plain-a-thread}
+use Rattle.sa_svg.proofs.Plain.{plain-append}
+use Rattle.sa_cells.proofs.PlainPieces.{plain-one, plain-two, plain-three, plain-a-space, plain-a-thread}
 
 -- words, something that may be absent, and words
 around : (before middle behind : List ℕ) → is_plain before ≡ true → is_plain middle ≡ true → is_plain behind ≡ true → is_plain (before ++ middle ++ behind) ≡ true

@@ -29,7 +29,7 @@ use Rattle.sa_check.specs.declared.records.ReadThrough.{ReadThrough}
 use Rattle.sa_check.specs.Records.{IsReadThrough}
 use Rattle.sa_check.proofs.QuietLemmas.{life-kept}
 
-abbrev space_of : Option Life → Option SpaceNo
+abbrev pub space_of : Option Life → Option SpaceNo
 space_of life = option_map (λ (x : Life). x.space) life
 
 -- a record of no entry leaves the spaces of lives
@@ -73,37 +73,37 @@ module _ (w : WorkloadView) (e : ℕ) (p : ProcNo) where
   or-first true b h = absurd cc
   or-first false b h = (refl, h)
 
-  all-spaces : (r : Readings) (xs : List Record) → list_any is_of_entry xs ≡ false → (a : ActNo)
+  pub all-spaces : (r : Readings) (xs : List Record) → list_any is_of_entry xs ≡ false → (a : ActNo)
       → space_of (life_of (after_records w e p r xs) a) ≡ space_of (life_of r a)
   all-spaces r [] h a = refl
   all-spaces r (x ∷ xs) h a =
       let each = or-first (is_of_entry x) (list_any is_of_entry xs) h in
       all-spaces (after_record w e p r x) xs each.1 a ∙ one-space r x each.0 a
 
-or-both : (a b : Bool) → (a || b) ≡ false → (a ≡ false) × (b ≡ false)
+pub or-both : (a b : Bool) → (a || b) ≡ false → (a ≡ false) × (b ≡ false)
 or-both true b h = absurd cc
 or-both false b h = (refl, h)
 
-none-of : (xs : List Record) → has_entry xs ≡ false → list_any is_of_entry xs ≡ false
+pub none-of : (xs : List Record) → has_entry xs ≡ false → list_any is_of_entry xs ≡ false
 none-of [] h = refl
 none-of (x ∷ xs) h = (or-both (begins_entry x) (list_any is_of_entry (x ∷ xs)) h).1
 
-none-behind : (n : ℕ) (xs : List Record) → list_any is_of_entry xs ≡ false → list_any is_of_entry (drop n xs) ≡ false
+pub none-behind : (n : ℕ) (xs : List Record) → list_any is_of_entry xs ≡ false → list_any is_of_entry (drop n xs) ≡ false
 none-behind zero xs h = h
 none-behind (suc n) [] h = refl
 none-behind (suc n) (x ∷ xs) h = none-behind n xs (or-both (is_of_entry x) (list_any is_of_entry xs) h).1
 
-take-drop : (n : ℕ) (xs : List Record) → take n xs ++ drop (length (take n xs)) xs ≡ xs
+pub take-drop : (n : ℕ) (xs : List Record) → take n xs ++ drop (length (take n xs)) xs ≡ xs
 take-drop zero xs = refl
 take-drop (suc n) [] = refl
 take-drop (suc n) (x ∷ xs) = ap (λ ys. x ∷ ys) (take-drop n xs)
 
-parts-are : (xs : List Record) → own_part xs ++ closing_part xs ≡ xs
+pub parts-are : (xs : List Record) → own_part xs ++ closing_part xs ≡ xs
 parts-are [] = refl
 parts-are (x ∷ xs) = ap (λ ys. x ∷ ys) (take-drop (prefix_len is_own xs) xs)
 
 -- a pair of the space of a life that is in use
-urged-as : (w : WorkloadView) (r : Readings) (o : Option Life) (s : SpaceNo) → space_of o ≡ Some s → urged_by Priorities w r o ≡ has_pair w r s
+pub urged-as : (w : WorkloadView) (r : Readings) (o : Option Life) (s : SpaceNo) → space_of o ≡ Some s → urged_by Priorities w r o ≡ has_pair w r s
 urged-as w r None s is = absurd cc
 urged-as w r (Some life) s is = ap (has_pair w r) (same_Some life.space s is)
 
@@ -114,7 +114,7 @@ same-truth true false is = sym (is.0 refl)
 same-truth false true is = is.1 refl
 
 -- the life by its number, if one is given
-space-if : (r q : Readings) → ((a : ActNo) → space_of (life_of q a) ≡ space_of (life_of r a)) → (a : Option ActNo) → space_of (life_if q a) ≡ space_of (life_if r a)
+pub space-if : (r q : Readings) → ((a : ActNo) → space_of (life_of q a) ≡ space_of (life_of r a)) → (a : Option ActNo) → space_of (life_if q a) ≡ space_of (life_if r a)
 space-if r q same None = refl
 space-if r q same (Some a) = same a
 

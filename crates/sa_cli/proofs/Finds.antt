@@ -18,7 +18,8 @@ use Rattle.sa_cli.specs.declared.found.Found.TheVariants.{Judged, BadWorkload, B
 use Rattle.sa_cli.specs.declared.limits.TheConstants.{TEXTS_LIMIT}
 use Rattle.sa_io.specs.Input.{ReadsInput}
 use Rattle.sa_cli.specs.Refusals.{too_long}
-use Rattle.sa_cli.specs.Texts.{workload_part, trace_part, HasWorkload, last_told, IsJudged, HasBadWorkload, HasBadTrace, IsFound}
+use Rattle.sa_workload.specs.Texts.{workload_part, second_part}
+use Rattle.sa_cli.specs.Texts.{HasWorkload, last_told, IsJudged, HasBadWorkload, HasBadTrace, IsFound}
 use Rattle.sa_cli.proofs.Inputs.{all-parted, refused-once, text-not_refused}
 use Rattle.sa_cli.proofs.Refusals.{long-front}
 
@@ -28,10 +29,10 @@ one-workload input w v x y = texts_differ (workload_part input) w v x.is y.is
 not-both : (input : List ℕ) (w : WorkloadView) (bad : Bad) → HasWorkload input w → HasBadWorkload input bad → ⊥
 not-both input w bad has wrong = text-not_refused IsText BadAt all-parted (workload_part input) w bad has.is has.short wrong.refused
 
-same-told : (input : List ℕ) (t u : Told) → read_of (trace_part input) ≡ Ok t → read_of (trace_part input) ≡ Ok u → t ≡ u
+same-told : (input : List ℕ) (t u : Told) → read_of (second_part input) ≡ Ok t → read_of (second_part input) ≡ Ok u → t ≡ u
 same-told input t u x y = let e = sym x ∙ y in cc
 
-same-refusal : (input : List ℕ) (a b : Bad) → read_of (trace_part input) ≡ Err a → read_of (trace_part input) ≡ Err b → a ≡ b
+same-refusal : (input : List ℕ) (a b : Bad) → read_of (second_part input) ≡ Err a → read_of (second_part input) ≡ Err b → a ≡ b
 same-refusal input a b x y = let e : Err a ≡ Err b = sym x ∙ y in cc
 
 one-judged : (rules : Rules) (input : List ℕ) (a b : Verdict) → IsJudged rules input a → IsJudged rules input b → a ≡ b

@@ -1,7 +1,6 @@
 mod TracePieces
 mod Refusals
 mod Inputs
-mod Parts
 mod Finds
 mod Scripts
 mod Sessions

@@ -19,7 +19,7 @@ use Rattle.sa_cli.specs.Debugging.{BeginsWith, IsScriptOf, RefusesWorkload, Refu
 use Rattle.sa_cli.specs.Debugging.Scripted.{Accepted, BadWorkload, BadScript}
 use Rattle.sa_io.specs.Input.{ReadsInput}
 use Rattle.sa_cli.specs.Refusals.{too_long}
-use Rattle.sa_cli.specs.Texts.{workload_part, trace_part}
+use Rattle.sa_workload.specs.Texts.{workload_part, second_part}
 use Rattle.sa_cli.proofs.Inputs.{all-parted, refused-once, text-not_refused}
 use Rattle.sa_cli.proofs.Refusals.{long-front}
 
@@ -32,17 +32,17 @@ not-both input w bad has wrong = text-not_refused IsText BadAt all-parted (workl
 one-script : (input : List ℕ) (w v : WorkloadView) (cs ds : List DebugCommand) → IsScriptOf input w cs → IsScriptOf input v ds → Accepted w cs ≡ Accepted v ds
 one-script input w v cs ds x y =
     let same = one-workload input w v x.has y.has in
-    let e : Ok cs ≡ Ok ds = sym x.read ∙ ap (λ u. script_of u (trace_part input)) same ∙ y.read in
+    let e : Ok cs ≡ Ok ds = sym x.read ∙ ap (λ u. script_of u (second_part input)) same ∙ y.read in
     let commands : cs ≡ ds = cc in
     ap (λ u. Accepted u cs) same ∙ ap (λ xs. Accepted v xs) commands
 
 not-script : (input : List ℕ) (w : WorkloadView) (cs : List DebugCommand) (bad : Bad) → IsScriptOf input w cs → RefusesScript input bad → ⊥
 not-script input w cs bad x y =
-    let e : Ok cs ≡ Err bad = sym x.read ∙ ap (λ u. script_of u (trace_part input)) (one-workload input w y.workload x.has y.has) ∙ y.read in cc
+    let e : Ok cs ≡ Err bad = sym x.read ∙ ap (λ u. script_of u (second_part input)) (one-workload input w y.workload x.has y.has) ∙ y.read in cc
 
 one-refusal : (input : List ℕ) (a b : Bad) → RefusesScript input a → RefusesScript input b → a ≡ b
 one-refusal input a b x y =
-    let e : Err a ≡ Err b = sym x.read ∙ ap (λ u. script_of u (trace_part input)) (one-workload input x.workload y.workload x.has y.has) ∙ y.read in cc
+    let e : Err a ≡ Err b = sym x.read ∙ ap (λ u. script_of u (second_part input)) (one-workload input x.workload y.workload x.has y.has) ∙ y.read in cc
 
 one-scripted : (input : List ℕ) (a b : Scripted) → IsScripted input a → IsScripted input b → a ≡ b
 one-scripted input (Accepted w cs) (Accepted v ds) x y = one-script input w v cs ds x y

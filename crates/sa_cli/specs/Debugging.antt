@@ -20,7 +20,7 @@ use Rattle.sa_cli.specs.declared.outcome.Status.TheVariants as status
 use Rattle.sa_io.specs.Input.{ReadsInput}
 use Rattle.sa_cli.specs.Outcome.{history}
 use Rattle.sa_cli.specs.Refusals.{IsInputRefused, too_long}
-use Rattle.sa_cli.specs.Texts.{workload_part, trace_part}
+use Rattle.sa_workload.specs.Texts.{workload_part, second_part}
 use Rattle.sa_cli.specs.Answers.{World, TookAll, TookSome}
 
 -- the first part is the text of this workload, and the whole is not too long
@@ -32,7 +32,7 @@ pub record BeginsWith (input : List ℕ) (w : WorkloadView) : Type 0 where
 -- the first part is the text of this workload, and the second one is a script of these commands for it
 pub record IsScriptOf (input : List ℕ) (w : WorkloadView) (commands : List DebugCommand) : Type 0 where
   pub has : BeginsWith input w
-  pub read : script_of w (trace_part input) ≡ Ok commands
+  pub read : script_of w (second_part input) ≡ Ok commands
 
 -- the first part is refused
 pub record RefusesWorkload (input : List ℕ) (bad : Bad) : Type 0 where
@@ -43,7 +43,7 @@ pub record RefusesWorkload (input : List ℕ) (bad : Bad) : Type 0 where
 pub record RefusesScript (input : List ℕ) (bad : Bad) : Type 0 where
   pub workload : WorkloadView
   pub has : BeginsWith input workload
-  pub read : script_of workload (trace_part input) ≡ Err bad
+  pub read : script_of workload (second_part input) ≡ Err bad
 
 -- what an input is found to be
 pub data Scripted : Type 0 where

@@ -1,11 +1,11 @@
 -- An input of two texts: a workload text up to its first line that is `close`, and directly after it a trace text.
-use Rattle.std.specs.Prelude.{◌≡◌, ◌⊎◌, ℕ, ◌<◌, ◌≤◌, ◌==◌, List, [], ◌∷◌, ◌++◌, length, drop, codes, if◌then◌else◌, Option, Ok, Err, IfSome}
-use Rattle.std.specs.Str.{bytes_eq}
+use Rattle.std.specs.Prelude.{◌≡◌, ◌⊎◌, ℕ, ◌<◌, ◌≤◌, List, length, Option, Ok, Err, IfSome}
 use Rattle.sa_base.specs.declared.refusal.Bad.{Bad}
 use Rattle.sa_spaces.specs.Workload.{WorkloadView}
 use Rattle.sa_laws.specs.Ends.{LastLine}
 use Rattle.sa_workload.specs.Text.{IsText}
 use Rattle.sa_workload.specs.Bad.{BadAt}
+use Rattle.sa_workload.specs.Texts.{workload_part, second_part}
 use Rattle.sa_trace.specs.Reading.{Told, read_of}
 use Rattle.sa_check.specs.declared.verdict.Verdict.{Verdict}
 use Rattle.sa_check.specs.Verdict.{IsVerdict}
@@ -16,19 +16,6 @@ use Rattle.sa_cli.specs.declared.found.Found.TheVariants.{Judged, BadWorkload, B
 use Rattle.sa_cli.specs.declared.limits.TheConstants.{INPUT_LIMIT, TEXTS_LIMIT}
 use Rattle.sa_io.specs.Input.{ReadsInput}
 use Rattle.sa_cli.specs.Refusals.{IsInputRefused, too_long}
-
--- the bytes through the first line that is `close`, where these bytes of the line came before; all bytes where there is no such line
-abbrev pub through_close : List ℕ → List ℕ → List ℕ
-through_close line [] = []
-through_close line (b ∷ bs) =
-    b ∷ (if b == 10 then (if bytes_eq line (codes "close") then [] else through_close [] bs) else through_close (line ++ b ∷ []) bs)
-
--- the two parts
-abbrev pub workload_part : List ℕ → List ℕ
-workload_part input = through_close [] input
-
-abbrev pub trace_part : List ℕ → List ℕ
-trace_part input = drop (length (workload_part input)) input
 
 -- the first part is the text of this workload, and the whole is not too long
 pub record HasWorkload (input : List ℕ) (w : WorkloadView) : Type 0 where
@@ -45,7 +32,7 @@ pub record IsJudged (rules : Rules) (input : List ℕ) (verdict : Verdict) : Typ
   pub workload : WorkloadView
   pub has : HasWorkload input workload
   pub told : Told
-  pub read : read_of (trace_part input) ≡ Ok told
+  pub read : read_of (second_part input) ≡ Ok told
   pub holds : IsVerdict (rules_of rules) workload told.items (last_told told) verdict
 
 -- the first part is refused
@@ -57,7 +44,7 @@ pub record HasBadWorkload (input : List ℕ) (bad : Bad) : Type 0 where
 pub record HasBadTrace (input : List ℕ) (bad : Bad) : Type 0 where
   pub workload : WorkloadView
   pub has : HasWorkload input workload
-  pub read : read_of (trace_part input) ≡ Err bad
+  pub read : read_of (second_part input) ≡ Err bad
 
 -- what an input is found to be; one that is too long is refused first
 abbrev pub IsFound : Rules → List ℕ → Found → Type 0

@@ -2,23 +2,21 @@
 use Rattle.std.proofs.Common.{◌≡◌, ℕ, ◌+◌, ◌≤◌, List, ◌++◌, length, map, take, take_all, Some, Result, OnOk, slice_get, sym, ap, subst, ◌∙◌, append_assoc}
 use Rattle.std.proofs.lemmas.List.{length-map}
 use Rattle.std.specs.List.{flat_map, range_with_len}
+use Rattle.sa_lemmas.proofs.Texts.{appended_twice}
 use Rattle.sa_codes.specs.Codes.{number, list}
 use Rattle.sa_codes.proofs.Loops.{range_more, list_more, flat_map_map}
-
-pub joined : (old a b now after : List ℕ) → now ≡ old ++ a → after ≡ now ++ b → after ≡ old ++ (a ++ b)
-joined old a b now after first then = then ∙ ap (λ (z : List ℕ). z ++ b) first ∙ append_assoc old a b
 
 -- of the numbers below n, and of n
 pub range-step : (f : ℕ → List ℕ) (old now after : List ℕ) (n : ℕ) → now ≡ old ++ flat_map f (range_with_len 0 n) → after ≡ now ++ f n
     → after ≡ old ++ flat_map f (range_with_len 0 (n + 1))
 range-step f old now after n so_far then =
-    joined old (flat_map f (range_with_len 0 n)) (f n) now after so_far then ∙ ap (λ (z : List ℕ). old ++ z) (sym (range_more f n))
+    appended_twice old (flat_map f (range_with_len 0 n)) (f n) now after so_far then ∙ ap (λ (z : List ℕ). old ++ z) (sym (range_more f n))
 
 -- of the first i of a list, and of the next one
 pub list-step : {A : Type 0} (f : A → List ℕ) (xs : List A) (old now after : List ℕ) (i : ℕ) (x : A) → slice_get xs i ≡ Some x
     → now ≡ old ++ flat_map f (take i xs) → after ≡ now ++ f x → after ≡ old ++ flat_map f (take (i + 1) xs)
 list-step f xs old now after i x at so_far then =
-    joined old (flat_map f (take i xs)) (f x) now after so_far then ∙ ap (λ (z : List ℕ). old ++ z) (sym (list_more f xs i x at))
+    appended_twice old (flat_map f (take i xs)) (f x) now after so_far then ∙ ap (λ (z : List ℕ). old ++ z) (sym (list_more f xs i x at))
 
 -- all of a list, behind how many there are
 pub list-added : {A : Type 0} (f : A → List ℕ) (xs : List A) (old now : List ℕ) (n : ℕ) → length xs ≤ n → now ≡ (old ++ number (length xs)) ++ flat_map f (take n xs)

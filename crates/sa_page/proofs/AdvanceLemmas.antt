@@ -18,7 +18,8 @@ use Rattle.sa_check.specs.Records.{behind_some}
 use Rattle.sa_check.proofs.JudgeLemmas.{ended-is}
 use Rattle.sa_cells.specs.declared.view.View.{View}
 use Rattle.sa_page.specs.Advance.{IsBehind, ReadsSome, IsAdvanced}
-use Rattle.sa_page.proofs.UrgedLemmas.{parts-are, over-is}
+use Rattle.sa_check.proofs.UrgedLemmas.{parts-are}
+use Rattle.sa_page.proofs.UrgedLemmas.{over-is}
 
 -- steps of records one after another are those of the first ones, and of those after them
 steps-front : (w : WorkloadView) (e : ℕ) (p : ProcNo) (r : Readings) (xs ys : List Record) → AreSteps w e p r (xs ++ ys) → AreSteps w e p r xs

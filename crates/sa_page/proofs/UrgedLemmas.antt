@@ -1,24 +1,14 @@
 -- What is known of pairs at the end of an event, where they are asked for before its last record.
-use Rattle.std.proofs.Common.{◌≡◌, ℕ, zero, suc, refl, sym, ◌∙◌, ap, subst, Bool, true, false, List, [], ◌∷◌, ◌++◌, length, take, drop, Option, Some, None}
+use Rattle.std.proofs.Common.{◌≡◌, refl, sym, ◌∙◌, ap, subst, Bool, false, [], ◌∷◌, ◌++◌, length, Option, Some}
 use Rattle.std.specs.Prelude.{◌||◌, if◌then◌else◌}
-use Rattle.std.specs.List.{list_any, prefix_len}
-use Rattle.std.specs.Option.{option_map}
-use Rattle.std.proofs.lemmas.Option.{same_Some}
-use Rattle.sa_base.specs.declared.number.ProcNo.{ProcNo}
-use Rattle.sa_base.specs.declared.number.SpaceNo.{SpaceNo}
 use Rattle.sa_base.specs.declared.number.ActNo.{ActNo}
-use Rattle.sa_base.specs.declared.record.Note.TheVariants.{Add, Preempted, Blocked, Unblocked}
-use Rattle.sa_base.specs.declared.record.Record.{Record}
-use Rattle.sa_base.specs.declared.record.Record.TheVariants.{Ins, Out, Run, Stop, Block, Unblock, Cont, Back, Ready, Take, Free, Up, Told, Move, Want, Aim, Line, Fetch, Fetched, GiveBack, Idle, Spin, Tick}
-use Rattle.sa_spaces.specs.Workload.{WorkloadView}
 use Rattle.sa_laws.specs.Event.{Event}
-use Rattle.sa_laws.specs.Life.{Life, inherits, bereft}
+use Rattle.sa_laws.specs.Life.{Life}
 use Rattle.sa_laws.specs.Readings.{Readings, running_of, life_of, life_if}
-use Rattle.sa_laws.specs.Record.{after_record, with_life, handed}
 use Rattle.sa_laws.specs.History.{after_records, behind, behind_all, event_begun}
-use Rattle.sa_laws.specs.Shape.{is_own, own_part, closing_part}
+use Rattle.sa_laws.specs.Shape.{own_part, closing_part}
 use Rattle.sa_ranks.specs.Pairs.{has_pair}
-use Rattle.sa_ranks.specs.Inside.{is_of_entry, begins_entry, has_entry, settling}
+use Rattle.sa_ranks.specs.Inside.{has_entry, settling}
 use Rattle.sa_histories.proofs.Appended.{records-append}
 use Rattle.sa_check_moment.specs.declared.rules.Rules.{Rules}
 use Rattle.sa_check_moment.specs.declared.rules.Rules.TheVariants.{Priorities}
@@ -27,90 +17,7 @@ use Rattle.sa_check_moment.specs.Urged.{urged_by, is_closed, asks_last}
 use Rattle.sa_check_moment.specs.Ending.{IsOver}
 use Rattle.sa_check.specs.Places.{urged_at}
 use Rattle.sa_check.specs.Records.{behind_some}
-use Rattle.sa_check.proofs.QuietLemmas.{life-kept}
-
-abbrev space_of : Option Life → Option SpaceNo
-space_of life = option_map (λ (x : Life). x.space) life
-
--- a record of no entry leaves the spaces of lives
-handed-space : (upped : Option ActNo) (b : ActNo) (from : Option Life) (lives : ℕ → Option Life) (a : ActNo)
-    → space_of (handed upped b from lives a.0) ≡ space_of (lives a.0)
-handed-space upped b None lives a = refl
-handed-space upped b (Some from) lives a =
-    life-kept (inherits from) (λ (x : Life). x.space) (λ x. refl) upped (with_life bereft (Some b) lives) a
-    ∙ life-kept bereft (λ (x : Life). x.space) (λ x. refl) (Some b) lives a
-
-module _ (w : WorkloadView) (e : ℕ) (p : ProcNo) where
-  one-space : (r : Readings) (x : Record) → is_of_entry x ≡ false → (a : ActNo) → space_of (life_of (after_record w e p r x) a) ≡ space_of (life_of r a)
-  one-space r (Ins s t i) h a = life-kept _ (λ (x : Life). x.space) (λ x. refl) (running_of r p) r.lives a
-  one-space r (Out s t value) h a = refl
-  one-space r (Run s t) h a = life-kept _ (λ (x : Life). x.space) (λ x. refl) (running_of r p) r.lives a
-  one-space r (Stop s t b) h a = absurd cc
-  one-space r (Block s t b io) h a = absurd cc
-  one-space r (Unblock s t b) h a = absurd cc
-  one-space r (Cont s t) h a = life-kept _ (λ (x : Life). x.space) (λ x. refl) (running_of r p) r.lives a
-  one-space r (Back s t) h a = life-kept _ (λ (x : Life). x.space) (λ x. refl) (running_of r p) r.lives a
-  one-space r (Ready s t) h a = life-kept _ (λ (x : Life). x.space) (λ x. refl) (running_of r p) r.lives a
-  one-space r (Take s l t) h a = life-kept _ (λ (x : Life). x.space) (λ x. refl) (running_of r p) r.lives a
-  one-space r (Free s l t) h a = life-kept _ (λ (x : Life). x.space) (λ x. refl) (running_of r p) r.lives a
-  one-space r (Up s b) h a = absurd cc
-  one-space r (Told (Add q)) h a = refl
-  one-space r (Told (Preempted b)) h a = handed-space r.upped b (life_of r b) r.lives a
-  one-space r (Told (Blocked b)) h a = refl
-  one-space r (Told (Unblocked b)) h a = handed-space r.upped b (life_of r b) r.lives a
-  one-space r (Move from to) h a = absurd cc
-  one-space r (Want s n) h a = refl
-  one-space r (Aim q s) h a = refl
-  one-space r (Line q) h a = refl
-  one-space r (Fetch s) h a = refl
-  one-space r (Fetched s) h a = absurd cc
-  one-space r (GiveBack b) h a = absurd cc
-  one-space r Idle h a = refl
-  one-space r (Spin l) h a = refl
-  one-space r Tick h a = refl
-
-  or-first : (a b : Bool) → (a || b) ≡ false → (a ≡ false) × (b ≡ false)
-  or-first true b h = absurd cc
-  or-first false b h = (refl, h)
-
-  all-spaces : (r : Readings) (xs : List Record) → list_any is_of_entry xs ≡ false → (a : ActNo)
-      → space_of (life_of (after_records w e p r xs) a) ≡ space_of (life_of r a)
-  all-spaces r [] h a = refl
-  all-spaces r (x ∷ xs) h a =
-      let each = or-first (is_of_entry x) (list_any is_of_entry xs) h in
-      all-spaces (after_record w e p r x) xs each.1 a ∙ one-space r x each.0 a
-
-or-both : (a b : Bool) → (a || b) ≡ false → (a ≡ false) × (b ≡ false)
-or-both true b h = absurd cc
-or-both false b h = (refl, h)
-
-none-of : (xs : List Record) → has_entry xs ≡ false → list_any is_of_entry xs ≡ false
-none-of [] h = refl
-none-of (x ∷ xs) h = (or-both (begins_entry x) (list_any is_of_entry (x ∷ xs)) h).1
-
-none-behind : (n : ℕ) (xs : List Record) → list_any is_of_entry xs ≡ false → list_any is_of_entry (drop n xs) ≡ false
-none-behind zero xs h = h
-none-behind (suc n) [] h = refl
-none-behind (suc n) (x ∷ xs) h = none-behind n xs (or-both (is_of_entry x) (list_any is_of_entry xs) h).1
-
-pub take-drop : (n : ℕ) (xs : List Record) → take n xs ++ drop (length (take n xs)) xs ≡ xs
-take-drop zero xs = refl
-take-drop (suc n) [] = refl
-take-drop (suc n) (x ∷ xs) = ap (λ ys. x ∷ ys) (take-drop n xs)
-
-pub parts-are : (xs : List Record) → own_part xs ++ closing_part xs ≡ xs
-parts-are [] = refl
-parts-are (x ∷ xs) = ap (λ ys. x ∷ ys) (take-drop (prefix_len is_own xs) xs)
-
--- a pair of the space of a life that is in use
-urged-as : (w : WorkloadView) (r : Readings) (o : Option Life) (s : SpaceNo) → space_of o ≡ Some s → urged_by Priorities w r o ≡ has_pair w r s
-urged-as w r None s is = absurd cc
-urged-as w r (Some life) s is = ap (has_pair w r) (same_Some life.space s is)
-
--- the life by its number, if one is given
-space-if : (r q : Readings) → ((a : ActNo) → space_of (life_of q a) ≡ space_of (life_of r a)) → (a : Option ActNo) → space_of (life_if q a) ≡ space_of (life_if r a)
-space-if r q same None = refl
-space-if r q same (Some a) = same a
+use Rattle.sa_check.proofs.UrgedLemmas.{space_of, or-both, none-of, none-behind, parts-are, urged-as, space-if, all-spaces}
 
 pub over-is : (m start all : Seen) (e : Event) (running : Option ActNo) (urged : Bool) → start ≡ at_event e.number e.proc m
     → running ≡ running_of m.readings e.proc → all ≡ behind_some start e e.records

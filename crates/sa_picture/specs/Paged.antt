@@ -14,7 +14,8 @@ use Rattle.sa_picture.specs.declared.request.Request.{Request}
 use Rattle.sa_picture.specs.declared.status.Status.{Status}
 use Rattle.sa_picture.specs.declared.status.Status.TheVariants.{BadWorkload, BadTrace, TooMuch, OutOfMemory}
 use Rattle.sa_picture.specs.Refusal.{too_long}
-use Rattle.sa_picture.specs.Parts.{workload_part, second_part, IsRefusedWorkload}
+use Rattle.sa_workload.specs.Texts.{workload_part, second_part}
+use Rattle.sa_picture.specs.Parts.{IsRefusedWorkload}
 use Rattle.sa_picture.specs.Drawn.{IsDrawn, IsNotDrawn}
 
 -- the first text is that of this workload, and neither is too long

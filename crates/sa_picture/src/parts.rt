@@ -1,13 +1,13 @@
 // The two texts of an input: a workload text up to its first line that is `close`, and directly after it another text.
-ghost use Rattle.std.specs.Prelude.{◌≡◌, ◌≤◌, length, codes, IfOk, IfErr};
-ghost use Rattle.std.specs.Str.{bytes_eq};
+ghost use Rattle.std.specs.Prelude.{◌≡◌, ◌≤◌, length, IfOk, IfErr};
 ghost use Rattle.sa_workload.specs.Text.{IsText};
-ghost use Rattle.sa_picture.specs.Parts.{workload_part, second_part, IsNoWorkload};
+ghost use Rattle.sa_workload.specs.Texts.{workload_part, second_part};
+ghost use Rattle.sa_picture.specs.Parts.{IsNoWorkload};
 
 use crate::text::refusal_of_long;
 use sa_base::Unread;
 use sa_spaces::Workload;
-use sa_workload::read;
+use sa_workload::{read, two_texts};
 use std::alloc::Global;
 
 /// The longest workload text, in bytes.
@@ -20,7 +20,7 @@ pub(crate) fn parts_of(alloc: Global, input: &[u8]) -> Result<(Workload, &[u8]),
     ensures second { IfOk result (λ parts. parts.1.now ≡ second_part input.now) }
     ensures err { IfErr result (IsNoWorkload (workload_part input.now)) }
 {
-    let (first, second) = input.split_at(workload_len(input));
+    let (first, second) = two_texts(input);
     let workload = workload_of(alloc, first)?;
     Ok((workload, second))
 }
@@ -34,28 +34,4 @@ fn workload_of(alloc: Global, text: &[u8]) -> Result<Workload, Unread>
         return Err(Unread::Bad(refusal_of_long(WORKLOAD_LIMIT, text)));
     }
     read(alloc, text)
-}
-
-// How long the first text is.
-fn workload_len(input: &[u8]) -> usize
-    ensures len { result ≡ length (workload_part input.now) }
-    ensures within { result ≤ length input.now }
-{
-    let mut start = 0;
-    for (i, byte) in input.iter().enumerate() {
-        if *byte == b'\n' {
-            if is_close(&input[start..i]) {
-                return i + 1;
-            }
-            start = i + 1;
-        }
-    }
-    input.len()
-}
-
-// The line is `close`.
-fn is_close(line: &[u8]) -> bool
-    ensures { result ≡ bytes_eq line.now (codes "close") }
-{
-    line == b"close".as_slice()
 }

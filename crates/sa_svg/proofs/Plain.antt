@@ -19,13 +19,13 @@ use Rattle.sa_trace.specs.TraceText.{field, line_of}
 use Rattle.sa_trace.proofs.Readings.{greatest-small}
 use Rattle.sa_svg.specs.Laws.{is_plain}
 
-plain-append : (xs ys : List ℕ) → is_plain xs ≡ true → is_plain ys ≡ true → is_plain (xs ++ ys) ≡ true
+pub plain-append : (xs ys : List ℕ) → is_plain xs ≡ true → is_plain ys ≡ true → is_plain (xs ++ ys) ≡ true
 plain-append xs ys p q = list_all-append (λ b. not (eqb b 60) && not (eqb b 62) && not (eqb b 38)) xs ys ∙ and_from (is_plain xs) (is_plain ys) p q
 
 other : (b n : ℕ) → (b ≡ n → ⊥) → not (eqb b n) ≡ true
 other b n differ = ap not (ne_eqb b n differ)
 
-plain-digit : (b : ℕ) → 48 ≤ b → b ≤ 57 → (not (eqb b 60) && not (eqb b 62) && not (eqb b 38)) ≡ true
+pub plain-digit : (b : ℕ) → 48 ≤ b → b ≤ 57 → (not (eqb b 60) && not (eqb b 62) && not (eqb b 38)) ≡ true
 plain-digit b low high =
     and_from (not (eqb b 60) && not (eqb b 62)) (not (eqb b 38))
     (and_from (not (eqb b 60)) (not (eqb b 62)) (other b 60 (λ e. omega arith)) (other b 62 (λ e. omega arith))) (other b 38 (λ e. omega arith))

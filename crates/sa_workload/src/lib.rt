@@ -12,6 +12,8 @@ mod reader;
 mod stage;
 mod step;
 mod table;
+mod texts;
 
 pub use printing::print;
 pub use reader::{read, read_one};
+pub use texts::two_texts;

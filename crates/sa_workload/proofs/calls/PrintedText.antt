@@ -9,7 +9,7 @@ use Rattle.sa_instr.specs.declared.instr.Instr.{Instr}
 use Rattle.sa_spaces.specs.Space.{SpaceView}
 use Rattle.sa_spaces.specs.Workload.{WorkloadView}
 use Rattle.sa_spaces.specs.declared.workload.Evict.{Evict}
-use Rattle.sa_lemmas.proofs.Texts.{join-spaced}
+use Rattle.sa_lemmas.proofs.Texts.{join-spaced, appended_twice}
 use Rattle.sa_workload.specs.Text.{instr_line, program_lines, space_line, space_lines, sem_line, absent_line, evict_line, turn_line, version_of, slice_lines, machine_lines, closing_lines, workload_lines, line_text, text_of}
 
 -- the texts of lines that are made of lists, one after another
@@ -43,10 +43,6 @@ pub pushed_each : {X : Type 0} (f : X → List ℕ) (xs : List X) (i : ℕ) (bef
     → now ≡ before ++ flat_map f (take i xs) → now ≡ before ++ flat_map f xs
 pushed_each f xs i before now passed so_far = so_far ∙ ap (λ ys. before ++ flat_map f ys) (take_all i xs passed)
 
--- two pieces that are printed one after another
-pub pushed_two : (out x y a b : List ℕ) → a ≡ out ++ x → b ≡ a ++ y → b ≡ out ++ (x ++ y)
-pushed_two out x y a b p q = q ∙ (ap (λ xs. xs ++ y) p ∙ append_assoc out x y)
-
 -- the line of an eviction whose numbers are these
 pub evict_text : (e : Evict) (space page : ℕ) → space ≡ e.space.0 → page ≡ e.page
     → line_text (codes "evict" ∷ decimal e.event ∷ decimal space ∷ decimal page ∷ []) ≡ line_text (evict_line e)
@@ -62,7 +58,7 @@ pub pushed_program : (program : List Instr) (out a b : List ℕ) (len pc : ℕ) 
 pushed_program program out a b len pc n p q h =
     let instrs : flat_map (λ i. line_text (instr_line i)) (take pc program) ≡ flat_map line_text (map instr_line program) =
     ap (flat_map (λ i. line_text (instr_line i))) (take_all pc program h) ∙ sym (flat_map-map line_text instr_line program) in
-    pushed_two out (line_text (codes "program" ∷ decimal (length program) ∷ [])) (flat_map line_text (map instr_line program)) a b
+    appended_twice out (line_text (codes "program" ∷ decimal (length program) ∷ [])) (flat_map line_text (map instr_line program)) a b
     (p ∙ ap (λ k. out ++ line_text (codes "program" ∷ decimal k ∷ [])) n) (q ∙ ap (λ xs. a ++ xs) instrs)
 
 -- the lines of a space
@@ -85,7 +81,7 @@ pub pushed_space : (version : ℕ) (s : SpaceView) (out a b d e : List ℕ)
     → d ≡ b ++ flat_map (λ page. line_text (absent_line page)) s.absent
     → e ≡ d ++ flat_map (λ p. flat_map line_text (program_lines p)) s.programs → e ≡ out ++ flat_map line_text (space_lines version s)
 pushed_space version s out a b d e p q r t =
-    pushed_two out _ _ a e p (pushed_two a _ _ b e q (pushed_two b _ _ d e r t)) ∙ ap (λ xs. out ++ xs) (sym (space_text version s))
+    appended_twice out _ _ a e p (appended_twice a _ _ b e q (appended_twice b _ _ d e r t)) ∙ ap (λ xs. out ++ xs) (sym (space_text version s))
 
 -- the lines after those of the spaces
 pub pushed_closing : (w : WorkloadView) (out a b d : List ℕ)
@@ -99,7 +95,7 @@ pushed_closing w out a b d p q r =
     ∙ ap (λ xs. flat_map (λ e. line_text (evict_line e)) w.evictions ++ xs)
     (flat_map-append line_text (map turn_line w.turns) ((codes "close" ∷ []) ∷ [])
     ∙ ap (λ xs. xs ++ line_text (codes "close" ∷ [])) (flat_map-map line_text turn_line w.turns))) in
-    pushed_two out _ _ a d p (pushed_two a _ _ b d q r) ∙ ap (λ xs. out ++ xs) (sym text)
+    appended_twice out _ _ a d p (appended_twice a _ _ b d q r) ∙ ap (λ xs. out ++ xs) (sym text)
 
 -- the lines before those of the spaces
 pub pushed_machine : (w : WorkloadView) (version processors fetch slice count : ℕ) (out a b d e f : List ℕ)
@@ -113,10 +109,10 @@ pushed_machine w version processors fetch slice count out a b d e f v n m l k p 
     (slice_lines (version_of w) w.slice) ++ line_text spaces =
     flat_map-append line_text (slice_lines (version_of w) w.slice) (spaces ∷ [])
     ∙ ap (λ xs. flat_map line_text (slice_lines (version_of w) w.slice) ++ xs) (append-nil (line_text spaces)) in
-    pushed_two out _ _ a f (p ∙ ap (λ x. out ++ line_text (codes "workload" ∷ decimal x ∷ [])) v)
-    (pushed_two a _ _ b f (q ∙ ap (λ x. a ++ line_text (codes "processors" ∷ decimal x ∷ [])) n)
-    (pushed_two b _ _ d f (r ∙ ap (λ x. b ++ line_text (codes "fetch" ∷ decimal x ∷ [])) m)
-    (pushed_two d _ _ e f
+    appended_twice out _ _ a f (p ∙ ap (λ x. out ++ line_text (codes "workload" ∷ decimal x ∷ [])) v)
+    (appended_twice a _ _ b f (q ∙ ap (λ x. a ++ line_text (codes "processors" ∷ decimal x ∷ [])) n)
+    (appended_twice b _ _ d f (r ∙ ap (λ x. b ++ line_text (codes "fetch" ∷ decimal x ∷ [])) m)
+    (appended_twice d _ _ e f
     (s ∙ (ap (λ x. d ++ flat_map line_text (slice_lines x slice)) v ∙ ap (λ x. d ++ flat_map line_text (slice_lines (version_of w) x)) l))
     (t ∙ ap (λ x. e ++ line_text (codes "spaces" ∷ decimal x ∷ [])) k)
     ∙ ap (λ xs. d ++ xs) (sym tail))))
@@ -135,4 +131,4 @@ pushed_all w a b d p q r =
     ∙ ap (λ xs. flat_map line_text (machine_lines w) ++ xs)
     (flat_map-append line_text spaces (closing_lines w)
     ∙ ap (λ xs. xs ++ flat_map line_text (closing_lines w)) (flat_map-flat_map line_text (space_lines (version_of w)) w.spaces)) in
-    pushed_two [] _ _ a d p (pushed_two a _ _ b d q r) ∙ sym text
+    appended_twice [] _ _ a d p (appended_twice a _ _ b d q r) ∙ sym text

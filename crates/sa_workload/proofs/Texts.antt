@@ -1,12 +1,12 @@
--- The two parts of an input.
-use Rattle.std.proofs.Common.{◌≡◌, ◌≢◌, ℕ, ◌+◌, ◌<◌, ◌≤◌, List, [], ◌∷◌, ◌++◌, length, take, drop, get_or, Bool, true, false, refl, ap, ◌∙◌, arith, ◌-◌, length-drop, sym, subst}
+-- The two texts of an input.
+use Rattle.std.proofs.Common.{◌≡◌, ◌≢◌, ℕ, ◌+◌, ◌<◌, ◌≤◌, List, [], ◌∷◌, ◌++◌, length, take, drop, get_or, Bool, true, false, refl, ap, ◌∙◌, arith, ◌-◌, length-drop}
 use Rattle.std.proofs.lemmas.Bool.Decides.{nat_tests}
 use Rattle.std.proofs.Math.Nat.{sub_self}
 use Rattle.std.proofs.lemmas.List.{drop_more, take_more, get_or-drop}
 use Rattle.std.specs.List.{slice_range}
-use Rattle.std.specs.Prelude.{◌==◌, codes, if◌then◌else◌, Result, Ok, Err, IfErr, IsErrAnd}
+use Rattle.std.specs.Prelude.{◌==◌, codes, if◌then◌else◌}
 use Rattle.std.specs.Str.{bytes_eq}
-use Rattle.sa_cli.specs.Texts.{through_close, workload_part, trace_part}
+use Rattle.sa_workload.specs.Texts.{through_close, workload_part, second_part}
 
 -- the bytes through the first `close` are at the front
 by-tests : (bs first more : List ℕ) (ends closes : Bool) → take (length first) bs ≡ first → take (length more) bs ≡ more
@@ -21,13 +21,13 @@ through-front line (b ∷ bs) = ap (λ xs. b ∷ xs)
     (by-tests bs (through_close [] bs) (through_close (line ++ b ∷ []) bs) (b == 10) (bytes_eq line (codes "close")) (through-front [] bs)
     (through-front (line ++ b ∷ []) bs))
 
-pub workload-front : (input : List ℕ) → take (length (workload_part input)) input ≡ workload_part input
+workload-front : (input : List ℕ) → take (length (workload_part input)) input ≡ workload_part input
 workload-front input = through-front [] input
 
 pub first-part : (input first : List ℕ) (n : ℕ) → first ≡ take n input → n ≡ length (workload_part input) → first ≡ workload_part input
 first-part input first n is len = is ∙ ap (λ k. take k input) len ∙ workload-front input
 
-pub second-part : (input second : List ℕ) (n : ℕ) → second ≡ drop n input → n ≡ length (workload_part input) → second ≡ trace_part input
+pub second-part : (input second : List ℕ) (n : ℕ) → second ≡ drop n input → n ≡ length (workload_part input) → second ≡ second_part input
 second-part input second n is len = is ∙ ap (λ k. drop k input) len
 
 -- one byte more: it ends a line that is not `close`, or belongs to the line
@@ -74,8 +74,3 @@ byte-more input start i n forward within other rest =
     let len = ap length goes in
     let line = line-byte input start i forward within in
     rw line (omega arith)
-
--- what holds of an error holds of the result that has it
-pub err-along : {A E : Type 0} (P : E → Type 0) (why : E) (result : Result A E) → P why → IsErrAnd result (λ e. e ≡ why) → IfErr result P
-err-along P why (Ok x) holds is = absurd is
-err-along P why (Err e) holds is = subst P (sym is) holds

@@ -1,7 +1,7 @@
 use Rattle.std.proofs.Common.{◌≡◌, ◌≤◌, ◌+◌, length, drop}
 use Rattle.std.specs.List.{slice_range}
-use Rattle.sa_picture.specs.Parts.{workload_part, through_close}
-use Rattle.sa_picture.proofs.parts.workload_len.Given as goal
+use Rattle.sa_workload.specs.Texts.{workload_part, through_close}
+use Rattle.sa_workload.proofs.texts.workload_len.Given as goal
 
 -- the bytes before, and those that are still to be taken
 abbrev pub invariant-loop-i : goal.invariant-loop-i

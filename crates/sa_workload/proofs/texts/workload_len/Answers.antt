@@ -1,9 +1,9 @@
 use Rattle.std.proofs.Common.{◌≡◌, ◌+◌, ℕ, length, drop, arith, sym, subst, ◌∙◌}
 use Rattle.std.specs.List.{slice_range}
-use Rattle.sa_cli.specs.Texts.{through_close, workload_part}
-use Rattle.sa_cli.proofs.Parts.{line-more, byte-more}
-use Rattle.sa_cli.proofs.texts.workload_len.Goals as goal
-use Rattle.sa_cli.proofs.texts.workload_len.Goals.{then-byte-eq10+else-is_close, else-byte-eq10}
+use Rattle.sa_workload.specs.Texts.{through_close, workload_part}
+use Rattle.sa_workload.proofs.Texts.{line-more, byte-more}
+use Rattle.sa_workload.proofs.texts.workload_len.Goals as goal
+use Rattle.sa_workload.proofs.texts.workload_len.Goals.{then-byte-eq10+else-is_close, else-byte-eq10}
 
 pub loop-i-preserved : goal.loop-i-preserved
 loop-i-preserved c =
