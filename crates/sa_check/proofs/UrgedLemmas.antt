@@ -1,9 +1,10 @@
 -- What is known of pairs at the end of an event, where they are asked for before its last record.
-use Rattle.std.proofs.Common.{◌≡◌, ◌↔◌, ℕ, zero, suc, refl, sym, ◌∙◌, ap, subst, Bool, true, false, List, [], ◌∷◌, ◌++◌, length, take, drop, Option, Some, None}
+use Rattle.std.proofs.Common.{◌≡◌, ◌↔◌, ℕ, zero, suc, refl, sym, ◌∙◌, ap, subst, Bool, true, false, List, [], ◌∷◌, ◌++◌, length, drop, Option, Some, None}
 use Rattle.std.specs.Prelude.{IsTrue, ◌||◌, if◌then◌else◌}
 use Rattle.std.specs.List.{list_any, prefix_len}
 use Rattle.std.specs.Option.{option_map}
 use Rattle.std.proofs.lemmas.Option.{same_Some}
+use Rattle.sa_lemmas.proofs.ListReads.{take_then_drop}
 use Rattle.sa_base.specs.declared.number.ProcNo.{ProcNo}
 use Rattle.sa_base.specs.declared.number.SpaceNo.{SpaceNo}
 use Rattle.sa_base.specs.declared.number.ActNo.{ActNo}
@@ -93,14 +94,9 @@ none-behind zero xs h = h
 none-behind (suc n) [] h = refl
 none-behind (suc n) (x ∷ xs) h = none-behind n xs (or-both (is_of_entry x) (list_any is_of_entry xs) h).1
 
-pub take-drop : (n : ℕ) (xs : List Record) → take n xs ++ drop (length (take n xs)) xs ≡ xs
-take-drop zero xs = refl
-take-drop (suc n) [] = refl
-take-drop (suc n) (x ∷ xs) = ap (λ ys. x ∷ ys) (take-drop n xs)
-
 pub parts-are : (xs : List Record) → own_part xs ++ closing_part xs ≡ xs
 parts-are [] = refl
-parts-are (x ∷ xs) = ap (λ ys. x ∷ ys) (take-drop (prefix_len is_own xs) xs)
+parts-are (x ∷ xs) = ap (λ ys. x ∷ ys) (take_then_drop (prefix_len is_own xs) xs)
 
 -- a pair of the space of a life that is in use
 pub urged-as : (w : WorkloadView) (r : Readings) (o : Option Life) (s : SpaceNo) → space_of o ≡ Some s → urged_by Priorities w r o ≡ has_pair w r s

@@ -1,11 +1,12 @@
 -- The best of the ready threads of a space.
-use Rattle.std.proofs.Common.{◌≡◌, ◌≢◌, ℕ, zero, suc, ◌-◌, ◌<◌, ◌≤◌, cond, inl, inr, refl, sym, ◌∙◌, ap, subst, arith, Some, None, List, [], ◌∷◌, length, true, false, map, filter}
+use Rattle.std.proofs.Common.{◌≡◌, ◌≢◌, ℕ, suc, ◌-◌, ◌<◌, ◌≤◌, cond, inl, inr, refl, sym, ◌∙◌, ap, subst, arith, Some, None, List, [], ◌∷◌, length, true, false, map, filter}
 use Rattle.std.specs.Prelude.{Option, Bool, ◌||◌, nat_lt, if◌then◌else◌, get_or, slice_get}
 use Rattle.std.specs.List.{list_any}
 use Rattle.std.specs.Option.{option_map}
 use Rattle.std.proofs.lemmas.Bool.{cases_lt, cases_Bool, eqb-true, eq-eqb, and_parts, and_from}
 use Rattle.std.proofs.lemmas.Bool.Decides.{nat_tests}
 use Rattle.std.proofs.lemmas.Option.{same_Some}
+use Rattle.sa_lemmas.proofs.Searches.{any_at}
 use Rattle.sa_base.specs.declared.number.ThreadNo.{ThreadNo}
 use Rattle.sa_laws.specs.State.{SpaceState, Thread, thread_in}
 use Rattle.sa_laws.specs.Readings.{Listed}
@@ -22,14 +23,6 @@ some-at f (x ∷ xs) any = elim (cases_Bool (f x)) [
   | inl here ↦ (0, here)
   | inr other ↦ let more = some-at f xs (sym (ap (λ b. b || list_any f xs) other) ∙ any) in (suc more.0, more.1)
 ]
-
-any-at : (f : Thread → Bool) (xs : List Thread) (j : ℕ) → f nobody ≡ false → f (get_or xs j nobody) ≡ true → list_any f xs ≡ true
-any-at f [] j none is = absurd (let clash = sym none ∙ is in cc)
-any-at f (x ∷ xs) zero none is = ap (λ b. b || list_any f xs) is
-any-at f (x ∷ xs) (suc j) none is = one (f x) (any-at f xs j none is) where
-  one : (b : Bool) → list_any f xs ≡ true → (b || list_any f xs) ≡ true
-  one true any = refl
-  one false any = any
 
 -- the threads of a rank, of one listed thread more
 of-here : (x : SpaceState) (k : ℕ) (l : Listed) (ls : List Listed) → has_rank x k l ≡ true → of_rank x k (l ∷ ls) ≡ l.thread ∷ of_rank x k ls
@@ -117,7 +110,7 @@ module _ (x : SpaceState) (ls : List Listed) (row : List (List ThreadNo)) (is : 
   above rank b best less =
       let found = of-listed x b ls (λ none. best.some (is.each b ∙ none)) in
       let ready : is_ready (thread_in x found.thread).place ≡ true = one-count _ (subst (λ n. 1 ≤ n) (is.once found.thread) found.listed) in
-      any-at (outranks rank) x.threads found.thread.0 refl
+      any_at nobody (outranks rank) x.threads found.thread.0 refl
       (and_from (is_ready (thread_in x found.thread).place) (nat_lt rank (thread_in x found.thread).program) ready
       (lt-true rank (rank_in x found.thread) (omega (arith, less, found.rank))))
 

@@ -1,5 +1,5 @@
 -- Reading a list: an item at a place, the first items and those after them, a list of one value alone, and a list of lists that was mapped.
-use Rattle.std.proofs.Common.{◌≡◌, ℕ, zero, suc, ◌<◌, ◌≤◌, Option, Some, None, List, [], ◌∷◌, length, drop, map, get_or, slice_get, inl, inr, refl, sym, ap, ◌∙◌, arith}
+use Rattle.std.proofs.Common.{◌≡◌, ℕ, zero, suc, ◌<◌, ◌≤◌, Option, Some, None, List, [], ◌∷◌, length, drop, map, get_or, slice_get, inl, inr, refl, sym, ap, ◌∙◌, arith, ◌++◌, take}
 use Rattle.std.specs.Prelude.{replicate, slice_index_or}
 use Rattle.std.proofs.lemmas.Bool.{cases_lt}
 use Rattle.std.proofs.lemmas.List.{get_or_past}
@@ -45,3 +45,9 @@ pub map-list : {A : Type 0} (f : List A → List A) (xs : List (List A)) (j : �
 map-list f [] j none = sym none
 map-list f (x ∷ xs) zero none = refl
 map-list f (x ∷ xs) (suc j) none = map-list f xs j none
+
+-- the first items, and those after them, are the list
+pub take_then_drop : {A : Type 0} (n : ℕ) (xs : List A) → take n xs ++ drop (length (take n xs)) xs ≡ xs
+take_then_drop zero xs = refl
+take_then_drop (suc n) [] = refl
+take_then_drop (suc n) (x ∷ xs) = ap (λ ys. x ∷ ys) (take_then_drop n xs)

@@ -34,7 +34,7 @@ use Rattle.sa_promises.proofs.words.Reads.{owners-changed, owners-length, aims-l
 use Rattle.sa_promises.specs.Closings.{LowLinesAreAimed}
 use Rattle.sa_promises.proofs.closing.Turns.{is_calm, AllCalm, Turned, turn-turned}
 use Rattle.sa_promises.proofs.closing.Low.{LowAimed, Fine, AllLeave, fine-step, each-behind}
-use Rattle.sa_promises.proofs.lives.Shapes.{parts-take}
+use Rattle.sa_lemmas.proofs.ListReads.{take_then_drop}
 
 -- the owners, aims and lines
 pub record IsKept (r after : Readings) : Type 0 where
@@ -186,7 +186,7 @@ in-parts rules meets w r e law from aimed = one e.records refl where
   one [] is = absurd (law.numbered.some is)
   one (x ∷ xs) is =
       let turns = meets.formed w r e law in
-      let whole : own_part (x ∷ xs) ++ closing_part (x ∷ xs) ≡ x ∷ xs = ap (λ ys. x ∷ ys) (parts-take (prefix_len is_own xs) xs) in
+      let whole : own_part (x ∷ xs) ++ closing_part (x ∷ xs) ≡ x ∷ xs = ap (λ ys. x ∷ ys) (take_then_drop (prefix_len is_own xs) xs) in
       record {
         own = own_part (x ∷ xs);
         closing = closing_part (x ∷ xs);

@@ -27,7 +27,8 @@ use Rattle.sa_laws.specs.Step.{Needs, AreSteps}
 use Rattle.sa_laws.specs.Rules.{UserRules, IsLawful}
 use Rattle.sa_promises.specs.Needs.{Lowers, Hints, FormedBy, IsFormed, AnnouncesDemand}
 use Rattle.sa_promises.proofs.lives.Standing.{Standing, Runs, Agrees, space_of, space_in, standing_after}
-use Rattle.sa_promises.proofs.lives.Shapes.{Moves, parts-take}
+use Rattle.sa_lemmas.proofs.ListReads.{take_then_drop}
+use Rattle.sa_promises.proofs.lives.Shapes.{Moves}
 use Rattle.sa_promises.proofs.lives.Moves.{lawful-moves}
 use Rattle.sa_histories.proofs.Sizes.{IsSized}
 use Rattle.sa_promises.proofs.read.Spaces.{while-more}
@@ -143,7 +144,7 @@ in-form rules meets w r e law from = one e.records refl where
         first = x;
         own = take_while is_own xs;
         closing = closing_part (x ∷ xs);
-        is = is ∙ ap (λ ys. x ∷ ys) (sym (parts-take (prefix_len is_own xs) xs));
+        is = is ∙ ap (λ ys. x ∷ ys) (sym (take_then_drop (prefix_len is_own xs) xs));
         form = turn-form FormedBy IsFormed w (event_begun w e r) e.proc e.number (is_some (line_of r e.proc)) x (take_while is_own xs)
             (step-form w (event_begun w e r) e.proc x (take_while is_own xs))
             (subst (λ ys. IsTurn IsFormed (is_some (line_of r e.proc)) e.number w (event_begun w e r) e.proc (own_part ys)) is (turns.turn from));

@@ -1,8 +1,9 @@
 -- In a lawful event each record that changes a life is one that may: a law of records, from the laws of events. Where its
 -- steps are so, the records of an event are in their places, and the first one is guarded.
-use Rattle.std.proofs.Common.{◌≡◌, ℕ, zero, suc, inl, inr, refl, sym, ap, subst, Some, None, List, [], ◌∷◌, ◌++◌, length, map, true, false}
-use Rattle.std.specs.Prelude.{Option, Bool, take, drop, take_while}
+use Rattle.std.proofs.Common.{◌≡◌, ℕ, inl, inr, refl, sym, ap, subst, Some, None, List, [], ◌∷◌, ◌++◌, length, map, true, false}
+use Rattle.std.specs.Prelude.{Option, Bool, drop, take_while}
 use Rattle.std.specs.List.{list_any, prefix_len}
+use Rattle.sa_lemmas.proofs.ListReads.{take_then_drop}
 use Rattle.sa_base.specs.declared.number.SpaceNo.{SpaceNo}
 use Rattle.sa_base.specs.declared.number.ProcNo.{ProcNo}
 use Rattle.sa_base.specs.declared.number.ActNo.{ActNo}
@@ -177,14 +178,8 @@ turn-shaped Step w r p e true xs shapes is = interrupt-shaped p r xs is
 turn-shaped Step w r p e false xs shapes is = due-shaped Step w r p (due_of e r.under_way) xs shapes is
 
 -- the own part and the closing are the event
-pub parts-take : (n : ℕ) (xs : List Record) → take n xs ++ drop (length (take n xs)) xs ≡ xs
-parts-take zero [] = refl
-parts-take (suc n) [] = refl
-parts-take zero (x ∷ xs) = refl
-parts-take (suc n) (x ∷ xs) = ap (λ ys. x ∷ ys) (parts-take n xs)
-
 parts-of : (f : Record → Bool) (xs : List Record) → take_while f xs ++ drop (length (take_while f xs)) xs ≡ xs
-parts-of f xs = parts-take (prefix_len f xs) xs
+parts-of f xs = take_then_drop (prefix_len f xs) xs
 
 all-append : (last : Option Record) (xs ys : List Record) → AllFit last xs → ((before : Option Record) → AllFit before ys) → AllFit last (xs ++ ys)
 all-append last [] ys left right = right last

@@ -12,7 +12,7 @@ use Rattle.sa_laws.specs.History.{event_begun, is_step}
 use Rattle.sa_laws.specs.Shape.{own_part, closing_part, is_own}
 use Rattle.sa_laws.specs.Turns.{IsClosing, IsTurn}
 use Rattle.sa_laws.specs.Rules.{IsLawful}
-use Rattle.sa_promises.proofs.lives.Shapes.{parts-take}
+use Rattle.sa_lemmas.proofs.ListReads.{take_then_drop}
 use Rattle.sa_promises.proofs.lives.Moves.{lawful-moves}
 use Rattle.sa_promises.proofs.packages.ThreadPriorities.{prio-tells}
 use Rattle.sa_promises.proofs.covers.Passed.{Goes}
@@ -60,7 +60,7 @@ in-form w r e law from = one e.records refl where
         first = x;
         own = take_while is_own xs;
         closing = closing_part (x ∷ xs);
-        is = is ∙ ap (λ ys. x ∷ ys) (sym (parts-take (prefix_len is_own xs) xs));
+        is = is ∙ ap (λ ys. x ∷ ys) (sym (take_then_drop (prefix_len is_own xs) xs));
         part = ap own_part is;
         form = turn-form RankedStepBy IsRankedStep w (event_begun w e r) e.proc e.number (is_some (line_of r e.proc)) x (take_while is_own xs)
             (step-form w (event_begun w e r) e.proc x (take_while is_own xs)

@@ -1,11 +1,11 @@
 -- On each processor at most one thread runs, and it is one of the space that owns it; so where no pair is found, none is there.
 use Rattle.std.proofs.Common.{◌≡◌, ℕ, zero, suc, ◌<◌, ◌≤◌, ◌⊎◌, inl, inr, refl, sym, ◌∙◌, ap, subst, arith, Some, None, List, [], ◌∷◌, true, false}
-use Rattle.std.specs.Prelude.{Option, Bool, ◌&&◌, ◌||◌, is_none, is_some, nat_lt, get_or, slice_set}
-use Rattle.std.specs.List.{list_any}
+use Rattle.std.specs.Prelude.{Option, ◌&&◌, ◌||◌, is_none, is_some, nat_lt, get_or, slice_set}
 use Rattle.std.proofs.lemmas.Bool.{cases_eq, cases_lt, eq-eqb}
 use Rattle.std.proofs.lemmas.Bool.Decides.{nat_tests}
 use Rattle.std.proofs.lemmas.List.{get_or-set_other}
 use Rattle.std.proofs.lemmas.Option.{same_Some}
+use Rattle.sa_lemmas.proofs.Searches.{any_at}
 use Rattle.sa_base.specs.declared.number.SpaceNo.{SpaceNo}
 use Rattle.sa_base.specs.declared.number.ProcNo.{ProcNo}
 use Rattle.sa_base.specs.declared.number.ThreadNo.{ThreadNo}
@@ -139,14 +139,6 @@ NoPair r s =
     (t u : ThreadNo) (p : ProcNo) → (thread_at r.state s t).place ≡ place.Ready → (thread_at r.state s u).place ≡ place.Running p → line_of r p ≡ None
     → rank_in (space_at r.state s) t ≤ rank_in (space_at r.state s) u
 
-any-at : (f : Thread → Bool) (xs : List Thread) (j : ℕ) → f nobody ≡ false → f (get_or xs j nobody) ≡ true → list_any f xs ≡ true
-any-at f [] j none is = absurd (let clash = sym none ∙ is in cc)
-any-at f (x ∷ xs) zero none is = ap (λ b. b || list_any f xs) is
-any-at f (x ∷ xs) (suc j) none is = one (f x) (any-at f xs j none is) where
-  one : (b : Bool) → list_any f xs ≡ true → (b || list_any f xs) ≡ true
-  one true any = refl
-  one false any = any
-
 pub no-pair : (w : WorkloadView) (r : Readings) (s : SpaceNo) → IsPlaced w r.state → has_pair w r s ≡ false → NoPair r s
 no-pair w r s is none t u p ready runs low = elim (cases_lt (rank_in (space_at r.state s) u) (rank_in (space_at r.state s) t)) [
   | inl less ↦ absurd (
@@ -161,7 +153,7 @@ no-pair w r s is none t u p ready runs low = elim (cases_lt (rank_in (space_at r
       (λ v same. subst (λ (k : ThreadNo). (thread_at r.state s k).place ≡ place.Running p) (same_Some u v same) runs) in
       let above : nat_lt rank (thread_in x t).program ≡ true = lt-true rank (thread_in x t).program less in
       let passes : outranks rank (thread_in x t) ≡ true = ap (λ (k : Place). is_ready k && nat_lt rank (thread_in x t).program) ready ∙ above in
-      let any : is_outranked x rank ≡ true = any-at (outranks rank) x.threads t.0 refl passes in
+      let any : is_outranked x rank ≡ true = any_at nobody (outranks rank) x.threads t.0 refl passes in
       let pair : outranked_on r s p ≡ Some rank =
       ap (outranked_by r s p) runner ∙ ap (λ b. rank_if (b && is_none (line_of r p) && is_outranked x rank) rank) (eq-eqb s.0 s.0 refl)
       ∙ ap (λ (l : Option ℕ). rank_if (is_none l && is_outranked x rank) rank) low ∙ ap (λ b. rank_if b rank) any in

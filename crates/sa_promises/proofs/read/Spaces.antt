@@ -39,7 +39,7 @@ use Rattle.sa_promises.specs.Moments.{Home, home_of, home_in}
 use Rattle.sa_promises.proofs.read.Raised.{home-more}
 use Rattle.sa_histories.proofs.Sizes.{IsSized, sized-step}
 use Rattle.sa_promises.proofs.read.Ends.{HomesIn}
-use Rattle.sa_promises.proofs.lives.Shapes.{parts-take}
+use Rattle.sa_lemmas.proofs.ListReads.{take_then_drop}
 
 -- each move to a space is to one below this number
 abbrev pub EachMove : ℕ → List Record → Type 0
@@ -265,7 +265,7 @@ event-moves rules meets w r e law below = one e.number refl where
   later from [] is = tt
   later from (x ∷ xs) is =
       let turns = meets.formed w r e law in
-      let whole : own_part (x ∷ xs) ++ closing_part (x ∷ xs) ≡ x ∷ xs = ap (λ ys. x ∷ ys) (parts-take (prefix_len is_own xs) xs) in
+      let whole : own_part (x ∷ xs) ++ closing_part (x ∷ xs) ≡ x ∷ xs = ap (λ ys. x ∷ ys) (take_then_drop (prefix_len is_own xs) xs) in
       let gives = subst (EachRecord (GivesUpcallThen e.proc) w e.number e.proc (event_begun w e r)) is law.upcall_given.blocks in
       let turn = subst (λ ys. IsTurn IsFormed (is_some (line_of r e.proc)) e.number w (event_begun w e r) e.proc (own_part ys)) is (turns.turn from) in
       let closing = subst (λ ys. IsClosing (closing_part ys)) is (turns.closing from) in
