@@ -1,6 +1,7 @@
 // Which processor is chosen for a space that misses one: over slices, for the kernel and for who checks it.
-ghost use Rattle.std.specs.Prelude.{◌≡◌, ◌≤◌, ◌<◌, false, length, slice_index_or, IfSome};
-ghost use Rattle.sa_assign.specs.Aims.{aimed, has_no_aim, can_be_spared, is_idle_and_spared, least_below, greatest_below, choice};
+ghost use Rattle.std.specs.Prelude.{◌≡◌, ℕ, ◌-◌, ◌≤◌, ◌<◌, ◌↔◌, false, length, slice_index_or, if◌then◌else◌, EachIndex, IfSome, IsTrue};
+ghost use Rattle.sa_share.specs.Share.{share_at};
+ghost use Rattle.sa_assign.specs.Aims.{aimed, is_aim, has_no_aim, can_be_spared, is_idle_and_spared, least_below, greatest_below, choice};
 
 use sa_base::SpaceNo;
 use sa_share::{MAX_PROCESSORS, MAX_SPACES};
@@ -86,4 +87,36 @@ pub fn aimed(aims: &[Option<SpaceNo>], s: SpaceNo) -> usize
     ensures { result ≡ aimed s.0 aims.now }
 {
     aims.iter().filter(|aim| **aim == Some(s)).count()
+}
+
+/// Each space has at least its share of the aims. They are counted for all spaces at once.
+pub(crate) fn have_shares(shares: &[u16; MAX_SPACES], aims: &[Option<SpaceNo>]) -> bool
+    ensures { IsTrue result ↔ ((s : ℕ) → share_at shares.now s ≤ aimed s aims.now) }
+{
+    let mut missing = *shares;
+    for p in 0..aims.len() {
+        take_off(&mut missing, aims[p]);
+    }
+    are_zero(&missing)
+}
+
+// No space misses any.
+fn are_zero(missing: &[u16; MAX_SPACES]) -> bool
+    ensures { IsTrue result ↔ EachIndex missing.now (λ s. share_at missing.now s ≡ 0) }
+{
+    missing.iter().all(|places| *places == 0)
+}
+
+// The space that is aimed at misses one less, if it misses some.
+fn take_off(missing: &mut [u16; MAX_SPACES], aim: Option<SpaceNo>)
+    ensures { (s : ℕ) → share_at missing.new s
+        ≡ share_at missing.old s - (if is_aim s aim then 1 else 0) }
+{
+    let Some(s) = aim else {
+        return;
+    };
+    let place = usize::from(s.0);
+    if place < MAX_SPACES && missing[place] > 0 {
+        missing[place] -= 1;
+    }
 }

@@ -2,7 +2,7 @@ ghost use Rattle.std.specs.Prelude.{◌≡◌, ℕ, ◌+◌, ◌*◌, ◌≤◌,
 ghost use Rattle.sa_share.specs.Share.{IsFirst, share_at};
 ghost use Rattle.sa_share.specs.Rounds.{shares_of};
 
-use crate::aims::{aimed, choice};
+use crate::aims::{aimed, choice, have_shares};
 use arrayvec::ArrayVec;
 use sa_base::{Item, ProcNo, Record, SpaceNo, Trace};
 use sa_share::{Claim, MAX_PROCESSORS, MAX_SPACES, shares};
@@ -165,6 +165,9 @@ impl Assign {
             ≡ trace.old.spare + length trace.old.items }
     {
         let shares = shares(self.processors(), first, claims);
+        if have_shares(&shares, &self.aims) {
+            return;
+        }
         for s in 0..claims.len() {
             self.fill(&shares, SpaceNo(s as u16), item, trace);
         }

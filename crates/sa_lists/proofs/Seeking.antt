@@ -1,10 +1,13 @@
 -- Searches among the numbers of lists.
-use Rattle.std.proofs.Common.{◌≡◌, ℕ, ◌+◌, ◌-◌, ◌<◌, Bool, true, false, cond, List, ◌++◌, length, find, Option, Some, None, ap, ◌∙◌, subst, arith, add-one}
+use Rattle.std.proofs.Common.{◌≡◌, ℕ, ◌+◌, ◌-◌, ◌<◌, Bool, true, false, not, ltb, cond, List, [], ◌∷◌, ◌++◌, length, find, Option, Some, None, refl, sym, ap, ◌∙◌, subst, inl, inr, arith, add-one}
 use Rattle.std.specs.List.{range_with_len}
 use Rattle.std.specs.Option.{option_map, option_or}
+use Rattle.std.proofs.lemmas.Bool.{cases_lt, le-ltb, and_right}
+use Rattle.std.proofs.lemmas.List.{get_or_past}
 use Rattle.std.proofs.lemmas.List.Folds.{find-append}
+use Rattle.std.proofs.lemmas.List.Sums.{get_or-le-sum_by}
 use Rattle.sa_base.specs.declared.number.ProcNo.{ProcNo}
-use Rattle.sa_lists.specs.ReadyView.{ReadyView, processor, is_open, sought}
+use Rattle.sa_lists.specs.ReadyView.{ReadyView, processor, list_of, ready_count, is_locked, is_open, numbers_round, sought}
 
 -- a search from n on looks at n first
 find-range : (p : ℕ → Bool) (n m : ℕ) → n < m → find p (range_with_len n (m - n)) ≡ cond (p n) (Some n) (find p (range_with_len (n + 1) (m - (n + 1))))
@@ -42,3 +45,21 @@ sought_none r p n o e none second =
     find-append_none (is_open r) processor (range_with_len p (length r.lists - p)) (range_with_len 0 p) o
     (subst (λ m. None ≡ option_map processor (find (is_open r) (range_with_len p (m - p)))) e none) (let zero : p - 0 ≡ p = omega arith in
     subst (λ k. o ≡ option_map processor (find (is_open r) (range_with_len 0 k))) zero second)
+
+-- where no thread is ready, each list is empty, none is open, and `seek` finds none
+none_ready-empty : (r : ReadyView) (l : ℕ) → ready_count r ≡ 0 → length (list_of r l) ≡ 0
+none_ready-empty r l none = elim (cases_lt l (length r.lists)) [
+  | inl inside ↦ let part = get_or-le-sum_by length r.lists l [] inside in omega arith
+  | inr past ↦ ap length (get_or_past r.lists l [] past)
+]
+
+find-nowhere : (p : ℕ → Bool) (xs : List ℕ) → ((k : ℕ) → p k ≡ false) → find p xs ≡ None
+find-nowhere p [] fails = refl
+find-nowhere p (x ∷ xs) fails = ap (λ b. cond b (Some x) (find p xs)) (fails x) ∙ find-nowhere p xs fails
+
+pub sought_nowhere : (r : ReadyView) (p : ℕ) → ready_count r ≡ 0 → None ≡ option_map processor (sought r p)
+sought_nowhere r p none = ap (option_map processor) (sym (find-nowhere (is_open r) (numbers_round (length r.lists) p) shut)) where
+  shut : (l : ℕ) → is_open r l ≡ false
+  shut l =
+      let empty = none_ready-empty r l none in
+      and_right (not (is_locked r l)) (ltb 0 (length (list_of r l))) (le-ltb 0 (length (list_of r l)) (omega arith))

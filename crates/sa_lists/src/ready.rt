@@ -15,7 +15,7 @@ use std::marker::Model;
 ///
 /// A thread is in at most one list. In a list the threads of the greatest rank come first, and of one rank the newest.
 /// Each list has a lock, which whoever changes the list holds. Every call takes constant time, for any number of ready
-/// threads, but for `seek`, which looks at each list.
+/// threads, but for `seek`, which looks at each list where some thread is ready.
 #[derive(Debug, Drop)]
 pub struct ReadyLists {
     lists: RankedLists,
@@ -132,11 +132,14 @@ impl ReadyLists {
     }
 
     /// The first of the lists `p`, `p` + 1 and so on, and round to `p` - 1, that has a thread and whose lock is
-    /// free: `None` exactly where there is none. It looks at each list once.
+    /// free: `None` exactly where there is none. It looks at each list once, and at none where no thread is ready.
     pub fn seek(&self, p: ProcNo) -> Option<ProcNo>
         requires { p.0 < length self.now.lists }
         ensures { result ≡ option_map processor (sought self.now p.0) }
     {
+        if self.ready == 0 {
+            return None;
+        }
         let count = self.locked.len() as u16;
         match self.first_open(p.0, count) {
             Some(found) => Some(found),

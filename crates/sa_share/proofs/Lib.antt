@@ -3,3 +3,4 @@ pub mod FairLemmas
 pub mod ShareLemmas
 pub mod TurnLemmas
 pub mod RoundLemmas
+pub mod ServingLemmas

@@ -164,7 +164,7 @@ pub want_at-past : (claims : List Claim) (s : ℕ) → length claims ≤ s → w
 want_at-past claims s past = ap (λ (claim : Claim). claim.want) (get_or_past claims s (record { priority = 0; want = 0 }) past)
 
 -- a space that wants more is one of the claims
-WantsMore-within : (claims : List Claim) (shares : List ℕ) (s : ℕ) → WantsMore claims shares s → s < length claims
+pub WantsMore-within : (claims : List Claim) (shares : List ℕ) (s : ℕ) → WantsMore claims shares s → s < length claims
 WantsMore-within claims shares s more = elim (cases_lt s (length claims)) [
   | inl below ↦ below
   | inr past ↦ let e = want_at-past claims s past in absurd (omega arith)

@@ -18,7 +18,7 @@ rank-cases first n s first_in s_in = elim (cases_lt s first) [
 ]
 
 -- two spaces have different ranks
-rank_of-same : (first : ℕ) (claims : List Claim) (s t : ℕ) → first < length claims → s < length claims → t < length claims
+pub rank_of-same : (first : ℕ) (claims : List Claim) (s t : ℕ) → first < length claims → s < length claims → t < length claims
     → rank_of first claims s ≡ rank_of first claims t → s ≡ t
 rank_of-same first claims s t first_in s_in t_in same = elim (rank-cases first (length claims) s first_in s_in) [
   | inl low ↦ elim (rank-cases first (length claims) t first_in t_in) [ inl low_t ↦ omega arith | inr high_t ↦ omega arith ]

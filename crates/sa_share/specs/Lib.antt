@@ -1,4 +1,5 @@
 pub mod Fair
 pub mod Rounds
+pub mod Serving
 pub mod Share
 pub mod Turn

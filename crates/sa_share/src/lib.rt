@@ -1,10 +1,10 @@
 //! The policy of processor allocation: how many processors each space gets.
 #![tactic(auto)]
 
-ghost use Rattle.std.specs.Prelude.{◌≡◌, ℕ, ◌<◌, ◌≤◌, ◌↔◌, length, IsTrue, IfSome, IfNone};
+ghost use Rattle.std.specs.Prelude.{◌≡◌, ℕ, ◌+◌, ◌<◌, ◌≤◌, ◌↔◌, length, sum, IsTrue, IfSome, IfNone, MatchOption};
 ghost use Rattle.sa_share.specs.Share.{rank_of, want_at, share_at, IsFirst, IsShare};
 ghost use Rattle.sa_share.specs.Rounds.{shares_of};
-ghost use Rattle.sa_share.specs.Turn.{IsBefore, GoesFirst, IsNext};
+ghost use Rattle.sa_share.specs.Serving.{AreMet, IsLevel, IsHighest};
 
 pub mod laws;
 
@@ -31,74 +31,117 @@ pub fn shares(processors: u16, first: u16, claims: &[Claim]) -> [u16; MAX_SPACES
     ensures function { result ≡ shares_of processors first claims.now }
     ensures past { (s : ℕ) → length claims.now ≤ s → share_at result s ≡ 0 }
 {
+    match whole_wants(processors, claims) {
+        Some(wants) => wants,
+        None => shares_in_rounds(processors, usize::from(first), claims),
+    }
+}
+
+// What each space wants, where the processors suffice for all of it.
+fn whole_wants(processors: u16, claims: &[Claim]) -> Option<[u16; MAX_SPACES]>
+    requires { length claims.now ≤ MAX_SPACES }
+    ensures met { IfSome result (AreMet claims.now) }
+    ensures few { IfSome result (λ wants. sum wants ≤ processors) }
+{
+    let mut wants = [0; MAX_SPACES];
+    let mut left = processors;
+    for space in 0..claims.len() {
+        left = left.checked_sub(claims[space].want)?;
+        wants[space] = claims[space].want;
+    }
+    Some(wants)
+}
+
+// The shares, given in rounds: each serves the highest priority that still wants more.
+fn shares_in_rounds(processors: u16, first: usize, claims: &[Claim]) -> [u16; MAX_SPACES]
+    requires spaces { length claims.now ≤ MAX_SPACES }
+    requires first { IsFirst first claims.now }
+    ensures { IsShare processors first claims.now result }
+{
     let mut shares = [0; MAX_SPACES];
-    for _turn in 0..processors {
-        let Some(space) = next_space(usize::from(first), claims, &shares) else {
+    let mut left = processors;
+    while left > 0 {
+        let Some(priority) = highest_wanting(claims, &shares) else {
             return shares;
         };
-        shares[space] += 1;
+        left -= serve(priority, left, first, claims, &mut shares);
     }
     shares
 }
 
-// The space that gets the next processor, or none where every want is met.
-fn next_space(first: usize, claims: &[Claim], shares: &[u16; MAX_SPACES]) -> Option<usize>
-    requires spaces { length claims.now ≤ MAX_SPACES }
-    requires first { IsFirst first claims.now }
+// The highest priority of the spaces that want more, or none where every want is met.
+fn highest_wanting(claims: &[Claim], shares: &[u16; MAX_SPACES]) -> Option<u8>
+    requires { length claims.now ≤ MAX_SPACES }
     ensures none { IfNone result ((s : ℕ) → want_at claims.now s ≤ share_at shares.now s) }
-    ensures next { IfSome result (IsNext (length claims.now) first claims.now shares.now) }
+    ensures highest { IfSome result (IsHighest claims.now shares.now) }
 {
-    let mut next = None;
+    let mut highest = None;
     for space in 0..claims.len() {
-        if shares[space] < claims[space].want && goes_first(first, claims, shares, space, next) {
-            next = Some(space);
+        let claim = claims[space];
+        if shares[space] < claim.want && is_above(claim.priority, highest) {
+            highest = Some(claim.priority);
         }
     }
-    next
+    highest
 }
 
-// Whether a space is served before the one chosen so far, if there is one.
-fn goes_first(
+// Whether a priority is above the highest so far, if there is one.
+fn is_above(priority: u8, highest: Option<u8>) -> bool
+    ensures { IsTrue result ↔ MatchOption highest (Unit {0}) (λ other. other < priority) }
+{
+    match highest {
+        None => true,
+        Some(other) => other < priority,
+    }
+}
+
+// One round: each space of the priority that wants more gets one of the processors that are left, in the
+// order of ranks and while there are some. Answers how many were given.
+fn serve(
+    priority: u8,
+    left: u16,
     first: usize,
     claims: &[Claim],
-    shares: &[u16; MAX_SPACES],
-    space: usize,
-    chosen: Option<usize>,
-) -> bool
+    shares: &mut [u16; MAX_SPACES],
+) -> u16
+    requires some { 1 ≤ left }
     requires spaces { length claims.now ≤ MAX_SPACES }
-    requires first { first < length claims.now }
-    requires space { space < length claims.now }
-    requires chosen { IfSome chosen (λ other. other < length claims.now) }
-    ensures { IsTrue result ↔ GoesFirst first claims.now shares.now space chosen }
+    requires first { IsFirst first claims.now }
+    requires shares { IsShare (sum shares.old) first claims.now shares.old }
+    requires level { IsLevel claims.now shares.old }
+    requires highest { IsHighest claims.now shares.old priority }
+    ensures shares { IsShare (sum shares.new) first claims.now shares.new }
+    ensures given { sum shares.new ≡ sum shares.old + result }
+    ensures some { 1 ≤ result }
+    ensures few { result ≤ left }
+    ensures level { result < left → IsLevel claims.now shares.new }
 {
-    match chosen {
-        None => true,
-        Some(other) => is_before(first, claims, shares, space, other),
+    let mut given = 0;
+    for rank in 0..claims.len() {
+        if given == left {
+            return given;
+        }
+        let space = space_of(rank, first, claims);
+        if claims[space].priority == priority && shares[space] < claims[space].want {
+            shares[space] += 1;
+            given += 1;
+        }
     }
+    given
 }
 
-// Whether space `s` is served before space `t`.
-fn is_before(first: usize, claims: &[Claim], shares: &[u16; MAX_SPACES], s: usize, t: usize) -> bool
+// The space that so many come before, counted round from the first.
+fn space_of(rank: usize, first: usize, claims: &[Claim]) -> usize
     requires spaces { length claims.now ≤ MAX_SPACES }
     requires first { first < length claims.now }
-    requires left { s < length claims.now }
-    requires right { t < length claims.now }
-    ensures { IsTrue result ↔ IsBefore first claims.now shares.now s t }
+    requires rank { rank < length claims.now }
+    ensures within { result < length claims.now }
+    ensures rank { rank_of first claims.now result ≡ rank }
 {
-    if claims[s].priority != claims[t].priority {
-        claims[s].priority > claims[t].priority
-    } else if shares[s] != shares[t] {
-        shares[s] < shares[t]
+    let space = first + rank;
+    if space < claims.len() {
+        space
     } else {
-        rank(first, claims, s) < rank(first, claims, t)
+        space - claims.len()
     }
-}
-
-// How many spaces come before a space, counted round from the first.
-fn rank(first: usize, claims: &[Claim], space: usize) -> usize
-    requires first { first < length claims.now }
-    requires space { space < length claims.now }
-    ensures { result ≡ rank_of first claims.now space }
-{
-    (space + claims.len() - first) % claims.len()
 }

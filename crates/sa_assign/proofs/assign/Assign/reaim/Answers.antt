@@ -1,5 +1,5 @@
 use Rattle.std.proofs.Common.{◌≤◌, sum, ◌≡◌, ℕ, List, suc, ◌+◌, ◌-◌, ◌<◌, length, sym, ap, ◌∙◌, arith}
-use Rattle.std.proofs.lemmas.List.Sums.{sum_by_more, sum_by-take-le}
+use Rattle.std.proofs.lemmas.List.Sums.{sum_by_more, sum_by_more_le, sum_by-take-le}
 use Rattle.sa_base.specs.declared.record.Item.{Item}
 use Rattle.sa_assign.specs.AssignView.{AssignView}
 use Rattle.sa_share.specs.Rounds.{shares_of}
@@ -7,7 +7,30 @@ use Rattle.sa_share.proofs.RoundLemmas.{shares_of-share}
 use Rattle.sa_assign.specs.Reaim.{reaimed}
 use Rattle.sa_assign.proofs.AimLemmas.{met-reaimed}
 use Rattle.sa_assign.proofs.ReaimLemmas.{filled_from, filled_from-suc}
+use Rattle.sa_assign.proofs.CountLemmas.{nothing-due}
 use Rattle.sa_assign.proofs.assign.Assign.reaim.Goals as goal
+
+pub returns-then-have_shares-clause-assign : goal.returns-then-have_shares-clause-assign
+returns-then-have_shares-clause-assign c =
+    let claims = c.args.claims.now in
+    (nothing-due c.args.item.event c.args.item.proc (length claims) c.shares-shares.result _ c.deref.result.now c.args.self.now c.args.trace.now.items
+    (c.shares-shares.ensures.function ∙ ap (λ (n : ℕ). shares_of n c.args.first claims) c.processors.ensures.owners)
+    (c.deref.ensures.0 ∙ ap (λ (a : AssignView). a.aims) c.self.view_is) (c.have_shares.ensures.0 c.if-have_shares.true)).0
+
+pub returns-then-have_shares-clause-items : goal.returns-then-have_shares-clause-items
+returns-then-have_shares-clause-items c =
+    let claims = c.args.claims.now in
+    (nothing-due c.args.item.event c.args.item.proc (length claims) c.shares-shares.result _ c.deref.result.now c.args.self.now c.args.trace.now.items
+    (c.shares-shares.ensures.function ∙ ap (λ (n : ℕ). shares_of n c.args.first claims) c.processors.ensures.owners)
+    (c.deref.ensures.0 ∙ ap (λ (a : AssignView). a.aims) c.self.view_is) (c.have_shares.ensures.0 c.if-have_shares.true)).1
+
+pub fill-requires-clause-room : goal.fill-requires-clause-room
+fill-requires-clause-room c =
+    let shares = c.shares-shares.result in
+    let within : c.loop-s.s < length shares = omega arith in
+    let total = c.shares-shares.ensures.shares.total in
+    let part = sum_by_more_le (λ (x : ℕ). x) shares c.loop-s.s 0 within in
+    omega arith
 
 pub loop-s-preserved : goal.loop-s-preserved
 loop-s-preserved c =

@@ -1,7 +1,11 @@
-use Rattle.std.proofs.Common.{ap, length, arith}
-use Rattle.sa_lists.specs.ReadyView.{ReadyView}
-use Rattle.sa_lists.proofs.Seeking.{sought_some, sought_none}
+use Rattle.std.proofs.Common.{sym, ap, ◌∙◌, length, arith}
+use Rattle.sa_lists.specs.ReadyView.{ReadyView, ready_count}
+use Rattle.sa_lists.proofs.Seeking.{sought_some, sought_none, sought_nowhere}
 use Rattle.sa_lists.proofs.ready.ReadyLists.seek.Goals as goal
+
+pub returns-then-self-eq0 : goal.returns-then-self-eq0
+returns-then-self-eq0 c =
+    sought_nowhere c.args.self.now c.args.p.0 (sym (ap ready_count c.self.view_is) ∙ sym c.self.invariant.counted ∙ c.if-self-eq0.true)
 
 pub returns-in-Some : goal.returns-in-Some
 returns-in-Some c =
