@@ -122,7 +122,9 @@ impl Devices {
           pages = evicted event self.old.evictions self.old.pages;
         } }
     {
-        evict_at(event, self.evictions.as_slice(), &mut self.pages);
+        if !self.evictions.is_empty() {
+            evict_at(event, self.evictions.as_slice(), &mut self.pages);
+        }
     }
 
     /// The resident pages of the space: bit k for page k.

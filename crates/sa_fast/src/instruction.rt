@@ -10,11 +10,11 @@ ghost use Rattle.sa_fast.specs.Work.{with_name, added_all, IsUnlisted, IsWork};
 ghost use Rattle.sa_fast.specs.Instruction.{outcome, outcome_of, went, told_by, forked, joins, blocks, touched, ended, next_of, value_in, says_of, instr_of, run, run_says, IsAt, CanRun};
 
 use crate::shared::Shared;
-use crate::threads::{Block, Place};
+use crate::threads::{Block, Place, Threads};
 use crate::work::WorkLists;
 use sa_base::{MAX_THREADS, PAGES, Record, Seen, SpaceNo, ThreadNo, Trace, has_page};
 use sa_code::add_record;
-use sa_instr::{Instr, MAX_INSTRUCTIONS, MAX_PROGRAMS, Reg, Regs, local};
+use sa_instr::{Instr, MAX_INSTRUCTIONS, MAX_PROGRAMS, Reg, Regs};
 use sa_spaces::SpaceDef;
 use sa_sync::{SyncAnswer, SyncState};
 
@@ -53,23 +53,24 @@ pub fn run(
     ensures spare { let says = run_says def.now seen.now.pages shared.old t in
         trace.new.spare + length says ≡ trace.old.spare }
 {
-    let block = shared.threads.block(t);
-    let instr = instr_at(def, &block);
-    tell_records(shared.state.space, t, &block, instr, seen, trace);
-    does(def, fetch, shared, work, t, block, instr, seen)
+    let instr = instr_at(def, &shared.threads, t);
+    tell_records(shared.state.space, t, &shared.threads, instr, seen, trace);
+    does(def, fetch, shared, work, t, instr, seen)
 }
 
 // The instruction at which a thread stands, and what its space keeps to there.
-fn instr_at(def: &SpaceDef, block: &Block) -> Instr
-    requires { IsAt def.now block.now }
-    ensures instr { result ≡ instr_of def.now block.now }
-    ensures next { result ≢ Instr.End → block.now.pc + 1 < MAX_INSTRUCTIONS }
+fn instr_at(def: &SpaceDef, threads: &Threads, t: ThreadNo) -> Instr
+    requires thread { t.0 < MAX_THREADS }
+    requires at { IsAt def.now (block_at threads.now t.0) }
+    ensures instr { result ≡ instr_of def.now (block_at threads.now t.0) }
+    ensures next { result ≢ Instr.End → (block_at threads.now t.0).pc + 1 < MAX_INSTRUCTIONS }
     ensures range { IsInRange result }
     ensures named { NamesDeclared def.now.mutexes (length def.now.sems) def.now.cells
         (length def.now.programs) result }
     ensures few { length def.now.programs ≤ MAX_PROGRAMS }
 {
     def.ranges();
+    let block = threads.at(t);
     def.programs()[usize::from(block.program)].at(block.pc)
 }
 
@@ -77,18 +78,20 @@ fn instr_at(def: &SpaceDef, block: &Block) -> Instr
 fn tell_records(
     space: SpaceNo,
     t: ThreadNo,
-    block: &Block,
+    threads: &Threads,
     instr: Instr,
     seen: &Seen,
     trace: &mut Trace,
 )
+    requires thread { t.0 < MAX_THREADS }
     requires room { 2 ≤ trace.old.spare }
     requires range { IsInRange instr }
-    ensures items { let says = says_of space t block.now seen.now.pages instr in
+    ensures items { let says = says_of space t (block_at threads.now t.0) seen.now.pages instr in
         trace.new.items ≡ trace.old.items ++ items_at seen.now.event seen.now.proc says }
-    ensures spare { let says = says_of space t block.now seen.now.pages instr in
+    ensures spare { let says = says_of space t (block_at threads.now t.0) seen.now.pages instr in
         trace.new.spare + length says ≡ trace.old.spare }
 {
+    let block = threads.at(t);
     let ran = Record::Ins(space, t, block.pc);
     match instr {
         Instr::Out(reg) => {
@@ -104,68 +107,67 @@ fn tell_records(
     }
 }
 
-// The effect of an instruction at which the thread with this block stands.
+// The effect of an instruction at which the thread stands.
 fn does(
     def: &SpaceDef,
     fetch: u32,
     shared: &mut Shared,
     work: &mut Option<ThreadNo>,
     t: ThreadNo,
-    block: Block,
     instr: Instr,
     seen: &Seen,
 ) -> Ran
     requires can { CanRun def.now shared.old work.old t }
-    requires block { block ≡ block_at shared.old.threads t.0 }
-    requires instr { instr ≡ instr_of def.now block }
-    requires next { instr ≢ Instr.End → block.pc + 1 < MAX_INSTRUCTIONS }
+    requires instr { instr ≡ instr_of def.now (block_at shared.old.threads t.0) }
+    requires next { instr ≢ Instr.End → (block_at shared.old.threads t.0).pc + 1 < MAX_INSTRUCTIONS }
     requires range { IsInRange instr }
     requires named { NamesDeclared def.now.mutexes (length def.now.sems) def.now.cells
         (length def.now.programs) instr }
     requires few { length def.now.programs ≤ MAX_PROGRAMS }
     ensures { record { shared = shared.new; work = work.new; answer = result }
-        ≡ outcome_of fetch seen.now.pages shared.old work.old t block instr }
+        ≡ outcome_of fetch seen.now.pages shared.old work.old t (block_at shared.old.threads t.0) instr }
 {
     shared.sync.waits_once();
     match instr {
         Instr::Compute | Instr::Set(..) | Instr::Add(..) | Instr::Sub(..) | Instr::Jnz(..) => go(
-            def, shared, t, block,
+            def, shared, t,
         ),
         Instr::Load(reg, cell) => {
             let value = shared.sync.load(cell);
-            shared.threads.set(t, with_value(block, reg, value));
+            shared.threads.take_value(t, reg, value);
             Ran::Goes
         }
         Instr::Store(reg, cell) => {
-            shared.sync.store(cell, block.regs.get(reg));
-            shared.threads.set(t, next(block));
+            let value = shared.threads.value(t, reg);
+            shared.sync.store(cell, value);
+            shared.threads.advance(t);
             Ran::Goes
         }
         Instr::Out(_) => {
-            shared.threads.set(t, next(block));
+            shared.threads.advance(t);
             Ran::Goes
         }
-        Instr::Fork(reg, program) => fork(shared, work, t, block, reg, program),
-        Instr::Join(reg) => join(shared, work, t, block, reg),
+        Instr::Fork(reg, program) => fork(shared, work, t, reg, program),
+        Instr::Join(reg) => join(shared, work, t, reg),
         Instr::Lock(m) => {
             let answer = shared.sync.lock(t, m);
-            tell(shared, work, t, next(block), answer)
+            tell_next(shared, work, t, answer)
         }
         Instr::Unlock(m) => {
             let answer = shared.sync.unlock(t, m);
-            tell(shared, work, t, next(block), answer)
+            tell_next(shared, work, t, answer)
         }
         Instr::Wait(k) => {
             let answer = shared.sync.wait(t, k);
-            tell(shared, work, t, next(block), answer)
+            tell_next(shared, work, t, answer)
         }
         Instr::Signal(k) => {
             let answer = shared.sync.signal(k);
-            tell(shared, work, t, next(block), answer)
+            tell_next(shared, work, t, answer)
         }
-        Instr::Io(length) => block_for(shared, t, next(block), length, None),
-        Instr::Touch(page) => touch(fetch, shared, t, block, page, seen),
-        Instr::End => end(shared, work, t, block),
+        Instr::Io(length) => io(shared, t, length),
+        Instr::Touch(page) => touch(fetch, shared, t, page, seen),
+        Instr::End => end(shared, work, t),
     }
 }
 
@@ -197,18 +199,14 @@ fn moved(mut block: Block, place: Place) -> Block
 }
 
 // An instruction that stays within its thread.
-fn go(def: &SpaceDef, shared: &mut Shared, t: ThreadNo, block: Block) -> Ran
+fn go(def: &SpaceDef, shared: &mut Shared, t: ThreadNo) -> Ran
     requires thread { t.0 < MAX_THREADS }
-    requires at { IsAt def.now block }
-    ensures { (w : _) → outcome shared.new w result ≡ went shared.old w t block (instr_of def.now block) }
+    requires at { IsAt def.now (block_at shared.old.threads t.0) }
+    ensures { let b = block_at shared.old.threads t.0 in
+        (w : _) → outcome shared.new w result ≡ went shared.old w t b (instr_of def.now b) }
 {
-    let mut block = block;
-    local(
-        &def.programs()[usize::from(block.program)],
-        &mut block.regs,
-        &mut block.pc,
-    );
-    shared.threads.set(t, block);
+    let program = usize::from(shared.threads.program(t));
+    shared.threads.go(t, &def.programs()[program]);
     Ran::Goes
 }
 
@@ -243,24 +241,43 @@ fn tell(
     }
 }
 
+// The same, where the thread's block is that before its instruction.
+fn tell_next(
+    shared: &mut Shared,
+    work: &mut Option<ThreadNo>,
+    t: ThreadNo,
+    answer: SyncAnswer,
+) -> Ran
+    requires thread { t.0 < MAX_THREADS }
+    requires next { (block_at shared.old.threads t.0).pc + 1 < MAX_INSTRUCTIONS }
+    requires work { IsWork shared.old.works work.old }
+    requires woken { (u : _) → answer ≡ SyncAnswer.Wakes u → (u.0 < MAX_THREADS) × IsUnlisted shared.old.works u.0 }
+    ensures { record { shared = shared.new; work = work.new; answer = result }
+        ≡ told_by shared.old work.old t (next_of (block_at shared.old.threads t.0)) answer }
+{
+    let block = shared.threads.block(t);
+    tell(shared, work, t, next(block), answer)
+}
+
 // A fork.
 fn fork(
     shared: &mut Shared,
     work: &mut Option<ThreadNo>,
     t: ThreadNo,
-    block: Block,
     reg: Reg,
     program: u16,
 ) -> Ran
     requires thread { t.0 < MAX_THREADS }
-    requires next { block.pc + 1 < MAX_INSTRUCTIONS }
+    requires next { (block_at shared.old.threads t.0).pc + 1 < MAX_INSTRUCTIONS }
     requires work { IsWork shared.old.works work.old }
     requires threads { shared.old.state.lists.threads ≡ MAX_THREADS }
     requires unmade { IsUnlisted shared.old.works shared.old.state.lists.made }
     requires program { program < MAX_PROGRAMS }
     ensures { record { shared = shared.new; work = work.new; answer = result }
-        ≡ forked shared.old work.old t block reg program (next_made shared.old.state.lists) }
+        ≡ forked shared.old work.old t (block_at shared.old.threads t.0) reg program
+        (next_made shared.old.state.lists) }
 {
+    let block = shared.threads.block(t);
     shared.state.lists.are_apart();
     let Some(made) = shared.state.lists.make(program) else {
         shared.threads.set(t, with_value(block, reg, NOT_MADE));
@@ -281,21 +298,16 @@ fn fork(
 }
 
 // A join.
-fn join(
-    shared: &mut Shared,
-    work: &mut Option<ThreadNo>,
-    t: ThreadNo,
-    block: Block,
-    reg: Reg,
-) -> Ran
+fn join(shared: &mut Shared, work: &mut Option<ThreadNo>, t: ThreadNo, reg: Reg) -> Ran
     requires thread { t.0 < MAX_THREADS }
-    requires next { block.pc + 1 < MAX_INSTRUCTIONS }
+    requires next { (block_at shared.old.threads t.0).pc + 1 < MAX_INSTRUCTIONS }
     requires work { IsWork shared.old.works work.old }
     requires nowhere { WaitsNowhere shared.old.sync t.0 }
     requires threads { shared.old.state.lists.threads ≡ MAX_THREADS }
     ensures { record { shared = shared.new; work = work.new; answer = result }
-        ≡ joins shared.old work.old t block reg shared.old.state.lists.made }
+        ≡ joins shared.old work.old t (block_at shared.old.threads t.0) reg shared.old.state.lists.made }
 {
+    let block = shared.threads.block(t);
     shared.state.lists.are_apart();
     let other = block.regs.get(reg);
     let made = shared.state.lists.made();
@@ -313,32 +325,45 @@ fn block_for(shared: &mut Shared, t: ThreadNo, block: Block, length: u32, page: 
     Ran::Blocks { length, page }
 }
 
-// A touch of a page.
-fn touch(fetch: u32, shared: &mut Shared, t: ThreadNo, block: Block, page: u16, seen: &Seen) -> Ran
+// An I/O.
+fn io(shared: &mut Shared, t: ThreadNo, length: u32) -> Ran
     requires thread { t.0 < MAX_THREADS }
-    requires next { block.pc + 1 < MAX_INSTRUCTIONS }
+    requires next { (block_at shared.old.threads t.0).pc + 1 < MAX_INSTRUCTIONS }
+    ensures { let b = block_at shared.old.threads t.0 in
+        (w : _) → outcome shared.new w result ≡ blocks shared.old w t (next_of b) length None }
+{
+    let block = shared.threads.block(t);
+    block_for(shared, t, next(block), length, None)
+}
+
+// A touch of a page.
+fn touch(fetch: u32, shared: &mut Shared, t: ThreadNo, page: u16, seen: &Seen) -> Ran
+    requires thread { t.0 < MAX_THREADS }
+    requires next { (block_at shared.old.threads t.0).pc + 1 < MAX_INSTRUCTIONS }
     requires page { page < PAGES }
-    ensures { (w : _) → outcome shared.new w result
-        ≡ touched shared.old w t block fetch page (is_resident seen.now.pages page) }
+    ensures { let b = block_at shared.old.threads t.0 in
+        (w : _) → outcome shared.new w result
+        ≡ touched shared.old w t b fetch page (is_resident seen.now.pages page) }
 {
     if has_page(seen.pages, page) {
-        shared.threads.set(t, next(block));
+        shared.threads.advance(t);
         Ran::Goes
     } else {
+        let block = shared.threads.block(t);
         block_for(shared, t, block, fetch, Some(page))
     }
 }
 
 // The end of a thread.
-fn end(shared: &mut Shared, work: &mut Option<ThreadNo>, t: ThreadNo, block: Block) -> Ran
+fn end(shared: &mut Shared, work: &mut Option<ThreadNo>, t: ThreadNo) -> Ran
     requires thread { t.0 < MAX_THREADS }
     requires work { IsWork shared.old.works work.old }
     requires waiting { (u : ℕ) → Waits shared.old.sync u → IsUnlisted shared.old.works u }
     requires joiners { length shared.old.sync.joiners ≡ MAX_THREADS }
     ensures { record { shared = shared.new; work = work.new; answer = result }
-        ≡ ended shared.old work.old t block }
+        ≡ ended shared.old work.old t (block_at shared.old.threads t.0) }
 {
-    shared.threads.set(t, moved(block, Place::Done));
+    shared.threads.set_place(t, Place::Done);
     shared.sync.finish(t);
     wake_joiners(&mut shared.sync, &mut shared.works, work, t);
     Ran::Leaves

@@ -1,9 +1,11 @@
 // The blocks of a space's threads.
 ghost use Rattle.std.specs.Prelude.{◌≡◌, ◌<◌, ◌≤◌, ◌+◌, ℕ, count_by, cond, IfOk, length, replicate, take};
-ghost use Rattle.sa_fast.specs.Threads.{unmade, block_at, with_block, is_loaded, is_active, is_done};
+ghost use Rattle.sa_instr.specs.Local.{instr_at, pc_after, regs_after};
+ghost use Rattle.sa_instr.specs.Regs.{reg_value, with_reg};
+ghost use Rattle.sa_fast.specs.Threads.{unmade, block_at, with_block, gone_to, moved_to, is_loaded, is_active, is_done};
 
 use sa_base::{MAX_THREADS, ThreadNo};
-use sa_instr::Regs;
+use sa_instr::{MAX_INSTRUCTIONS, Program, Reg, Regs, local};
 use std::alloc::{AllocError, Global};
 use std::marker::Model;
 
@@ -114,6 +116,30 @@ impl Threads {
         self.blocks[t.0 as usize]
     }
 
+    // The block of a thread, where it is.
+    pub(crate) fn at(&self, t: ThreadNo) -> &Block
+        requires { t.0 < MAX_THREADS }
+        ensures { result.now ≡ block_at self.now t.0 }
+    {
+        &self.blocks[t.0 as usize]
+    }
+
+    // The number of a thread's program.
+    pub(crate) fn program(&self, t: ThreadNo) -> u16
+        requires { t.0 < MAX_THREADS }
+        ensures { result ≡ (block_at self.now t.0).program }
+    {
+        self.blocks[t.0 as usize].program
+    }
+
+    // What is in a register of a thread.
+    pub(crate) fn value(&self, t: ThreadNo, reg: Reg) -> u64
+        requires { t.0 < MAX_THREADS }
+        ensures { result ≡ reg_value (block_at self.now t.0).regs reg }
+    {
+        self.blocks[t.0 as usize].regs.get(reg)
+    }
+
     /// Replaces the block of a thread.
     pub fn set(&mut self, t: ThreadNo, block: Block)
         requires { t.0 < MAX_THREADS }
@@ -125,6 +151,56 @@ impl Threads {
         self.done = moved(self.done, old.is_done(), block.place.is_done());
         self.used = self.used.max(t.0 + 1);
         self.blocks[t.0 as usize] = block;
+    }
+
+    /// A thread is at another place.
+    pub fn set_place(&mut self, t: ThreadNo, place: Place)
+        requires { t.0 < MAX_THREADS }
+        ensures { self.new ≡ with_block self.old t.0 (moved_to (block_at self.old t.0) place) }
+    {
+        let old = self.blocks[t.0 as usize].place;
+        self.load = moved(self.load, old.is_loaded(), place.is_loaded());
+        self.active = moved(self.active, old.is_active(), place.is_active());
+        self.done = moved(self.done, old.is_done(), place.is_done());
+        self.used = self.used.max(t.0 + 1);
+        self.blocks[t.0 as usize].place = place;
+    }
+
+    // A thread runs the instruction of its program at which it stands, which is local.
+    pub(crate) fn go(&mut self, t: ThreadNo, program: &Program)
+        requires thread { t.0 < MAX_THREADS }
+        requires inside { (block_at self.old t.0).pc < length program.now }
+        ensures { let b = block_at self.old t.0 in
+            let i = instr_at program.now b.pc in
+            self.new ≡ with_block self.old t.0 (gone_to b (pc_after i b.pc b.regs) (regs_after i b.regs)) }
+    {
+        self.used = self.used.max(t.0 + 1);
+        let block = &mut self.blocks[t.0 as usize];
+        local(program, &mut block.regs, &mut block.pc);
+    }
+
+    // A thread goes on at the next place.
+    pub(crate) fn advance(&mut self, t: ThreadNo)
+        requires thread { t.0 < MAX_THREADS }
+        requires next { (block_at self.old t.0).pc + 1 < MAX_INSTRUCTIONS }
+        ensures { let b = block_at self.old t.0 in
+            self.new ≡ with_block self.old t.0 (gone_to b (b.pc + 1) b.regs) }
+    {
+        self.used = self.used.max(t.0 + 1);
+        self.blocks[t.0 as usize].pc += 1;
+    }
+
+    // A thread goes on at the next place, with a value in a register.
+    pub(crate) fn take_value(&mut self, t: ThreadNo, reg: Reg, value: u64)
+        requires thread { t.0 < MAX_THREADS }
+        requires next { (block_at self.old t.0).pc + 1 < MAX_INSTRUCTIONS }
+        ensures { let b = block_at self.old t.0 in
+            self.new ≡ with_block self.old t.0 (gone_to b (b.pc + 1) (with_reg b.regs reg value)) }
+    {
+        self.used = self.used.max(t.0 + 1);
+        let block = &mut self.blocks[t.0 as usize];
+        block.regs.set(reg, value);
+        block.pc += 1;
     }
 
     /// The blocks of the first threads; no thread after them was made.

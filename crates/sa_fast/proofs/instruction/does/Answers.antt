@@ -1,22 +1,23 @@
-use Rattle.std.proofs.Common.{ℕ, ◌≡◌, Option, None, inl, inr, refl, sym, ap, ◌∙◌, subst, rules}
+use Rattle.std.proofs.Common.{ℕ, ◌≡◌, Option, inl, inr, refl, sym, ap, ◌∙◌, subst, rules}
 use Rattle.sa_sync.specs.Calls.{unlocked, signalled}
 use Rattle.sa_sync.proofs.LawLemmas.{unlocked_tells, signalled_tells}
 use Rattle.sa_base.specs.declared.number.ThreadNo.{ThreadNo}
 use Rattle.sa_instr.specs.declared.instr.Instr.{Instr}
 use Rattle.sa_fast.specs.declared.threads.Block.{Block}
 use Rattle.sa_fast.specs.declared.shared.Shared.{Shared}
-use Rattle.sa_fast.specs.Instruction.{blocks, went, outcome_of}
+use Rattle.sa_fast.specs.Threads.{block_at}
+use Rattle.sa_fast.specs.Instruction.{went, outcome_of}
 use Rattle.sa_fast.proofs.WakeLemmas.{woken_free}
 use Rattle.sa_fast.proofs.instruction.does.Goals as goal
 
-pub tell-requires-in-Unlock-clause-woken : goal.tell-requires-in-Unlock-clause-woken
-tell-requires-in-Unlock-clause-woken c =
+pub tell_next-requires-in-Unlock-clause-woken : goal.tell_next-requires-in-Unlock-clause-woken
+tell_next-requires-in-Unlock-clause-woken c =
     let s = c.args.shared.now.sync in
     woken_free s c.args.shared.now.works c.args.t.0 (unlocked s c.args.t.0 c.in-Unlock.m) c.unlock-answer.result c.waits_once.ensures
     (unlocked_tells s c.args.t.0 c.in-Unlock.m (search rules)) c.requires.can.waiting c.unlock-answer.ensures.answer
 
-pub tell-requires-in-Signal-clause-woken : goal.tell-requires-in-Signal-clause-woken
-tell-requires-in-Signal-clause-woken c =
+pub tell_next-requires-in-Signal-clause-woken : goal.tell_next-requires-in-Signal-clause-woken
+tell_next-requires-in-Signal-clause-woken c =
     let s = c.args.shared.now.sync in
     woken_free s c.args.shared.now.works c.args.t.0 (signalled s c.in-Signal.k) c.signal-answer.result c.waits_once.ensures
     (signalled_tells s c.args.t.0 c.in-Signal.k (search rules)) c.requires.can.waiting c.signal-answer.ensures.answer
@@ -28,9 +29,9 @@ as_local fetch pages x w t b i j e h = subst (λ k. outcome_of fetch pages x w t
 
 pub returns-in-Compute : goal.returns-in-Compute
 returns-in-Compute c =
-    let a = c.args in
-    let same = as_local a.fetch a.seen.now.pages a.shared.now a.work.now a.t a.block a.instr in
-    c.go.ensures a.work.now ∙ ap (went a.shared.now a.work.now a.t a.block) (sym c.requires.instr)
+    let a = c.args in let b = block_at a.shared.now.threads a.t.0 in
+    let same = as_local a.fetch a.seen.now.pages a.shared.now a.work.now a.t b a.instr in
+    c.go.ensures a.work.now ∙ ap (went a.shared.now a.work.now a.t b) (sym c.requires.instr)
     ∙ sym (elim c.in-Compute.is [
       | inl compute ↦ same _ compute refl
       | inr other ↦ elim other [
@@ -48,10 +49,11 @@ returns-in-Compute c =
 pub returns-in-Io : goal.returns-in-Io
 returns-in-Io c =
     let a = c.args in
-    c.block_for.ensures a.work.now ∙ ap (λ b. blocks a.shared.now a.work.now a.t b c.in-Io.length None) c.next-in-Io.ensures
-    ∙ ap (outcome_of a.fetch a.seen.now.pages a.shared.now a.work.now a.t a.block) (sym c.in-Io.is)
+    c.io.ensures a.work.now
+    ∙ ap (outcome_of a.fetch a.seen.now.pages a.shared.now a.work.now a.t (block_at a.shared.now.threads a.t.0)) (sym c.in-Io.is)
 
 pub returns-in-Touch : goal.returns-in-Touch
 returns-in-Touch c =
     let a = c.args in
-    c.touch.ensures a.work.now ∙ ap (outcome_of a.fetch a.seen.now.pages a.shared.now a.work.now a.t a.block) (sym c.in-Touch.is)
+    c.touch.ensures a.work.now
+    ∙ ap (outcome_of a.fetch a.seen.now.pages a.shared.now a.work.now a.t (block_at a.shared.now.threads a.t.0)) (sym c.in-Touch.is)
