@@ -14,7 +14,7 @@ use std::alloc::{AllocError, Global};
 use std::marker::Model;
 
 /// How many shelves there are. Numbers are handed out in order, so that few of the lives in use share one.
-pub(crate) const SHELVES: usize = 64;
+pub(crate) const SHELVES: usize = 512;
 
 // The lives by their numbers.
 #[derive(Debug, Drop)]
