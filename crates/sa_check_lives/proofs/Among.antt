@@ -1,5 +1,5 @@
 -- Each life that passes a test stays among the numbers beside the table.
-use Rattle.std.proofs.Common.{◌≡◌, ℕ, refl, sym, ◌∙◌, ap, subst, inl, inr, true, false, not, Bool, List, Option, Some, None, ◌⊎◌, length, ◌==◌, append-nil, arith}
+use Rattle.std.proofs.Common.{◌≡◌, ℕ, refl, sym, ◌∙◌, ap, subst, inl, inr, true, false, Bool, List, Option, Some, None, ◌⊎◌, length, ◌==◌, append-nil, arith}
 use Rattle.std.specs.Prelude.{Contains, [], ◌∷◌, ◌++◌, map, drop, Result, Ok, Err, OnOk, OnErr}
 use Rattle.std.specs.Option.{option_map}
 use Rattle.std.proofs.lemmas.Bool.{cases_eq}
@@ -11,11 +11,12 @@ use Rattle.sa_base.specs.declared.number.ActNo.{ActNo}
 use Rattle.sa_base.specs.declared.number.ThreadNo.{ThreadNo}
 use Rattle.sa_lemmas.proofs.Options.{option_map_some}
 use Rattle.sa_laws.specs.Life.{Life, Lock, some_lock, has_lock, change_first, readied, ran, with_hand, inherits, inherited, bereft}
-use Rattle.sa_laws.specs.Record.{with_life, handed, locks_one}
+use Rattle.sa_laws.specs.Record.{with_life, handed}
+use Rattle.sa_check_lives.specs.declared.life.Lost.{Lost}
 use Rattle.sa_check_lives.specs.declared.change.Change.{Change}
 use Rattle.sa_check_lives.specs.declared.change.Change.TheVariants.{Stop, Block, Unblock, Cont, Back, Ready, Run, Take, Free, Step, Arise}
-use Rattle.sa_check_lives.specs.Change.{changed_by, adds_lock, enters, leaves}
-use Rattle.sa_check_lives.specs.Table.{AreAmong, KeepsAll, KeepsOthers, KeepsUpped, KeepsUnless, IsThere, IsAddedTo, is_inside}
+use Rattle.sa_check_lives.specs.Change.{changed_by, adds_lock, enters}
+use Rattle.sa_check_lives.specs.Table.{AreAmong, KeepsAll, KeepsOthers, KeepsUpped, KeepsUnless, IsThere, IsAddedTo, IsLost, is_inside}
 
 -- where the numbers grow
 pub among-more : (test : Life → Bool) (lives : ℕ → Option Life) (numbers more : List ℕ) → AreAmong test lives numbers → KeepsAll numbers more
@@ -61,64 +62,48 @@ lock-before Free life is = inl (some-drop life.locks is)
 lock-before (Step x) life is = inl is
 lock-before (Arise b) life is = inl is
 
--- a life that is in was in before and does not leave by the change, or it enters
-pub inside-before : (change : Change) (life : Life) → is_inside (changed_by change life) ≡ true
-    → ((is_inside life ≡ true) × (leaves change ≡ false)) ⊎ (enters change ≡ true)
-inside-before (Stop t) life is = inl (is, refl)
-inside-before (Block t) life is = inl (is, refl)
-inside-before (Unblock t) life is = inl (is, refl)
-inside-before Cont life is = inl (is, refl)
-inside-before (Back t) life is = inl (is, refl)
-inside-before (Ready t) life is = inl (is, refl)
-inside-before (Run t) life is = inl (is, refl)
-inside-before (Take lock) life is = inl (is, refl)
-inside-before Free life is = inl (is, refl)
+-- a life that is in was in before, or it enters
+pub inside-before : (change : Change) (life : Life) → is_inside (changed_by change life) ≡ true → (is_inside life ≡ true) ⊎ (enters change ≡ true)
+inside-before (Stop t) life is = inl is
+inside-before (Block t) life is = inl is
+inside-before (Unblock t) life is = inl is
+inside-before Cont life is = inl is
+inside-before (Back t) life is = inl is
+inside-before (Ready t) life is = inl is
+inside-before (Run t) life is = inl is
+inside-before (Take lock) life is = inl is
+inside-before Free life is = inl is
 inside-before (Step x) life is = inr is
 inside-before (Arise b) life is = inr is
 
--- those with a lock after a change
-pub holders-changed : (lives : ℕ → Option Life) (change : Change) (a : ActNo) (has : Bool) (removed : Bool) (h0 h1 h2 : List ℕ)
+-- those with a lock after a change, and those that are in
+pub holders-changed : (lives : ℕ → Option Life) (change : Change) (a : ActNo) (lost : Lost) (h0 h1 h2 : List ℕ)
     → AreAmong has_lock lives h0 → KeepsAll h0 h1 → IsThere (adds_lock change) a.0 h1
-    → has ≡ locks_one (with_life (changed_by change) (Some a) lives a.0) → KeepsOthers a.0 h1 h2 → KeepsUnless removed a.0 h1 h2
-    → (has ≡ true → removed ≡ false) → AreAmong has_lock (with_life (changed_by change) (Some a) lives) h2
-holders-changed lives change a has removed h0 h1 h2 old grown there is others kept stays =
+    → IsLost lost (with_life (changed_by change) (Some a) lives a.0) → KeepsOthers a.0 h1 h2 → KeepsUnless lost.lock a.0 h1 h2
+    → AreAmong has_lock (with_life (changed_by change) (Some a) lives) h2
+holders-changed lives change a lost h0 h1 h2 old grown there is others kept =
     let w = option_map (changed_by change) (lives a.0) in
     let more : AreAmong has_lock lives h1 = among-more has_lock lives h0 h1 old grown in
     among-put has_lock lives h1 h2 a.0 w more others (λ life new passes.
     let at : (x : Life) × (lives a.0 ≡ Some x) × (changed_by change x ≡ life) = option_map_some (changed_by change) (lives a.0) life new in
-    let had : has ≡ true = is ∙ ap locks_one (put-same lives a.0 w ∙ new) ∙ passes in
-    kept.each (stays had) (elim (lock-before change at.0 (ap has_lock at.2 ∙ passes)) [
+    kept.each (is.lock life (put-same lives a.0 w ∙ new) passes) (elim (lock-before change at.0 (ap has_lock at.2 ∙ passes)) [
       | inl before ↦ more.each a.0 at.0 at.1 before
       | inr adds ↦ there.each adds
     ]))
 
-stays-in : (change : Change) → enters change ≡ true → leaves change ≡ false
-stays-in (Stop t) is = refl
-stays-in (Block t) is = refl
-stays-in (Unblock t) is = refl
-stays-in Cont is = refl
-stays-in (Back t) is = refl
-stays-in (Ready t) is = refl
-stays-in (Run t) is = refl
-stays-in (Take lock) is = refl
-stays-in Free is = refl
-stays-in (Step x) is = ap not is
-stays-in (Arise b) is = ap not is
-
--- those that are in after a change
-pub insiders-changed : (lives : ℕ → Option Life) (change : Change) (a : ActNo) (i0 i1 i2 : List ℕ)
+pub insiders-changed : (lives : ℕ → Option Life) (change : Change) (a : ActNo) (lost : Lost) (i0 i1 i2 : List ℕ)
     → AreAmong is_inside lives i0 → KeepsAll i0 i1 → IsThere (enters change) a.0 i1
-    → KeepsOthers a.0 i1 i2 → KeepsUnless (leaves change) a.0 i1 i2
+    → IsLost lost (with_life (changed_by change) (Some a) lives a.0) → KeepsOthers a.0 i1 i2 → KeepsUnless lost.inside a.0 i1 i2
     → AreAmong is_inside (with_life (changed_by change) (Some a) lives) i2
-insiders-changed lives change a i0 i1 i2 old grown there others kept =
+insiders-changed lives change a lost i0 i1 i2 old grown there is others kept =
     let w = option_map (changed_by change) (lives a.0) in
     let more : AreAmong is_inside lives i1 = among-more is_inside lives i0 i1 old grown in
     among-put is_inside lives i1 i2 a.0 w more others (λ life new passes.
     let at : (x : Life) × (lives a.0 ≡ Some x) × (changed_by change x ≡ life) = option_map_some (changed_by change) (lives a.0) life new in
-    elim (inside-before change at.0 (ap is_inside at.2 ∙ passes)) [
-      | inl before ↦ kept.each before.1 (more.each a.0 at.0 at.1 before.0)
-      | inr here ↦ kept.each (stays-in change here) (there.each here)
-    ])
+    kept.each (is.inside life (put-same lives a.0 w ∙ new) passes) (elim (inside-before change at.0 (ap is_inside at.2 ∙ passes)) [
+      | inl before ↦ more.each a.0 at.0 at.1 before
+      | inr here ↦ there.each here
+    ]))
 
 -- where a life loses what it has to that of the last up
 keeps-self : (n : ℕ) (numbers : List ℕ) → KeepsOthers n numbers numbers

@@ -2,6 +2,7 @@ pub mod Among
 pub mod FoundLemmas
 pub mod MapLemmas
 pub mod Numbers
+pub mod PlaceLemmas
 pub mod ReadLemmas
 pub mod RowLemmas
 pub mod ShelfLemmas

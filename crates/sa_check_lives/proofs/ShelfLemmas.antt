@@ -27,7 +27,7 @@ module _ (shelves now : List (List (ℕ × Life))) (view : shelves ≡ now) (i :
       ap (λ k. lives_among (slice_index_or shelves k []) q) on
       ∙ ap (λ shelf. lives_among shelf q) (get_or_default shelves i [] before within ∙ sym was)
 
-  here-after : (q : ℕ) → shelf_of q ≡ i → lives_in (slice_set shelves i after) q ≡ lives_among after q
+  pub here-after : (q : ℕ) → shelf_of q ≡ i → lives_in (slice_set shelves i after) q ≡ lives_among after q
   here-after q on = ap (λ shelf. lives_among shelf q) (get_or-set_at shelves i (shelf_of q) after [] on within)
 
   -- a life elsewhere

@@ -1,5 +1,5 @@
 -- What becomes of a life by a change.
-use Rattle.std.specs.Prelude.{ℕ, ◌+◌, Bool, true, false, not, Option, Some, None}
+use Rattle.std.specs.Prelude.{ℕ, ◌+◌, Bool, true, false, Option, Some, None}
 use Rattle.sa_base.specs.declared.number.ThreadNo.{ThreadNo}
 use Rattle.sa_laws.specs.Life.{Life, Lock, readied, with_lock, without_lock, with_first, ran, with_hand, with_cont, held_with}
 use Rattle.sa_laws.specs.Record.{one_thread, stopped_with, back_with, made_ready}
@@ -44,13 +44,8 @@ abbrev pub adds_lock : Change → Bool
 adds_lock (Take lock) = true
 adds_lock _ = false
 
--- the life is in by the change; it is out by it
+-- the life is in by the change
 abbrev pub enters : Change → Bool
 enters (Step x) = x.inside
 enters (Arise inside) = inside
 enters _ = false
-
-abbrev pub leaves : Change → Bool
-leaves (Step x) = not x.inside
-leaves (Arise inside) = not inside
-leaves _ = false

@@ -1,6 +1,6 @@
 -- The lives of a table, and the lists of numbers that are kept beside it.
 use Rattle.std.specs.Prelude.{◌≡◌, ◌≢◌, ℕ, ◌%◌, ◌==◌, Bool, true, false, not, ◌&&◌, List, Contains, [], Option, Some, None, slice_index_or}
-use Rattle.std.specs.List.{list_any}
+use Rattle.std.specs.List.{list_any, position}
 use Rattle.std.specs.Ordering.{nat_cmp}
 use Rattle.std.specs.BTreeMap.{is_at}
 use Rattle.std.specs.Map.{lookup}
@@ -8,13 +8,18 @@ use Rattle.sa_base.specs.declared.number.ProcNo.{ProcNo}
 use Rattle.sa_base.specs.declared.number.SpaceNo.{SpaceNo}
 use Rattle.sa_base.specs.declared.number.ThreadNo.{ThreadNo}
 use Rattle.sa_base.specs.declared.number.ActNo.{ActNo}
-use Rattle.sa_laws.specs.Life.{Life, Lock}
+use Rattle.sa_laws.specs.Life.{Life, Lock, has_lock}
 use Rattle.sa_laws.specs.Record.{is_thread}
+use Rattle.sa_check_lives.specs.declared.life.Lost.{Lost}
 use Rattle.sa_check_lives.specs.declared.shelves.TheConstants.{SHELVES}
 
 -- the lives of a shelf, by its entries
 abbrev pub lives_among : List (ℕ × Life) → ℕ → Option Life
 lives_among entries a = lookup (is_at (nat_cmp a)) entries
+
+-- the place of a number among the entries
+abbrev pub place_among : List (ℕ × Life) → ℕ → Option ℕ
+place_among entries a = position (λ e. e.0 == a) entries
 
 -- the shelf of a number
 abbrev pub shelf_of : ℕ → ℕ
@@ -30,6 +35,11 @@ pub record AreAmong (test : Life → Bool) (lives : ℕ → Option Life) (number
 
 abbrev pub is_inside : Life → Bool
 is_inside life = life.inside
+
+-- what a change took from a life, where it is there: one that has a lock, or is in, did not lose it
+pub record IsLost (lost : Lost) (here : Option Life) : Type 0 where
+  pub lock : (life : Life) → here ≡ Some life → has_lock life ≡ true → lost.lock ≡ false
+  pub inside : (life : Life) → here ≡ Some life → is_inside life ≡ true → lost.inside ≡ false
 
 -- some life of these numbers passes the test
 abbrev pub some_passes : (ℕ → Option Life → Bool) → (ℕ → Option Life) → List ℕ → Bool

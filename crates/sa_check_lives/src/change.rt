@@ -1,5 +1,5 @@
-ghost use Rattle.std.specs.Prelude.{◌≡◌, true, false};
-ghost use Rattle.sa_check_lives.specs.Change.{adds_lock, enters, leaves};
+ghost use Rattle.std.specs.Prelude.{◌≡◌};
+ghost use Rattle.sa_check_lives.specs.Change.{adds_lock, enters};
 
 use crate::lock::ListLock;
 use sa_base::ThreadNo;
@@ -64,16 +64,6 @@ impl Change {
         }
     }
 
-    /// The change took the last lock from a life, which has one or not then.
-    pub fn bares(&self, has_lock: bool) -> bool
-        ensures { has_lock ≡ true → result ≡ false }
-    {
-        match self {
-            Change::Free => !has_lock,
-            _ => false,
-        }
-    }
-
     /// The life is in by the change.
     pub fn enters(&self) -> bool
         ensures { result ≡ enters self.now }
@@ -81,17 +71,6 @@ impl Change {
         match self {
             Change::Step(stepped) => stepped.inside,
             Change::Arise(inside) => *inside,
-            _ => false,
-        }
-    }
-
-    /// The life is out by the change.
-    pub fn leaves(&self) -> bool
-        ensures { result ≡ leaves self.now }
-    {
-        match self {
-            Change::Step(stepped) => !stepped.inside,
-            Change::Arise(inside) => !*inside,
             _ => false,
         }
     }

@@ -1,7 +1,8 @@
-ghost use Rattle.std.specs.Prelude.{◌≡◌, ◌↔◌, ◌+◌, ◌≤◌, ◌++◌, length, vec_len, vec_capacity, not, filter, map, IsTrue, OnOk, OnErr, Contains};
+ghost use Rattle.std.specs.Prelude.{◌≡◌, ◌↔◌, ◌+◌, ◌≤◌, ◌++◌, length, vec_len, vec_capacity, not, filter, map, Some, IsTrue, IfOk, OnOk, OnErr, Contains};
 ghost use Rattle.sa_laws.specs.Life.{new_life, has_lock, first_lock, same_thread, without_lock, with_first, change_first, ran, with_hand, inherits, inherited, bereft};
 ghost use Rattle.sa_laws.specs.Record.{one_thread, made_ready};
 ghost use Rattle.sa_check_lives.specs.Change.{changed_by, stepped_by, used_by};
+ghost use Rattle.sa_check_lives.specs.Table.{IsLost};
 
 use crate::change::{Change, Scan, Stepped};
 use crate::lock::ListLock;
@@ -9,6 +10,20 @@ use sa_base::{ProcNo, SpaceNo, ThreadNo};
 use std::alloc::{AllocError, Global};
 use std::marker::Model;
 use std::mem;
+
+// What a change took from a life: the last of its locks, and that it was in.
+#[derive(Clone, Copy, Debug, PartialEq, Eq)]
+pub(crate) struct Lost {
+    pub(crate) lock: bool,
+    pub(crate) inside: bool,
+}
+
+impl Lost {
+    pub(crate) const NOTHING: Lost = Lost {
+        lock: false,
+        inside: false,
+    };
+}
 
 /// A life: what runs from an upcall on, under the number of its activation.
 #[derive(Debug, Drop)]
@@ -181,6 +196,20 @@ impl KeptLife {
             Change::Arise(inside) => self.inside = inside,
         }
         Ok(())
+    }
+
+    // Changes the life, and says what it lost by it. An error changes nothing.
+    pub(crate) fn write(&mut self, change: &Change) -> Result<Lost, AllocError>
+        ensures ok { OnOk result (self.new ≡ changed_by change.now self.old) }
+        ensures lost { IfOk result (λ lost. IsLost lost (Some self.new)) }
+        ensures err { OnErr result (self.new ≡ self.old) }
+    {
+        let (had_lock, was_inside) = (self.has_lock(), self.inside);
+        self.change(change)?;
+        Ok(Lost {
+            lock: had_lock && !self.has_lock(),
+            inside: was_inside && !self.inside,
+        })
     }
 
     // A thread joins the hand, if there is one.

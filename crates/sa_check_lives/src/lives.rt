@@ -20,9 +20,10 @@ use std::alloc::{AllocError, Global};
 use std::marker::Model;
 
 /// The lives of a history. Each call that changes them does what one record does; each may fail for want of memory, and
-/// then nothing is changed. A call takes logarithmic time in the number of lives, times what it hands over, and goes
-/// through the lives that have locks where one is freed, through those that are in where one is out, and through the
-/// row of a space where a life is given back; a notice that is told is looked for in what is untold.
+/// then nothing is changed. A call goes through the few lives whose numbers share one of 512 shelves, and through what it
+/// hands over; through the lives that have locks where one frees its last, through those that are in where one is out
+/// that was in, and through the row of a space where a life is given back; a notice that is told is looked for in what
+/// is untold.
 #[derive(Debug, Drop)]
 pub struct Lives {
     alloc: Global,

@@ -3,19 +3,18 @@ ghost use Rattle.std.specs.Prelude.{◌≡◌, ◌<◌, [], IfOk, IfNone, OnOk, 
 ghost use Rattle.std.specs.Option.{option_copied};
 ghost use Rattle.sa_lemmas.specs.Function.{put};
 ghost use Rattle.sa_laws.specs.Life.{with_hand, inherits, bereft};
-ghost use Rattle.sa_laws.specs.Record.{with_life, locks_one};
+ghost use Rattle.sa_laws.specs.Record.{with_life};
 ghost use Rattle.sa_check_lives.specs.Change.{changed_by};
-ghost use Rattle.sa_check_lives.specs.Table.{lives_among, lives_in, shelf_of};
+ghost use Rattle.sa_check_lives.specs.Table.{lives_among, lives_in, place_among, shelf_of, IsLost};
 
 use crate::change::Change;
-use crate::life::KeptLife;
+use crate::life::{KeptLife, Lost};
 use sa_base::{ActNo, ThreadNo};
 use std::alloc::{AllocError, Global};
-use std::collections::BTreeMap;
 use std::marker::Model;
 
 /// How many shelves there are. Numbers are handed out in order, so that few of the lives in use share one.
-pub(crate) const SHELVES: usize = 64;
+pub(crate) const SHELVES: usize = 512;
 
 // The lives by their numbers.
 #[derive(Debug, Drop)]
@@ -77,11 +76,11 @@ impl Shelves {
         self.shelves[shelf_of(a.0)].remove(a);
     }
 
-    // Changes the life of this number, if there is one, and says whether it has a lock then. An error changes nothing.
-    pub(crate) fn write(&mut self, a: ActNo, change: &Change) -> Result<bool, AllocError>
+    // Changes the life of this number, if there is one, and says what it lost by it. An error changes nothing.
+    pub(crate) fn write(&mut self, a: ActNo, change: &Change) -> Result<Lost, AllocError>
         ensures ok { OnOk result
             (lives_in self.new ≡ with_life (changed_by change.now) (Some a) (lives_in self.old)) }
-        ensures lock { IfOk result (λ has. has ≡ locks_one (lives_in self.new a.0)) }
+        ensures lost { IfOk result (λ lost. IsLost lost (lives_in self.new a.0)) }
         ensures err { OnErr result (lives_in self.new ≡ lives_in self.old) }
     {
         self.shelves[shelf_of(a.0)].write(a, change)
@@ -122,10 +121,10 @@ impl Shelves {
     }
 }
 
-// One shelf, with the lives whose numbers are its.
+// One shelf, with the lives whose numbers are its: mostly one, and so they are looked through.
 #[derive(Debug, Drop)]
 struct Shelf {
-    map: BTreeMap<u64, KeptLife>,
+    lives: Vec<(u64, KeptLife)>,
 }
 
 impl Model for Shelf {
@@ -134,7 +133,7 @@ impl Model for Shelf {
 
     ghost Value = { List (ℕ × Life) };
 
-    ghost view = { λ x. x.map.entries };
+    ghost view = { λ x. x.lives.items };
 }
 
 // What each call of the shelves does on the one shelf.
@@ -143,41 +142,44 @@ impl Shelf {
         ensures { result ≡ [] }
     {
         Shelf {
-            map: BTreeMap::new(alloc),
+            lives: Vec::new(alloc),
         }
     }
 
     fn get(&self, a: u64) -> Option<&KeptLife>
         ensures { option_copied result ≡ lives_among self.now a }
     {
-        self.map.get(&a)
+        let place = place_of(self.lives.as_slice(), a)?;
+        Some(&self.lives[place].1)
     }
 
     fn insert(&mut self, a: ActNo, life: KeptLife) -> Result<(), AllocError>
         ensures ok { OnOk result (lives_among self.new ≡ put (lives_among self.old) a.0 (Some life)) }
         ensures err { OnErr result (lives_among self.new ≡ lives_among self.old) }
     {
-        self.map.insert(a.0, life)?;
+        match place_of(self.lives.as_slice(), a.0) {
+            Some(place) => self.lives[place] = (a.0, life),
+            None => self.lives.push((a.0, life))?,
+        }
         Ok(())
     }
 
     fn remove(&mut self, a: ActNo)
         ensures { lives_among self.new ≡ put (lives_among self.old) a.0 None }
     {
-        let _ = self.map.remove(&a.0);
+        self.lives.retain(|entry| entry.0 != a.0);
     }
 
-    fn write(&mut self, a: ActNo, change: &Change) -> Result<bool, AllocError>
+    fn write(&mut self, a: ActNo, change: &Change) -> Result<Lost, AllocError>
         ensures ok { OnOk result
             (lives_among self.new ≡ with_life (changed_by change.now) (Some a) (lives_among self.old)) }
-        ensures lock { IfOk result (λ has. has ≡ locks_one (lives_among self.new a.0)) }
+        ensures lost { IfOk result (λ lost. IsLost lost (lives_among self.new a.0)) }
         ensures err { OnErr result (lives_among self.new ≡ lives_among self.old) }
     {
-        let Some(life) = self.map.get_mut(&a.0) else {
-            return Ok(false);
+        let Some(place) = place_of(self.lives.as_slice(), a.0) else {
+            return Ok(Lost::NOTHING);
         };
-        life.change(change)?;
-        Ok(life.has_lock())
+        self.lives[place].1.write(change)
     }
 
     fn rouse(&mut self, a: ActNo, threads: &[ThreadNo]) -> Result<(), AllocError>
@@ -185,10 +187,10 @@ impl Shelf {
             ≡ with_life (with_hand threads.now) (Some a) (lives_among self.old)) }
         ensures err { OnErr result (lives_among self.new ≡ lives_among self.old) }
     {
-        let Some(life) = self.map.get_mut(&a.0) else {
+        let Some(place) = place_of(self.lives.as_slice(), a.0) else {
             return Ok(());
         };
-        life.rouse(threads)
+        self.lives[place].1.rouse(threads)
     }
 
     fn inherit(&mut self, a: ActNo, from: &KeptLife) -> Result<(), AllocError>
@@ -196,10 +198,10 @@ impl Shelf {
             ≡ with_life (inherits from.now) (Some a) (lives_among self.old)) }
         ensures err { OnErr result (lives_among self.new ≡ lives_among self.old) }
     {
-        let Some(life) = self.map.get_mut(&a.0) else {
+        let Some(place) = place_of(self.lives.as_slice(), a.0) else {
             return Ok(());
         };
-        life.inherit(from)
+        self.lives[place].1.inherit(from)
     }
 
     fn bereave(&mut self, a: ActNo, alloc: Global) -> Option<KeptLife>
@@ -207,16 +209,24 @@ impl Shelf {
         ensures now { lives_among self.new ≡ with_life bereft (Some a) (lives_among self.old) }
         ensures none { IfNone result (lives_among self.new ≡ lives_among self.old) }
     {
-        let life = self.map.get_mut(&a.0)?;
-        Some(life.bereave(alloc))
+        let place = place_of(self.lives.as_slice(), a.0)?;
+        Some(self.lives[place].1.bereave(alloc))
     }
 
     fn put_back(&mut self, a: ActNo, life: KeptLife)
         ensures { lives_among self.new
             ≡ with_life (λ other. life) (Some a) (lives_among self.old) }
     {
-        if let Some(place) = self.map.get_mut(&a.0) {
-            *place = life;
-        }
+        let Some(place) = place_of(self.lives.as_slice(), a.0) else {
+            return;
+        };
+        self.lives[place].1 = life;
     }
+}
+
+// The place of a number among the lives of a shelf.
+fn place_of(lives: &[(u64, KeptLife)], a: u64) -> Option<usize>
+    ensures { result ≡ place_among lives.now a }
+{
+    lives.iter().position(|entry| entry.0 == a)
 }

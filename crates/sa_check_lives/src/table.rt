@@ -95,9 +95,9 @@ impl Table {
         };
         add_if(&mut self.holders, a.0, change.adds_lock())?;
         add_if(&mut self.insiders, a.0, change.enters())?;
-        let has_lock = self.lives.write(a, change)?;
-        remove_if(&mut self.holders, a.0, change.bares(has_lock));
-        remove_if(&mut self.insiders, a.0, change.leaves());
+        let lost = self.lives.write(a, change)?;
+        remove_if(&mut self.holders, a.0, lost.lock);
+        remove_if(&mut self.insiders, a.0, lost.inside);
         Ok(())
     }
 
