@@ -1,5 +1,5 @@
 -- Giving the processors in rounds gives the shares.
-use Rattle.std.proofs.Common.{◌≡◌, ◌≢◌, ℕ, ◌+◌, ◌<◌, ◌≤◌, sym, subst, ap, ◌∙◌, arith, refl, inl, inr, List, [], length, set, sum, Option, Some, None, get_or-set_same, get_or-set_other, below_more}
+use Rattle.std.proofs.Common.{◌≡◌, ◌≢◌, ℕ, ◌+◌, ◌<◌, ◌≤◌, sym, subst, ap, ◌∙◌, arith, inl, inr, List, [], length, set, sum, Option, get_or-set_same, get_or-set_other, below_more}
 use Rattle.std.specs.Prelude.{MatchOption}
 use Rattle.std.proofs.lemmas.Bool.{cases_eq, cases_lt}
 use Rattle.std.proofs.lemmas.List.Sums.{sum_by-set}
@@ -7,7 +7,7 @@ use Rattle.sa_share.specs.declared.Claim.{Claim}
 use Rattle.sa_share.specs.Share.{priority_at, want_at, share_at, rank_of, IsShare, WantsMore}
 use Rattle.sa_share.specs.Turn.{IsNext}
 use Rattle.sa_share.specs.Serving.{AreMet, IsLevel, IsHighest}
-use Rattle.sa_share.proofs.ShareLemmas.{IsLe, sum-le, sum-same, wants, get_or-wants, sum-wants, want_at-past, WantsMore-within, IsShare-more}
+use Rattle.sa_share.proofs.ShareLemmas.{IsLe, sum-le, sum-same, wants, get_or-wants, sum-wants, WantsMore-within, IsShare-more}
 use Rattle.sa_share.proofs.TurnLemmas.{rank_of-same}
 
 -- whole wants that the processors suffice for are the shares
@@ -192,51 +192,6 @@ pub record IsHighestBelow (k : ℕ) (claims : List Claim) (shares : List ℕ) (p
 abbrev pub IsHighestSoFar : ℕ → List Claim → List ℕ → Option ℕ → Type 0
 IsHighestSoFar k claims shares highest = MatchOption highest ((s : ℕ) → s < k → want_at claims s ≤ share_at shares s) (IsHighestBelow k claims shares)
 
--- the priority is above the highest so far, if there is one
-abbrev pub IsAbove : ℕ → Option ℕ → Type 0
-IsAbove priority highest = MatchOption highest (Unit {0}) (λ other. other < priority)
-
--- the space k wants no more, or its priority is not above the highest so far
-pub highest-kept : (k : ℕ) (claims : List Claim) (shares : List ℕ) (highest : Option ℕ)
-    → (WantsMore claims shares k → IsAbove (priority_at claims k) highest → ⊥) → IsHighestSoFar k claims shares highest
-    → IsHighestSoFar (k + 1) claims shares highest
-highest-kept k claims shares None stays so_far = below_more _ _ so_far (elim (cases_lt (share_at shares k) (want_at claims k)) [
-  | inl more ↦ absurd (stays more tt)
-  | inr met ↦ met
-])
-highest-kept k claims shares (Some p) stays so_far = record {
-  some = (so_far.some.0, omega (arith, so_far.some.1), so_far.some.2, so_far.some.3);
-  most = below_more _ _ so_far.most (λ more. elim (cases_lt p (priority_at claims k)) [ inl above ↦ absurd (stays more above) | inr low ↦ low ]);
-}
-
--- the space k wants more, and its priority is above the highest so far
-pub highest-rises : (k : ℕ) (claims : List Claim) (shares : List ℕ) (highest : Option ℕ) → WantsMore claims shares k
-    → IsAbove (priority_at claims k) highest → IsHighestSoFar k claims shares highest
-    → IsHighestSoFar (k + 1) claims shares (Some (priority_at claims k))
-highest-rises k claims shares highest more above so_far = record {
-  some = (k, omega arith, refl, more);
-  most = below_more _ _ (λ s below wants. low highest above so_far s below wants) (λ _. omega arith);
-} where
-  low : (highest : Option ℕ) → IsAbove (priority_at claims k) highest → IsHighestSoFar k claims shares highest → (s : ℕ) → s < k
-      → WantsMore claims shares s → priority_at claims s ≤ priority_at claims k
-  low None above so_far s below wants = let e = so_far s below in absurd (omega arith)
-  low (Some p) above so_far s below wants = let e = so_far.most s below wants in omega arith
-
--- what is known once all spaces were looked at
-pub highest-none : (k : ℕ) (claims : List Claim) (shares : List ℕ) → length claims ≤ k → IsHighestSoFar k claims shares None
-    → (s : ℕ) → want_at claims s ≤ share_at shares s
-highest-none k claims shares all so_far s = elim (cases_lt s (length claims)) [
-  | inl below ↦ so_far s (omega arith)
-  | inr past ↦ let e = want_at-past claims s past in omega arith
-]
-
-pub highest-some : (claims : List Claim) (shares : List ℕ) (priority : ℕ) → IsHighestSoFar (length claims) claims shares (Some priority)
-    → IsHighest claims shares priority
-highest-some claims shares priority so_far = record {
-  some = so_far.some;
-  most = λ s more. so_far.most s (WantsMore-within claims shares s more) more;
-}
-
 -- nothing was given yet
 pub level-none : (claims : List Claim) (shares : List ℕ) → sum shares ≡ 0 → IsLevel claims shares
 level-none claims shares empty s t same more_s more_t = sym (none s) ∙ none t where
@@ -262,9 +217,3 @@ met-more k claims wants room below =
         none = λ s after. let ne : s ≢ k = omega arith in get_or-set_other wants k s want 0 ne ∙ below.none s (omega arith);
       },
     )
-
-pub met-all : (claims : List Claim) (wants : List ℕ) → AreMetBelow (length claims) claims wants → AreMet claims wants
-met-all claims wants below s = elim (cases_lt s (length claims)) [
-  | inl inside ↦ below.met s inside
-  | inr past ↦ below.none s past ∙ sym (want_at-past claims s past)
-]
