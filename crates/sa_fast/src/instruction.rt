@@ -107,9 +107,9 @@ fn tell_records(
     }
 }
 
-// The effect of an instruction at which the thread stands.
+// The effect of an instruction at which the thread stands. Its space is there for what the clauses say of it alone.
 fn does(
-    def: &SpaceDef,
+    _def: &SpaceDef,
     fetch: u32,
     shared: &mut Shared,
     work: &mut Option<ThreadNo>,
@@ -117,21 +117,22 @@ fn does(
     instr: Instr,
     seen: &Seen,
 ) -> Ran
-    requires can { CanRun def.now shared.old work.old t }
-    requires instr { instr ≡ instr_of def.now (block_at shared.old.threads t.0) }
+    requires can { CanRun _def.now shared.old work.old t }
+    requires instr { instr ≡ instr_of _def.now (block_at shared.old.threads t.0) }
     requires next { instr ≢ Instr.End → (block_at shared.old.threads t.0).pc + 1 < MAX_INSTRUCTIONS }
     requires range { IsInRange instr }
-    requires named { NamesDeclared def.now.mutexes (length def.now.sems) def.now.cells
-        (length def.now.programs) instr }
-    requires few { length def.now.programs ≤ MAX_PROGRAMS }
+    requires named { NamesDeclared _def.now.mutexes (length _def.now.sems) _def.now.cells
+        (length _def.now.programs) instr }
+    requires few { length _def.now.programs ≤ MAX_PROGRAMS }
     ensures { record { shared = shared.new; work = work.new; answer = result }
         ≡ outcome_of fetch seen.now.pages shared.old work.old t (block_at shared.old.threads t.0) instr }
 {
     shared.sync.waits_once();
     match instr {
-        Instr::Compute | Instr::Set(..) | Instr::Add(..) | Instr::Sub(..) | Instr::Jnz(..) => go(
-            def, shared, t,
-        ),
+        Instr::Compute | Instr::Set(..) | Instr::Add(..) | Instr::Sub(..) | Instr::Jnz(..) => {
+            shared.threads.go(t, instr);
+            Ran::Goes
+        }
         Instr::Load(reg, cell) => {
             let value = shared.sync.load(cell);
             shared.threads.take_value(t, reg, value);
@@ -196,18 +197,6 @@ fn moved(mut block: Block, place: Place) -> Block
 {
     block.place = place;
     block
-}
-
-// An instruction that stays within its thread.
-fn go(def: &SpaceDef, shared: &mut Shared, t: ThreadNo) -> Ran
-    requires thread { t.0 < MAX_THREADS }
-    requires at { IsAt def.now (block_at shared.old.threads t.0) }
-    ensures { let b = block_at shared.old.threads t.0 in
-        (w : _) → outcome shared.new w result ≡ went shared.old w t b (instr_of def.now b) }
-{
-    let program = usize::from(shared.threads.program(t));
-    shared.threads.go(t, &def.programs()[program]);
-    Ran::Goes
 }
 
 // What an answer of what the threads wait on does to the calling thread, whose block is that after its instruction.

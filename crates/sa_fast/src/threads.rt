@@ -1,11 +1,11 @@
 // The blocks of a space's threads.
 ghost use Rattle.std.specs.Prelude.{◌≡◌, ◌<◌, ◌≤◌, ◌+◌, ℕ, count_by, cond, IfOk, length, replicate, take};
-ghost use Rattle.sa_instr.specs.Local.{instr_at, pc_after, regs_after};
+ghost use Rattle.sa_instr.specs.Local.{pc_after, regs_after};
 ghost use Rattle.sa_instr.specs.Regs.{reg_value, with_reg};
 ghost use Rattle.sa_fast.specs.Threads.{unmade, block_at, with_block, gone_to, moved_to, is_loaded, is_active, is_done};
 
 use sa_base::{MAX_THREADS, ThreadNo};
-use sa_instr::{MAX_INSTRUCTIONS, Program, Reg, Regs, local};
+use sa_instr::{Instr, MAX_INSTRUCTIONS, Reg, Regs};
 use std::alloc::{AllocError, Global};
 use std::marker::Model;
 
@@ -124,14 +124,6 @@ impl Threads {
         &self.blocks[t.0 as usize]
     }
 
-    // The number of a thread's program.
-    pub(crate) fn program(&self, t: ThreadNo) -> u16
-        requires { t.0 < MAX_THREADS }
-        ensures { result ≡ (block_at self.now t.0).program }
-    {
-        self.blocks[t.0 as usize].program
-    }
-
     // What is in a register of a thread.
     pub(crate) fn value(&self, t: ThreadNo, reg: Reg) -> u64
         requires { t.0 < MAX_THREADS }
@@ -166,17 +158,15 @@ impl Threads {
         self.blocks[t.0 as usize].place = place;
     }
 
-    // A thread runs the instruction of its program at which it stands, which is local.
-    pub(crate) fn go(&mut self, t: ThreadNo, program: &Program)
+    // A thread does this instruction where it is local.
+    pub(crate) fn go(&mut self, t: ThreadNo, instr: Instr)
         requires thread { t.0 < MAX_THREADS }
-        requires inside { (block_at self.old t.0).pc < length program.now }
+        requires next { (block_at self.old t.0).pc + 1 < MAX_INSTRUCTIONS }
         ensures { let b = block_at self.old t.0 in
-            let i = instr_at program.now b.pc in
-            self.new ≡ with_block self.old t.0 (gone_to b (pc_after i b.pc b.regs) (regs_after i b.regs)) }
+            self.new ≡ with_block self.old t.0 (gone_to b (pc_after instr b.pc b.regs) (regs_after instr b.regs)) }
     {
         self.used = self.used.max(t.0 + 1);
-        let block = &mut self.blocks[t.0 as usize];
-        local(program, &mut block.regs, &mut block.pc);
+        go_by(&mut self.blocks[t.0 as usize], instr);
     }
 
     // A thread goes on at the next place.
@@ -198,9 +188,7 @@ impl Threads {
             self.new ≡ with_block self.old t.0 (gone_to b (b.pc + 1) (with_reg b.regs reg value)) }
     {
         self.used = self.used.max(t.0 + 1);
-        let block = &mut self.blocks[t.0 as usize];
-        block.regs.set(reg, value);
-        block.pc += 1;
+        go_with(&mut self.blocks[t.0 as usize], reg, value);
     }
 
     /// The blocks of the first threads; no thread after them was made.
@@ -231,6 +219,44 @@ impl Threads {
     {
         self.done
     }
+}
+
+// What an instruction makes of a thread's block where it is local; any other leaves it.
+fn go_by(block: &mut Block, instr: Instr)
+    requires { block.old.pc + 1 < MAX_INSTRUCTIONS }
+    ensures { let b = block.old in
+        block.new ≡ gone_to b (pc_after instr b.pc b.regs) (regs_after instr b.regs) }
+{
+    match instr {
+        Instr::Compute => block.pc += 1,
+        Instr::Set(reg, n) => go_with(block, reg, n),
+        Instr::Add(reg, other) => {
+            let sum = block.regs.get(reg).wrapping_add(block.regs.get(other));
+            go_with(block, reg, sum);
+        }
+        Instr::Sub(reg, other) => {
+            let difference = block.regs.get(reg).wrapping_sub(block.regs.get(other));
+            go_with(block, reg, difference);
+        }
+        Instr::Jnz(reg, place) => {
+            block.pc = if block.regs.get(reg) == 0 {
+                block.pc + 1
+            } else {
+                place
+            };
+        }
+        _ => {}
+    }
+}
+
+// The thread goes on at the next place, with a value in a register.
+fn go_with(block: &mut Block, reg: Reg, value: u64)
+    requires { block.old.pc + 1 < MAX_INSTRUCTIONS }
+    ensures { let b = block.old in
+        block.new ≡ gone_to b (b.pc + 1) (with_reg b.regs reg value) }
+{
+    block.regs.set(reg, value);
+    block.pc += 1;
 }
 
 // A count of things of which one changed: whether it counted, and whether it counts now.

@@ -74,8 +74,6 @@ pub(crate) fn place(shared: &mut Shared, thread: Option<ThreadNo>, place: Place)
     ensures { shared.new ≡ placed shared.old thread place }
 {
     if let Some(t) = thread {
-        let mut block = shared.threads.block(t);
-        block.place = place;
-        shared.threads.set(t, block);
+        shared.threads.set_place(t, place);
     }
 }

@@ -6,7 +6,8 @@ use Rattle.sa_instr.specs.declared.instr.Instr.{Instr}
 use Rattle.sa_fast.specs.declared.threads.Block.{Block}
 use Rattle.sa_fast.specs.declared.shared.Shared.{Shared}
 use Rattle.sa_fast.specs.Threads.{block_at}
-use Rattle.sa_fast.specs.Instruction.{went, outcome_of}
+use Rattle.sa_fast.specs.declared.instruction.Ran.TheVariants.{Goes}
+use Rattle.sa_fast.specs.Instruction.{outcome, went, outcome_of}
 use Rattle.sa_fast.proofs.WakeLemmas.{woken_free}
 use Rattle.sa_fast.proofs.instruction.does.Goals as goal
 
@@ -31,7 +32,7 @@ pub returns-in-Compute : goal.returns-in-Compute
 returns-in-Compute c =
     let a = c.args in let b = block_at a.shared.now.threads a.t.0 in
     let same = as_local a.fetch a.seen.now.pages a.shared.now a.work.now a.t b a.instr in
-    c.go.ensures a.work.now ∙ ap (went a.shared.now a.work.now a.t b) (sym c.requires.instr)
+    ap (λ threads. outcome (record a.shared.now { threads = threads }) a.work.now Goes) c.go.ensures
     ∙ sym (elim c.in-Compute.is [
       | inl compute ↦ same _ compute refl
       | inr other ↦ elim other [
