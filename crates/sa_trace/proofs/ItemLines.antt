@@ -1,12 +1,10 @@
 -- What is read of a line of a common form.
 use Rattle.std.proofs.Common.{◌≡◌, ℕ, ◌+◌, ◌-◌, ◌*◌, ◌/◌, ◌%◌, ◌<◌, ◌≤◌, true, ◌++◌, List, [], ◌∷◌, length, take, get_or, Ok, ap, ap₂, sym, ◌∙◌, arith, append_assoc, add-one}
-use Rattle.std.specs.Prelude.{decimal, Bool, Option, Some, None, IfSome}
+use Rattle.std.specs.Prelude.{decimal}
 use Rattle.std.proofs.lemmas.Fmt.{decimal_step, decimal_digit}
 use Rattle.std.proofs.Math.Seq.{take-suc}
 use Rattle.sa_base.specs.declared.record.Item.{Item}
 use Rattle.sa_text.specs.LineText.{LineText}
-use Rattle.sa_text.specs.Line.{text_of_line}
-use Rattle.sa_text.specs.declared.line_reader.Line.{Line}
 use Rattle.sa_trace.specs.declared.so_far.SoFar.{SoFar}
 use Rattle.sa_trace.specs.declared.line.Said.TheVariants.{Next}
 use Rattle.sa_trace.specs.TraceText.{item_text}
@@ -49,14 +47,16 @@ pub digit_front : (b : ℕ) (rest : List ℕ) → 48 ≤ b → b ≤ 57 → b �
 digit_front b rest low high =
     ap (λ k. k ∷ rest) (let e : b ≡ 48 + (b - 48) = omega arith in e) ∙ ap (λ z. z ++ rest) (sym (decimal_digit (b - 48) (omega arith)))
 
--- an item that is found at a line of a text is what the line says
-pub found_line : (so : SoFar) (text : List ℕ) (line : Line) (found : Option Item) → line.ended ≡ true
-    → IfSome found (λ item. (text_of_line text line).bytes ≡ item_text item) → IfSome found FitsItem → IfSome found (MayFollow so.last)
-    → IfSome found (λ item. line_in so (text_of_line text line) ≡ Ok (Next item))
-found_line so text line None ended is fits follows = tt
-found_line so text line (Some item) ended is fits follows =
-    ap (λ (b : Bool). line_in so (let l : LineText = record { bytes = (text_of_line text line).bytes; ended = b } in l)) ended
-    ∙ item_line so item (text_of_line text line).bytes is fits follows
-
+-- a zero
 pub zero_front : (rest : List ℕ) → 48 ∷ rest ≡ decimal 0 ++ rest
 zero_front rest = digit_front 48 rest (omega arith) (omega arith)
+
+-- two digits at the front of some bytes
+pub digits_front : (a b : ℕ) (rest : List ℕ) → 49 ≤ a → a ≤ 57 → 48 ≤ b → b ≤ 57 → a ∷ b ∷ rest ≡ decimal ((a - 48) * 10 + (b - 48)) ++ rest
+digits_front a b rest some few low high =
+    let d : ℕ = b - 48 in
+    let byte : 48 + d ≡ b = omega arith in
+    digit_front a (b ∷ rest) (omega arith) few
+    ∙ sym (append_assoc (decimal (a - 48)) (b ∷ []) rest)
+    ∙ ap (λ k. (decimal (a - 48) ++ k ∷ []) ++ rest) (sym byte)
+    ∙ ap (λ z. z ++ rest) (decimal_more (a - 48) d (omega arith) (omega arith) (omega arith))

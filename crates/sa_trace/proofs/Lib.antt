@@ -11,4 +11,5 @@ pub mod Whole
 pub mod FirstBad
 pub mod ReadOn
 pub mod ItemLines
+pub mod FirstLine
 mod LossLines

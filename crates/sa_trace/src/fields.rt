@@ -68,6 +68,7 @@ pub(crate) fn push_number(out: &mut Lines, n: u64)
 }
 
 // Appends a space and a field: its number, or a dash where it is absent.
+#[inline]
 fn push_field(out: &mut Lines, value: Option<u64>)
     requires { array_vec_len out.old + FIELD ≤ LINES }
     ensures text { out.new.items ≡ out.old.items ++ field value }
@@ -91,6 +92,7 @@ fn push_fields(out: &mut Lines, values: &[Option<u64>])
 }
 
 /// Appends a space, the word of the record's kind and the record's fields.
+#[inline]
 pub(crate) fn push_record(out: &mut Lines, what: &Record)
     requires { array_vec_len out.old + RECORD ≤ LINES }
     ensures text { out.new.items ≡ out.old.items ++ codes " " ++ record_text what.now }
@@ -109,6 +111,7 @@ pub(crate) fn push_record(out: &mut Lines, what: &Record)
 }
 
 // Appends a word and a number as a field.
+#[inline]
 fn push_one(out: &mut Lines, word: &[u8], a: u16)
     requires { array_vec_len out.old + length word.now + FIELD ≤ LINES }
     ensures text { out.new.items ≡ out.old.items ++ word.now ++ field (Some a) }
@@ -119,6 +122,7 @@ fn push_one(out: &mut Lines, word: &[u8], a: u16)
 }
 
 // Appends a word, a space's number and another number as fields.
+#[inline]
 fn push_two(out: &mut Lines, word: &[u8], s: SpaceNo, a: u16)
     requires { array_vec_len out.old + length word.now + 2 * FIELD ≤ LINES }
     ensures text { out.new.items ≡ out.old.items ++ word.now ++ field (Some s.0) ++ field (Some a) }
@@ -129,6 +133,7 @@ fn push_two(out: &mut Lines, word: &[u8], s: SpaceNo, a: u16)
 }
 
 // Appends a word, a space's number and two other numbers as fields.
+#[inline]
 fn push_three(out: &mut Lines, word: &[u8], s: SpaceNo, a: u16, b: u16)
     requires { array_vec_len out.old + length word.now + 3 * FIELD ≤ LINES }
     ensures text { out.new.items

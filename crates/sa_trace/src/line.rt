@@ -1,13 +1,11 @@
 // What a line of a trace text says after the items before it.
-ghost use Rattle.std.specs.Prelude.{◌≡◌, Ok, IfSome};
+ghost use Rattle.std.specs.Prelude.{◌≡◌, MatchResult};
 ghost use Rattle.sa_text.specs.Line.{IsWithin, text_of_line};
-ghost use Rattle.sa_trace.specs.declared.line.Said.TheVariants.{Next};
 ghost use Rattle.sa_trace.specs.Pieces.{number_in};
 ghost use Rattle.sa_trace.specs.Line.{least_event, processor_in, record_in, item_at, counts_at, end_at, said_by, line_in};
 
 use crate::from_parts::record_with;
 use crate::pieces::{check_counts, read_end, read_fields, read_kind};
-use crate::quick::quick_item;
 use crate::so_far::SoFar;
 use crate::words::{next, read_pieces, read_within};
 use sa_base::{Cause, End, Item, ProcNo, Record};
@@ -24,28 +22,6 @@ pub enum Said {
 
 /// What the line says after what is so far, or the first thing that is wrong with it.
 pub(crate) fn read_line(so_far: &SoFar, text: &[u8], line: Line) -> Result<Said, Cause>
-    requires { IsWithin text.now line }
-    ensures { result ≡ line_in so_far.now (text_of_line text.now line) }
-{
-    match quick_line(so_far, text, line) {
-        Some(item) => Ok(Said::Next(item)),
-        None => read_any(so_far, text, line),
-    }
-}
-
-// The item that the line tells after what is so far, if it is of a common form.
-fn quick_line(so_far: &SoFar, text: &[u8], line: Line) -> Option<Item>
-    requires { IsWithin text.now line }
-    ensures { IfSome result (λ item. line_in so_far.now (text_of_line text.now line) ≡ Ok (Next item)) }
-{
-    if !line.ended {
-        return None;
-    }
-    quick_item(so_far, &text[line.start..line.end])
-}
-
-// The same of a line of any form.
-fn read_any(so_far: &SoFar, text: &[u8], line: Line) -> Result<Said, Cause>
     requires { IsWithin text.now line }
     ensures { result ≡ line_in so_far.now (text_of_line text.now line) }
 {

@@ -1,7 +1,7 @@
-// A line of a common form, read in one pass over its bytes.
-ghost use Rattle.std.specs.Prelude.{◌≡◌, ◌<◌, ◌↔◌, ◌∷◌, ◌++◌, Some, IfSome, IsTrue, codes, decimal};
+// A line of a common form, read in one pass over the bytes from it on.
+ghost use Rattle.std.specs.Prelude.{◌≡◌, ◌+◌, ◌*◌, ◌<◌, ◌≤◌, ◌↔◌, ◌∷◌, ◌++◌, Some, IfSome, IsTrue, codes, decimal, length};
 ghost use Rattle.sa_trace.specs.Parts.{parts_of, FitTheKind};
-ghost use Rattle.sa_trace.specs.TraceText.{field, record_text, item_text};
+ghost use Rattle.sa_trace.specs.TraceText.{field, record_text, line_of};
 ghost use Rattle.sa_trace.specs.Text.{FitsItem, MayFollow};
 
 use crate::so_far::SoFar;
@@ -9,6 +9,18 @@ use sa_base::{Item, ProcNo, Record, SpaceNo, ThreadNo};
 
 // Digits are read on only behind a number up to this one, so that none is too large for 64 bits.
 const MOST: u64 = 100_000_000_000_000_000;
+
+// The bytes of a space and a number of 16 bits at most, and those of what follows the event of a line of a common form.
+const FIELD: usize = 6;
+
+const BEHIND: usize = 32;
+
+/// An item, and the bytes behind its line.
+#[derive(Clone, Copy)]
+pub(crate) struct Found<'a> {
+    pub(crate) item: Item,
+    pub(crate) rest: &'a [u8],
+}
 
 // A number at the front of bytes, and the bytes behind it.
 #[derive(Clone, Copy)]
@@ -24,21 +36,39 @@ struct SmallFront<'a> {
     rest: &'a [u8],
 }
 
-/// The item that a line tells, if it is of a common form and may follow those so far. `None` says nothing of the line.
-pub(crate) fn quick_item(so_far: &SoFar, line: &[u8]) -> Option<Item>
-    ensures text { IfSome result (λ item. line.now ≡ item_text item) }
-    ensures fits { IfSome result FitsItem }
-    ensures follows { IfSome result (MayFollow so_far.now.last) }
+// Two such numbers.
+#[derive(Clone, Copy)]
+struct Pair<'a> {
+    first: u16,
+    second: u16,
+    rest: &'a [u8],
+}
+
+// A record, and the bytes behind it.
+#[derive(Clone, Copy)]
+struct Told<'a> {
+    what: Record,
+    rest: &'a [u8],
+}
+
+/// The item that the first line of these bytes tells, if it is of a common form and may follow those so far. `None` says
+/// nothing of the line.
+#[inline]
+pub(crate) fn quick_item<'a>(so_far: &SoFar, bytes: &'a [u8]) -> Option<Found<'a>>
+    ensures text { IfSome result (λ found. bytes.now ≡ line_of found.item ++ found.rest.now) }
+    ensures fits { IfSome result (λ found. FitsItem found.item) }
+    ensures follows { IfSome result (λ found. MayFollow so_far.now.last found.item) }
 {
-    let item = item_of(line)?;
-    if may_follow(&so_far.last, &item) {
-        Some(item)
+    let found = item_of(bytes)?;
+    if may_follow(&so_far.last, &found.item) {
+        Some(found)
     } else {
         None
     }
 }
 
 // Whether an item may follow this one.
+#[inline]
 fn may_follow(last: &Option<Item>, item: &Item) -> bool
     ensures { IsTrue result ↔ MayFollow last.now item.now }
 {
@@ -50,22 +80,29 @@ fn may_follow(last: &Option<Item>, item: &Item) -> bool
     }
 }
 
-// The item of a line: its event, its processor, and a record of a common kind.
-fn item_of(line: &[u8]) -> Option<Item>
-    ensures text { IfSome result (λ item. line.now ≡ item_text item) }
-    ensures fits { IfSome result FitsItem }
+// The item of the first line: its event, its processor, and a record of a common kind.
+#[inline]
+fn item_of(bytes: &[u8]) -> Option<Found<'_>>
+    ensures text { IfSome result (λ found. bytes.now ≡ line_of found.item ++ found.rest.now) }
+    ensures fits { IfSome result (λ found. FitsItem found.item) }
 {
-    let event = number(line)?;
+    let event = number(bytes)?;
+    if event.rest.len() < BEHIND {
+        return None;
+    }
     let proc = small(event.rest)?;
-    let what = record(proc.rest)?;
-    Some(Item {
+    let told = record(proc.rest)?;
+    let rest = behind(told.rest, b'\n')?;
+    let item = Item {
         event: event.number,
         proc: ProcNo(proc.number),
-        what,
-    })
+        what: told.what,
+    };
+    Some(Found { item, rest })
 }
 
 // A number in decimal at the front of these bytes.
+#[inline]
 #[tactic(auto, using(crate::proofs::ItemLines::digit_front, crate::proofs::ItemLines::zero_front))]
 fn number(bytes: &[u8]) -> Option<Front<'_>>
     ensures { IfSome result (λ front. bytes.now ≡ decimal front.number ++ front.rest.now) }
@@ -102,63 +139,115 @@ fn digits(first: u64, bytes: &[u8]) -> Option<Front<'_>>
 }
 
 // A space and a number of 16 bits at the front of these bytes.
+#[inline]
+#[tactic(auto, using(crate::proofs::ItemLines::digit_front, crate::proofs::ItemLines::digits_front))]
 fn small(bytes: &[u8]) -> Option<SmallFront<'_>>
-    ensures { IfSome result (λ front. bytes.now ≡ field (Some front.number) ++ front.rest.now) }
+    requires { FIELD ≤ length bytes.now }
+    ensures text { IfSome result (λ front. bytes.now ≡ field (Some front.number) ++ front.rest.now) }
+    ensures few { IfSome result (λ front. length bytes.now ≤ length front.rest.now + FIELD) }
 {
-    let front = number(behind(bytes, b' ')?)?;
+    let digits = behind(bytes, b' ')?;
+    let (first, one) = split(digits);
+    let (second, two) = split(one);
+    if !first.is_ascii_digit() {
+        return None;
+    }
+    if !second.is_ascii_digit() {
+        return Some(SmallFront {
+            number: u16::from(first - b'0'),
+            rest: one,
+        });
+    }
+    let (third, _) = split(two);
+    if first == b'0' || third.is_ascii_digit() {
+        return small_of_any_length(bytes);
+    }
+    Some(SmallFront {
+        number: u16::from(first - b'0') * 10 + u16::from(second - b'0'),
+        rest: two,
+    })
+}
+
+// The same of a number with any number of digits.
+#[inline(never)]
+fn small_of_any_length(bytes: &[u8]) -> Option<SmallFront<'_>>
+    ensures text { IfSome result (λ front. bytes.now ≡ field (Some front.number) ++ front.rest.now) }
+    ensures few { IfSome result (λ front. length bytes.now ≤ length front.rest.now + FIELD) }
+{
+    let (first, digits) = bytes.split_first()?;
+    let front = number(digits)?;
     let number = u16::try_from(front.number).ok()?;
+    if *first != b' ' || bytes.len() - front.rest.len() > FIELD {
+        return None;
+    }
     Some(SmallFront {
         number,
         rest: front.rest,
     })
 }
 
-// The number of 16 bits that these bytes are behind a space.
-fn last(bytes: &[u8]) -> Option<u16>
-    ensures { IfSome result (λ n. bytes.now ≡ field (Some n)) }
+// Two spaces with a number of 16 bits behind each at the front of these bytes.
+#[inline]
+fn two_fields(bytes: &[u8]) -> Option<Pair<'_>>
+    requires { 2 * FIELD ≤ length bytes.now }
+    ensures text { IfSome result (λ front.
+        bytes.now ≡ field (Some front.first) ++ field (Some front.second) ++ front.rest.now) }
+    ensures few { IfSome result (λ front. length bytes.now ≤ length front.rest.now + 2 * FIELD) }
 {
-    let front = small(bytes)?;
-    if front.rest.is_empty() {
-        Some(front.number)
-    } else {
-        None
-    }
+    let first = small(bytes)?;
+    let second = small(first.rest)?;
+    Some(Pair {
+        first: first.number,
+        second: second.number,
+        rest: second.rest,
+    })
 }
 
-// The record of a common kind that these bytes are behind a space.
-fn record(bytes: &[u8]) -> Option<Record>
-    ensures text { IfSome result (λ what. bytes.now ≡ codes " " ++ record_text what) }
-    ensures fit { IfSome result (λ what. FitTheKind (parts_of what)) }
+// The record of a common kind behind a space at the front of these bytes.
+#[inline]
+fn record(bytes: &[u8]) -> Option<Told<'_>>
+    requires { 26 ≤ length bytes.now }
+    ensures text { IfSome result (λ told. bytes.now ≡ codes " " ++ record_text told.what ++ told.rest.now) }
+    ensures fit { IfSome result (λ told. FitTheKind (parts_of told.what)) }
+    ensures some { IfSome result (λ told. 1 ≤ length told.rest.now) }
 {
-    let (first, rest) = behind(bytes, b' ')?.split_first()?;
-    match *first {
+    let (first, rest) = split(behind(bytes, b' ')?);
+    match first {
         b'i' => ins_or_idle(rest),
         b'r' => run_or_ready(rest),
         b't' => take(behind(behind_two(rest, b'a', b'k')?, b'e')?),
         b'f' => free(behind(behind_two(rest, b'r', b'e')?, b'e')?),
+        b'w' => want(behind(behind_two(rest, b'a', b'n')?, b't')?),
         b's' => spin(behind(behind_two(rest, b'p', b'i')?, b'n')?),
         _ => None,
     }
 }
 
-// The record whose word begins with `i`, and that these bytes are behind it.
-fn ins_or_idle(bytes: &[u8]) -> Option<Record>
-    ensures text { IfSome result (λ what. codes " i" ++ bytes.now ≡ codes " " ++ record_text what) }
-    ensures fit { IfSome result (λ what. FitTheKind (parts_of what)) }
+// The record whose word begins with `i`, which these bytes are behind.
+#[inline]
+fn ins_or_idle(bytes: &[u8]) -> Option<Told<'_>>
+    requires { 24 ≤ length bytes.now }
+    ensures text { IfSome result (λ told.
+        codes " i" ++ bytes.now ≡ codes " " ++ record_text told.what ++ told.rest.now) }
+    ensures fit { IfSome result (λ told. FitTheKind (parts_of told.what)) }
+    ensures some { IfSome result (λ told. 1 ≤ length told.rest.now) }
 {
     if let Some(fields) = behind_two(bytes, b'n', b's') {
         return ins(fields);
     }
-    if bytes == b"dle".as_slice() {
-        return Some(Record::Idle);
-    }
-    None
+    let rest = behind(behind_two(bytes, b'd', b'l')?, b'e')?;
+    let what = Record::Idle;
+    Some(Told { what, rest })
 }
 
 // The same of a word that begins with `r`.
-fn run_or_ready(bytes: &[u8]) -> Option<Record>
-    ensures text { IfSome result (λ what. codes " r" ++ bytes.now ≡ codes " " ++ record_text what) }
-    ensures fit { IfSome result (λ what. FitTheKind (parts_of what)) }
+#[inline]
+fn run_or_ready(bytes: &[u8]) -> Option<Told<'_>>
+    requires { 24 ≤ length bytes.now }
+    ensures text { IfSome result (λ told.
+        codes " r" ++ bytes.now ≡ codes " " ++ record_text told.what ++ told.rest.now) }
+    ensures fit { IfSome result (λ told. FitTheKind (parts_of told.what)) }
+    ensures some { IfSome result (λ told. 1 ≤ length told.rest.now) }
 {
     if let Some(fields) = behind_two(bytes, b'u', b'n') {
         return run(fields);
@@ -166,76 +255,150 @@ fn run_or_ready(bytes: &[u8]) -> Option<Record>
     ready(behind_two(behind_two(bytes, b'e', b'a')?, b'd', b'y')?)
 }
 
-// What is behind this byte, where these bytes begin with it.
-fn behind(bytes: &[u8], byte: u8) -> Option<&[u8]>
-    ensures { IfSome result (λ rest. bytes.now ≡ byte ∷ rest.now) }
+// The first of these bytes, and what is behind it.
+#[inline]
+fn split(bytes: &[u8]) -> (u8, &[u8])
+    requires { 1 ≤ length bytes.now }
+    ensures bytes { bytes.now ≡ result.0 ∷ result.1.now }
+    ensures length { length bytes.now ≡ length result.1.now + 1 }
 {
-    let (first, rest) = bytes.split_first()?;
-    if *first == byte { Some(rest) } else { None }
+    let (first, rest) = bytes.split_first().unwrap();
+    (*first, rest)
+}
+
+// What is behind this byte, where these bytes begin with it.
+#[inline]
+fn behind(bytes: &[u8], byte: u8) -> Option<&[u8]>
+    requires { 1 ≤ length bytes.now }
+    ensures bytes { IfSome result (λ rest. bytes.now ≡ byte ∷ rest.now) }
+    ensures length { IfSome result (λ rest. length bytes.now ≡ length rest.now + 1) }
+{
+    let (first, rest) = split(bytes);
+    if first == byte { Some(rest) } else { None }
 }
 
 // The same of two bytes.
+#[inline]
 fn behind_two(bytes: &[u8], one: u8, two: u8) -> Option<&[u8]>
-    ensures { IfSome result (λ rest. bytes.now ≡ one ∷ two ∷ rest.now) }
+    requires { 2 ≤ length bytes.now }
+    ensures bytes { IfSome result (λ rest. bytes.now ≡ one ∷ two ∷ rest.now) }
+    ensures length { IfSome result (λ rest. length bytes.now ≡ length rest.now + 2) }
 {
     behind(behind(bytes, one)?, two)
 }
 
-// The records whose fields these bytes are.
+// The records whose fields are at the front of these bytes.
 
-fn ins(fields: &[u8]) -> Option<Record>
-    ensures text { IfSome result (λ what. codes " ins" ++ fields.now ≡ codes " " ++ record_text what) }
-    ensures fit { IfSome result (λ what. FitTheKind (parts_of what)) }
+#[inline]
+fn ins(fields: &[u8]) -> Option<Told<'_>>
+    requires { 19 ≤ length fields.now }
+    ensures text { IfSome result (λ told.
+        codes " ins" ++ fields.now ≡ codes " " ++ record_text told.what ++ told.rest.now) }
+    ensures fit { IfSome result (λ told. FitTheKind (parts_of told.what)) }
+    ensures some { IfSome result (λ told. 1 ≤ length told.rest.now) }
 {
-    let s = small(fields)?;
-    let t = small(s.rest)?;
-    let place = last(t.rest)?;
-    Some(Record::Ins(SpaceNo(s.number), ThreadNo(t.number), place))
+    let front = two_fields(fields)?;
+    let SmallFront { number, rest } = small(front.rest)?;
+    let what = Record::Ins(SpaceNo(front.first), ThreadNo(front.second), number);
+    Some(Told { what, rest })
 }
 
-fn run(fields: &[u8]) -> Option<Record>
-    ensures text { IfSome result (λ what. codes " run" ++ fields.now ≡ codes " " ++ record_text what) }
-    ensures fit { IfSome result (λ what. FitTheKind (parts_of what)) }
+#[inline]
+fn run(fields: &[u8]) -> Option<Told<'_>>
+    requires { 13 ≤ length fields.now }
+    ensures text { IfSome result (λ told.
+        codes " run" ++ fields.now ≡ codes " " ++ record_text told.what ++ told.rest.now) }
+    ensures fit { IfSome result (λ told. FitTheKind (parts_of told.what)) }
+    ensures some { IfSome result (λ told. 1 ≤ length told.rest.now) }
 {
-    let s = small(fields)?;
-    let t = last(s.rest)?;
-    Some(Record::Run(SpaceNo(s.number), ThreadNo(t)))
+    let Pair {
+        first,
+        second,
+        rest,
+    } = two_fields(fields)?;
+    let what = Record::Run(SpaceNo(first), ThreadNo(second));
+    Some(Told { what, rest })
 }
 
-fn ready(fields: &[u8]) -> Option<Record>
-    ensures text { IfSome result (λ what.
-        codes " ready" ++ fields.now ≡ codes " " ++ record_text what) }
-    ensures fit { IfSome result (λ what. FitTheKind (parts_of what)) }
+#[inline]
+fn ready(fields: &[u8]) -> Option<Told<'_>>
+    requires { 13 ≤ length fields.now }
+    ensures text { IfSome result (λ told.
+        codes " ready" ++ fields.now ≡ codes " " ++ record_text told.what ++ told.rest.now) }
+    ensures fit { IfSome result (λ told. FitTheKind (parts_of told.what)) }
+    ensures some { IfSome result (λ told. 1 ≤ length told.rest.now) }
 {
-    let s = small(fields)?;
-    let t = last(s.rest)?;
-    Some(Record::Ready(SpaceNo(s.number), ThreadNo(t)))
+    let Pair {
+        first,
+        second,
+        rest,
+    } = two_fields(fields)?;
+    let what = Record::Ready(SpaceNo(first), ThreadNo(second));
+    Some(Told { what, rest })
 }
 
-fn take(fields: &[u8]) -> Option<Record>
-    ensures text { IfSome result (λ what. codes " take" ++ fields.now ≡ codes " " ++ record_text what) }
-    ensures fit { IfSome result (λ what. FitTheKind (parts_of what)) }
+#[inline]
+fn take(fields: &[u8]) -> Option<Told<'_>>
+    requires { 19 ≤ length fields.now }
+    ensures text { IfSome result (λ told.
+        codes " take" ++ fields.now ≡ codes " " ++ record_text told.what ++ told.rest.now) }
+    ensures fit { IfSome result (λ told. FitTheKind (parts_of told.what)) }
+    ensures some { IfSome result (λ told. 1 ≤ length told.rest.now) }
 {
-    let s = small(fields)?;
-    let l = small(s.rest)?;
-    let t = last(l.rest)?;
-    Some(Record::Take(SpaceNo(s.number), ProcNo(l.number), Some(ThreadNo(t))))
+    let front = two_fields(fields)?;
+    let SmallFront { number, rest } = small(front.rest)?;
+    let what = Record::Take(
+        SpaceNo(front.first),
+        ProcNo(front.second),
+        Some(ThreadNo(number)),
+    );
+    Some(Told { what, rest })
 }
 
-fn free(fields: &[u8]) -> Option<Record>
-    ensures text { IfSome result (λ what. codes " free" ++ fields.now ≡ codes " " ++ record_text what) }
-    ensures fit { IfSome result (λ what. FitTheKind (parts_of what)) }
+#[inline]
+fn free(fields: &[u8]) -> Option<Told<'_>>
+    requires { 19 ≤ length fields.now }
+    ensures text { IfSome result (λ told.
+        codes " free" ++ fields.now ≡ codes " " ++ record_text told.what ++ told.rest.now) }
+    ensures fit { IfSome result (λ told. FitTheKind (parts_of told.what)) }
+    ensures some { IfSome result (λ told. 1 ≤ length told.rest.now) }
 {
-    let s = small(fields)?;
-    let l = small(s.rest)?;
-    let t = last(l.rest)?;
-    Some(Record::Free(SpaceNo(s.number), ProcNo(l.number), Some(ThreadNo(t))))
+    let front = two_fields(fields)?;
+    let SmallFront { number, rest } = small(front.rest)?;
+    let what = Record::Free(
+        SpaceNo(front.first),
+        ProcNo(front.second),
+        Some(ThreadNo(number)),
+    );
+    Some(Told { what, rest })
 }
 
-fn spin(fields: &[u8]) -> Option<Record>
-    ensures text { IfSome result (λ what. codes " spin" ++ fields.now ≡ codes " " ++ record_text what) }
-    ensures fit { IfSome result (λ what. FitTheKind (parts_of what)) }
+#[inline]
+fn want(fields: &[u8]) -> Option<Told<'_>>
+    requires { 13 ≤ length fields.now }
+    ensures text { IfSome result (λ told.
+        codes " want" ++ fields.now ≡ codes " " ++ record_text told.what ++ told.rest.now) }
+    ensures fit { IfSome result (λ told. FitTheKind (parts_of told.what)) }
+    ensures some { IfSome result (λ told. 1 ≤ length told.rest.now) }
 {
-    let l = last(fields)?;
-    Some(Record::Spin(ProcNo(l)))
+    let Pair {
+        first,
+        second,
+        rest,
+    } = two_fields(fields)?;
+    let what = Record::Want(SpaceNo(first), second);
+    Some(Told { what, rest })
+}
+
+#[inline]
+fn spin(fields: &[u8]) -> Option<Told<'_>>
+    requires { 7 ≤ length fields.now }
+    ensures text { IfSome result (λ told.
+        codes " spin" ++ fields.now ≡ codes " " ++ record_text told.what ++ told.rest.now) }
+    ensures fit { IfSome result (λ told. FitTheKind (parts_of told.what)) }
+    ensures some { IfSome result (λ told. 1 ≤ length told.rest.now) }
+{
+    let SmallFront { number, rest } = small(fields)?;
+    let what = Record::Spin(ProcNo(number));
+    Some(Told { what, rest })
 }
