@@ -13,3 +13,4 @@ pub mod ReadOn
 pub mod ItemLines
 pub mod FirstLine
 mod LossLines
+pub mod Digits

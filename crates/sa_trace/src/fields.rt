@@ -1,5 +1,5 @@
 // A record's word and fields, printed where there is room for them.
-ghost use Rattle.std.specs.Prelude.{◌≡◌, ◌+◌, ◌*◌, ◌≤◌, ◌++◌, Some, codes, decimal, length};
+ghost use Rattle.std.specs.Prelude.{◌≡◌, ◌+◌, ◌*◌, ◌/◌, ◌%◌, ◌<◌, ◌≤◌, [], ◌∷◌, ◌++◌, Some, codes, decimal, length};
 ghost use Rattle.std.specs.List.{flat_map};
 ghost use Rattle.arrayvec.specs.ArrayVec.{array_vec_len};
 ghost use Rattle.sa_trace.specs.TraceText.{field, record_text};
@@ -37,18 +37,59 @@ pub(crate) fn put(out: &mut Lines, bytes: &[u8])
 }
 
 /// Appends a number in decimal.
-#[tactic(auto, using(std::proofs::lemmas::Fmt::decimal_digit, itoa::proofs::Decimal::decimal_two))]
 pub(crate) fn push_decimal(out: &mut Lines, n: u64)
     requires { array_vec_len out.old + NUMBER ≤ LINES }
     ensures text { out.new.items ≡ out.old.items ++ decimal n }
     ensures len { array_vec_len out.new ≤ array_vec_len out.old + NUMBER }
 {
+    if n < 100 {
+        return push_short(out, n);
+    }
+    if n < 10_000 {
+        push_short(out, n / 100);
+        return push_pair(out, n % 100);
+    }
+    if n < 1_000_000 {
+        push_short(out, n / 10_000);
+        push_pair(out, n / 100 % 100);
+        return push_pair(out, n % 100);
+    }
+    push_long(out, n);
+}
+
+// Appends a number of one digit or two.
+#[inline]
+#[tactic(auto, using(std::proofs::lemmas::Fmt::decimal_digit, itoa::proofs::Decimal::decimal_two))]
+fn push_short(out: &mut Lines, n: u64)
+    requires short { n < 100 }
+    requires room { array_vec_len out.old + 2 ≤ LINES }
+    ensures text { out.new.items ≡ out.old.items ++ decimal n }
+    ensures len { array_vec_len out.new ≤ array_vec_len out.old + 2 }
+{
     if n < 10 {
         return put(out, &[b'0' + n as u8]);
     }
-    if n < 100 {
-        return put(out, &[b'0' + (n / 10) as u8, b'0' + (n % 10) as u8]);
-    }
+    put(out, &[b'0' + (n / 10) as u8, b'0' + (n % 10) as u8]);
+}
+
+// Appends two digits.
+#[inline]
+fn push_pair(out: &mut Lines, n: u64)
+    requires short { n < 100 }
+    requires room { array_vec_len out.old + 2 ≤ LINES }
+    ensures text { out.new.items ≡ out.old.items ++ (48 + n / 10) ∷ (48 + n % 10) ∷ [] }
+    ensures len { array_vec_len out.new ≡ array_vec_len out.old + 2 }
+{
+    put(out, &[b'0' + (n / 10) as u8, b'0' + (n % 10) as u8]);
+}
+
+// Appends a number of any length. Out of line, so that a short one does not pay for the buffer.
+#[inline(never)]
+fn push_long(out: &mut Lines, n: u64)
+    requires { array_vec_len out.old + NUMBER ≤ LINES }
+    ensures text { out.new.items ≡ out.old.items ++ decimal n }
+    ensures len { array_vec_len out.new ≤ array_vec_len out.old + NUMBER }
+{
     let mut buffer = Buffer::new();
     put(out, buffer.format(n).as_bytes());
 }
