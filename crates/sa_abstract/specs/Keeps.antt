@@ -106,10 +106,10 @@ IsSeat s (Local space thread program pc regs) =
 IsSeat s Away = Unit {0}
 
 -- a thread is there, and its next n instructions are local
-abbrev pub GoesOn : Setting → ℕ → SeatState → Type 0
-GoesOn s n (Local space thread program pc regs) =
+abbrev pub StaysLocal : Setting → ℕ → SeatState → Type 0
+StaysLocal s n (Local space thread program pc regs) =
     AreLocal (program_at s.def.programs program) n (record { pc = pc; regs = regs })
-GoesOn s n Away = ⊥
+StaysLocal s n Away = ⊥
 
 -- the state after n local instructions, and their records
 abbrev pub moved_to : SpaceNo → ThreadNo → ℕ → Spot → SeatState
@@ -137,7 +137,7 @@ pub record IsGoing {U C : Type 0} (calls : Calls U C) (stands : Standing U C) (u
   pub later : event < seen.event
   pub some : 1 ≤ n
   pub within : seen.event + n ≤ MAX_EVENTS + 1
-  pub goes : GoesOn setting n (calls.local u c)
+  pub goes : StaysLocal setting n (calls.local u c)
 
 -- what a step asks for, the kernel can do
 abbrev pub IsAsked : Setting → Seen → Step → Type 0
@@ -200,7 +200,7 @@ pub record Keeps {U C : Type 0} (calls : Calls U C) (stands : Standing U C) : Ty
       → IsStepped stands s seen cs a (calls.stepped u seen c)
   pub goes : (s : Setting) (e : ℕ) (u : U) (cs : Contexts C) (a : ℕ) (c : C) (seen : Seen) (n : ℕ)
       → stands s e u cs → cs a ≡ Some c → IsSeen s seen → e < seen.event → 1 ≤ n → seen.event + n ≤ MAX_EVENTS + 1
-      → GoesOn s n (calls.local u c)
+      → StaysLocal s n (calls.local u c)
       → IsGone calls stands s seen cs a n (calls.local u c) (calls.went u seen c n)
   pub seats : (s : Setting) (e : ℕ) (u : U) (cs : Contexts C) (a : ℕ) (c : C) → stands s e u cs → cs a ≡ Some c
       → IsSeat s (calls.local u c) × (is_away (calls.local u c) ≡ (calls.owes u c || is_none (calls.thread u c)))

@@ -2,7 +2,7 @@
 ghost use Rattle.std.specs.Prelude.{◌≡◌, ◌↔◌, IsTrue};
 ghost use Rattle.sa_laws.specs.Readings.{Readings};
 ghost use Rattle.sa_laws.specs.Shape.{BeginsWithUp, leave_run};
-ghost use Rattle.sa_laws.specs.Upcalls.{BeginsAsInterrupt, BeginsWithLine, GoesOn, GoesToAim, StopsAndGoes, fetch_records, leave_records};
+ghost use Rattle.sa_laws.specs.Upcalls.{BeginsAsInterrupt, BeginsWithLine, UpOrLeave, GoesToAim, StopsAndGoes, fetch_records, leave_records};
 ghost use Rattle.sa_check_shapes.specs.Page.{IsSeen};
 
 use crate::parts::{leave_run, parted};
@@ -82,7 +82,7 @@ fn is_fetch_unless(s: SpaceNo, fetching: bool, records: &[Record]) -> bool
 /// What follows a block on a processor of this space: an up of it, or the leave where its upcall page is absent.
 pub fn follows_block(p: ProcNo, s: SpaceNo, page: UpcallPage, records: &[Record]) -> bool
     ensures { (r : Readings) → IsSeen r s page
-        → (IsTrue result ↔ GoesOn page.resident p r s records.now) }
+        → (IsTrue result ↔ UpOrLeave page.resident p r s records.now) }
 {
     if page.resident {
         begins_with_up(s, records)

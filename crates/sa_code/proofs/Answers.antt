@@ -10,7 +10,7 @@ use Rattle.sa_base.specs.declared.limits.TheConstants.{PACKAGE_PAGE}
 use Rattle.sa_code.specs.declared.state.PackageState.{PackageState}
 use Rattle.sa_code.specs.declared.state.Frame.{Frame}
 use Rattle.sa_code.specs.Micro.{micro, micro_at, taken, pushed, popped, takes_first, chosen, list_in, is_resident, CanDo}
-use Rattle.sa_code.specs.Changes.{GoesOn, IsStill, answer_of, is_did}
+use Rattle.sa_code.specs.Changes.{MovesOn, IsStill, answer_of, is_did}
 
 -- a list that is not empty has a thread to pop
 pub chosen-some : (r : ReadyView) (own : Bool) (l : ℕ) → 0 < length (list_of r l) → (t : ℕ) × (chosen r own l ≡ Some t)
@@ -52,24 +52,24 @@ pub micro-answer : (s : PackageState) (f : Frame) (pages : ℕ) → CanDo s f (s
 micro-answer s f pages can = micro_at-answer s f (is_resident pages PACKAGE_PAGE) (slice_get s.code f.pc) can
 
 -- the frame goes on where the operation was done
-taken-goes_on : (s : PackageState) (f : Frame) (l : ProcNo) (held : Bool) → GoesOn f (taken s f l held).frame (is_did (taken s f l held).done)
+taken-goes_on : (s : PackageState) (f : Frame) (l : ProcNo) (held : Bool) → MovesOn f (taken s f l held).frame (is_did (taken s f l held).done)
 taken-goes_on s f l true = record { list = refl; own = refl; pc = refl }
 taken-goes_on s f l false = record { list = refl; own = refl; pc = refl }
 
 pushed-goes_on : (s : PackageState) (f : Frame) (resident : Bool) (l : ProcNo) (t : Option ThreadNo)
-    → GoesOn f (pushed s f resident l t).frame (is_did (pushed s f resident l t).done)
+    → MovesOn f (pushed s f resident l t).frame (is_did (pushed s f resident l t).done)
 pushed-goes_on s f false l t = record { list = refl; own = refl; pc = refl }
 pushed-goes_on s f true l None = record { list = refl; own = refl; pc = refl }
 pushed-goes_on s f true l (Some t) = record { list = refl; own = refl; pc = refl }
 
 popped-goes_on : (s : PackageState) (f : Frame) (resident : Bool) (l : ProcNo) (t : Option ℕ)
-    → GoesOn f (popped s f resident l t).frame (is_did (popped s f resident l t).done)
+    → MovesOn f (popped s f resident l t).frame (is_did (popped s f resident l t).done)
 popped-goes_on s f false l t = record { list = refl; own = refl; pc = refl }
 popped-goes_on s f true l None = record { list = refl; own = refl; pc = refl }
 popped-goes_on s f true l (Some t) = record { list = refl; own = refl; pc = refl }
 
 micro_at-goes_on : (s : PackageState) (f : Frame) (resident : Bool) (l : ProcNo) (op : Option Op)
-    → GoesOn f (micro_at s f resident l op).frame (is_did (micro_at s f resident l op).done)
+    → MovesOn f (micro_at s f resident l op).frame (is_did (micro_at s f resident l op).done)
 micro_at-goes_on s f resident l (Some TakePush) = taken-goes_on s f l (is_locked s.lists l.0)
 micro_at-goes_on s f resident l (Some Push) = pushed-goes_on s f resident l f.pushed
 micro_at-goes_on s f resident l (Some TakePop) = taken-goes_on s f l (is_locked s.lists l.0)
@@ -79,7 +79,7 @@ micro_at-goes_on s f resident l (Some Leave) = record { list = refl; own = refl;
 micro_at-goes_on s f resident l (Some Yield) = record { list = refl; own = refl; pc = refl }
 micro_at-goes_on s f resident l None = record { list = refl; own = refl; pc = refl }
 
-pub micro-goes_on : (s : PackageState) (f : Frame) (pages : ℕ) → GoesOn f (micro s f pages).frame (is_did (micro s f pages).done)
+pub micro-goes_on : (s : PackageState) (f : Frame) (pages : ℕ) → MovesOn f (micro s f pages).frame (is_did (micro s f pages).done)
 micro-goes_on s f pages = micro_at-goes_on s f (is_resident pages PACKAGE_PAGE) (list_in f) (slice_get s.code f.pc)
 
 -- nothing changes where it was not done

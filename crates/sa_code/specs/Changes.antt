@@ -51,7 +51,7 @@ opening_package space code lists ranks threads = record {
 }
 
 -- the frame keeps its list, and goes on to the next place or stays
-pub record GoesOn (old new : Frame) (on : Bool) : Type 0 where
+pub record MovesOn (old new : Frame) (on : Bool) : Type 0 where
   pub list : new.list ≡ old.list
   pub own : new.own ≡ old.own
   pub pc : new.pc ≡ (if on then old.pc + 1 else old.pc)

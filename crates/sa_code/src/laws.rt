@@ -9,7 +9,7 @@ ghost use Rattle.sa_code.specs.declared.code.Op.{Op};
 ghost use Rattle.sa_code.specs.declared.state.PackageState.{PackageState};
 ghost use Rattle.sa_code.specs.declared.state.Frame.{Frame};
 ghost use Rattle.sa_code.specs.Micro.{micro, taken, pushed, popped, freed, takes_first, without_chosen, list_in, is_resident, HasList, CanChange, CanPop, CanDo};
-ghost use Rattle.sa_code.specs.Changes.{holder_of, IsList, ChangesOnly, IsPackage, opening_package, GoesOn, IsStill, answer_of, is_did};
+ghost use Rattle.sa_code.specs.Changes.{holder_of, IsList, ChangesOnly, IsPackage, opening_package, MovesOn, IsStill, answer_of, is_did};
 
 use sa_base::{MAX_PROCESSORS, MAX_THREADS, PACKAGE_PAGE};
 
@@ -24,7 +24,7 @@ pub fn answers_are_those_of_the_table()
 /// exactly where the operation was done.
 pub fn a_frame_goes_on_where_its_operation_was_done()
     ensures goes_on { (s : PackageState) (f : Frame) (pages : ℕ)
-        → GoesOn f (micro s f pages).frame (is_did (micro s f pages).done) }
+        → MovesOn f (micro s f pages).frame (is_did (micro s f pages).done) }
     ensures still { (s : PackageState) (f : Frame) (pages : ℕ)
         → is_did (micro s f pages).done ≡ false → IsStill s f (micro s f pages) }
 {}

@@ -12,7 +12,7 @@ use Rattle.sa_base.specs.declared.record.Note.{Note}
 use Rattle.sa_base.specs.declared.record.Note.TheVariants.{Add, Preempted, Blocked, Unblocked}
 use Rattle.sa_base.specs.Items.{items_at, items_from}
 use Rattle.sa_abstract.specs.Calls.{Calls, Stepped, Gone}
-use Rattle.sa_abstract.specs.Keeps.{Standing, Keeps, IsOf, IsSeenOf, IsStep, IsTelling, IsGoing, GoesOn}
+use Rattle.sa_abstract.specs.Keeps.{Standing, Keeps, IsOf, IsSeenOf, IsStep, IsTelling, IsGoing, StaysLocal}
 use Rattle.sa_abstract.specs.declared.answer.Step.{Step}
 use Rattle.sa_abstract.specs.declared.answer.SeatState.{SeatState}
 use Rattle.sa_kernel_model.specs.State.{KernelState, owner_of}
@@ -201,12 +201,12 @@ module _ {U C : Type 0} (f : Calls U C) (stands : Standing U C) (keep : Keeps f 
           let at = ap (λ (z : Seen). z.event) is in
           let t : can.space ≡ s = same_Some can.space s (sym can.owner ∙ owner) in
           let is_def : slice_get m.workload.spaces s.0 ≡ Some can.def = ap (λ (z : SpaceNo). slice_get m.workload.spaces z.0) (sym t) ∙ can.is_def in
-          let goes : GoesOn (setting m.workload s.0 can.def) n (local_on f m p) =
-          subst (λ (z : SpaceNo). GoesOn (setting m.workload z.0 can.def) n (local_on f m p)) t can.goes in
+          let goes : StaysLocal (setting m.workload s.0 can.def) n (local_on f m p) =
+          subst (λ (z : SpaceNo). StaysLocal (setting m.workload z.0 can.def) n (local_on f m p)) t can.goes in
           here-as (λ v d. IsGoing f stands v seen d n)
           (λ here. is-going f stands keep e n m p s seen st here (ap (λ (z : Seen). z.proc) is) (omega (arith, at, later)) some (omega (arith, at, within))
-          (subst (λ (z : SpaceView). GoesOn (setting m.workload s.0 z) n (f.local here.user here.ctx)) (same_Some can.def here.def (sym is_def ∙ here.is_def))
-          (subst (λ (z : SeatState). GoesOn (setting m.workload s.0 can.def) n z) (local-is f stands keep m p s here) goes)))
+          (subst (λ (z : SpaceView). StaysLocal (setting m.workload s.0 z) n (f.local here.user here.ctx)) (same_Some can.def here.def (sym is_def ∙ here.is_def))
+          (subst (λ (z : SeatState). StaysLocal (setting m.workload s.0 can.def) n z) (local-is f stands keep m p s here) goes)))
 
   -- a notice was told
   pub told-as : (p : ProcNo) (s : SpaceNo) (note : Note) (notes : List Note) (held : Option (Stopped C)) (m : Machine U C) (k : KernelState C) (u : U)

@@ -7,7 +7,7 @@ use Rattle.sa_base.specs.declared.limits.TheConstants.{MAX_EVENTS}
 use Rattle.sa_spaces.specs.Workload.{WorkloadView, IsWorkload}
 use Rattle.sa_instr.specs.declared.instr.Instr.{Instr}
 use Rattle.sa_abstract.specs.Calls.{Calls}
-use Rattle.sa_abstract.specs.Keeps.{Standing, Keeps, GoesOn}
+use Rattle.sa_abstract.specs.Keeps.{Standing, Keeps, StaysLocal}
 use Rattle.sa_abstract.specs.Setting.{Setting}
 use Rattle.sa_abstract.specs.Walk.{Spot, AreLocal, after_one, program_at}
 use Rattle.sa_abstract.specs.declared.answer.SeatState.{SeatState}
@@ -95,7 +95,7 @@ fewer-local program n zero spot few all = tt
 fewer-local program zero (suc k) spot few all = absurd (omega (arith, few))
 fewer-local program (suc n) (suc k) spot few all = (all.0, fewer-local program n k (after_one program spot) (omega (arith, few)) all.1)
 
-goes-fewer : (s : Setting) (n k : ℕ) (x : SeatState) → k ≤ n → GoesOn s n x → GoesOn s k x
+goes-fewer : (s : Setting) (n k : ℕ) (x : SeatState) → k ≤ n → StaysLocal s n x → StaysLocal s k x
 goes-fewer s n k (Local space thread program pc regs) few goes = fewer-local (program_at s.def.programs program) n k (record { pc = pc; regs = regs }) few goes
 goes-fewer s n k Away few goes = goes
 

@@ -17,7 +17,7 @@ use Rattle.sa_lemmas.specs.Function.{put}
 use Rattle.sa_spaces.specs.Space.{SpaceView}
 use Rattle.sa_spaces.specs.Workload.{WorkloadView}
 use Rattle.sa_abstract.specs.Calls.{Calls, Contexts}
-use Rattle.sa_abstract.specs.Keeps.{Standing, Keeps, IsOf, IsSeenOf, IsStep, IsGoing, IsHanded, IsHandedOver, GoesOn, told_contexts}
+use Rattle.sa_abstract.specs.Keeps.{Standing, Keeps, IsOf, IsSeenOf, IsStep, IsGoing, IsHanded, IsHandedOver, StaysLocal, told_contexts}
 use Rattle.sa_acts.specs.declared.acts.Act.{Act}
 use Rattle.sa_assign.specs.AssignView.{AssignView}
 use Rattle.sa_acts.specs.Table.{runs_in, held_of, taken_from}
@@ -97,7 +97,7 @@ module _ {U C : Type 0} (f : Calls U C) (stands : Standing U C) (keep : Keeps f 
   }
 
   pub is-going : (e n : ℕ) (m : Machine U C) (p : ProcNo) (s : SpaceNo) (seen : Seen) → Stands stands e m → (here : IsAt f stands keep m p s) → seen.proc ≡ p
-      → e < seen.event → 1 ≤ n → seen.event + n ≤ MAX_EVENTS + 1 → GoesOn (setting m.workload s.0 here.def) n (f.local here.user here.ctx)
+      → e < seen.event → 1 ≤ n → seen.event + n ≤ MAX_EVENTS + 1 → StaysLocal (setting m.workload s.0 here.def) n (f.local here.user here.ctx)
       → IsGoing f stands here.user seen here.ctx n
   is-going e n m p s seen st here at later some within goes = record {
     setting = setting m.workload s.0 here.def;

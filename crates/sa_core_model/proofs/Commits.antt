@@ -16,7 +16,7 @@ use Rattle.sa_base.specs.Items.{items_at, items_from}
 use Rattle.sa_spaces.specs.Space.{SpaceView}
 use Rattle.sa_abstract.specs.Calls.{Calls, Stepped, Gone}
 use Rattle.sa_abstract.specs.Setting.{Setting}
-use Rattle.sa_abstract.specs.Keeps.{Standing, Keeps, GoesOn, IsGone, records_of, state_after}
+use Rattle.sa_abstract.specs.Keeps.{Standing, Keeps, StaysLocal, IsGone, records_of, state_after}
 use Rattle.sa_abstract.specs.declared.answer.SeatState.{SeatState}
 use Rattle.sa_abstract.specs.declared.answer.SeatState.TheVariants.{Local, Away}
 use Rattle.sa_abstract.specs.declared.answer.Step.{Step}
@@ -58,15 +58,15 @@ whole-slice n slice event false zero_is fits k some below =
     grind (arith, nat_tests, is, some)
 
 -- one local instruction makes one record, and the others go on after it
-one-record : (s : Setting) (n : ℕ) (x : SeatState) → GoesOn s (suc n) x → (r : Record) × (records_of s 1 x ≡ r ∷ [])
+one-record : (s : Setting) (n : ℕ) (x : SeatState) → StaysLocal s (suc n) x → (r : Record) × (records_of s 1 x ≡ r ∷ [])
 one-record s n (Local space thread program pc regs) goes = (Ins space thread pc, refl)
 one-record s n Away goes = absurd goes
 
-first-goes : (s : Setting) (n : ℕ) (x : SeatState) → GoesOn s (suc n) x → GoesOn s 1 x
+first-goes : (s : Setting) (n : ℕ) (x : SeatState) → StaysLocal s (suc n) x → StaysLocal s 1 x
 first-goes s n (Local space thread program pc regs) goes = (goes.0, tt)
 first-goes s n Away goes = absurd goes
 
-others-go : (s : Setting) (n : ℕ) (x : SeatState) → GoesOn s (suc n) x → GoesOn s n (state_after s 1 x)
+others-go : (s : Setting) (n : ℕ) (x : SeatState) → StaysLocal s (suc n) x → StaysLocal s n (state_after s 1 x)
 others-go s n (Local space thread program pc regs) goes = goes.1
 others-go s n Away goes = absurd goes
 
@@ -112,7 +112,7 @@ module _ {U C : Type 0} (f : Calls U C) (stands : Standing U C) (keep : Keeps f 
     space : SpaceNo
     rest : Rests f stands keep m.workload m.event (m.event + 1) (next_event m)
     here : IsAt f stands keep (next_event m) p space
-    goes : GoesOn (setting m.workload space.0 here.def) (suc n) (f.local here.user here.ctx)
+    goes : StaysLocal (setting m.workload space.0 here.def) (suc n) (f.local here.user here.ctx)
 
   first : (m : Machine U C) (p : ProcNo) (n : ℕ) → IsReady m p (suc n) → IsFirst m p n
   first m p n is =
@@ -126,8 +126,8 @@ module _ {U C : Type 0} (f : Calls U C) (stands : Standing U C) (keep : Keeps f 
         space = s;
         rest = rest;
         here = here;
-        goes = subst (λ (d : SpaceView). GoesOn (setting m.workload s.0 d) (suc n) (f.local here.user here.ctx)) same
-            (subst (λ z. GoesOn (setting m.workload s.0 go.def) (suc n) z) (local-is f stands keep x p s here) go.goes);
+        goes = subst (λ (d : SpaceView). StaysLocal (setting m.workload s.0 d) (suc n) (f.local here.user here.ctx)) same
+            (subst (λ z. StaysLocal (setting m.workload s.0 go.def) (suc n) z) (local-is f stands keep x p s here) go.goes);
       }
 
   abbrev gone_first : (m : Machine U C) (p : ProcNo) (s : SpaceNo) → U → C → Gone U C
@@ -269,7 +269,7 @@ module _ {U C : Type 0} (f : Calls U C) (stands : Standing U C) (keep : Keeps f 
           def = at.here.def;
           owner = at.here.owner;
           is_def = at.here.is_def;
-          goes = subst (λ z. GoesOn (setting m.workload s.0 at.here.def) n z) (sym (behind-local m p n is at))
+          goes = subst (λ z. StaysLocal (setting m.workload s.0 at.here.def) n z) (sym (behind-local m p n is at))
               (others-go (setting m.workload s.0 at.here.def) n (f.local u c) at.goes);
         };
         event = omega (arith, is.event);

@@ -13,7 +13,7 @@ use Rattle.sa_spaces.specs.Workload.{WorkloadView, IsWorkload}
 use Rattle.sa_lemmas.proofs.ListReads.{all-same}
 use Rattle.sa_abstract.specs.Calls.{Calls, Contexts}
 use Rattle.sa_abstract.specs.Setting.{IsSetting}
-use Rattle.sa_abstract.specs.Keeps.{Standing, Keeps, GoesOn, IsGone, IsSeat}
+use Rattle.sa_abstract.specs.Keeps.{Standing, Keeps, StaysLocal, IsGone, IsSeat}
 use Rattle.sa_abstract.specs.Walk.{AreLocal, program_at}
 use Rattle.sa_abstract.specs.declared.answer.SeatState.{SeatState}
 use Rattle.sa_abstract.specs.declared.answer.SeatState.TheVariants.{Local, Away}
@@ -53,7 +53,7 @@ module _ {U C : Type 0} (f : Calls U C) (stands : Standing U C) (keep : Keeps f 
 
   pub gone-law : (e n : ℕ) (m : Machine U C) (p : ProcNo) (s : SpaceNo) → Stands stands e m → (here : IsAt f stands keep m p s) → e < m.event → 1 ≤ n
       → m.event + n ≤ MAX_EVENTS + 1
-      → GoesOn (setting m.workload s.0 here.def) n (f.local here.user here.ctx)
+      → StaysLocal (setting m.workload s.0 here.def) n (f.local here.user here.ctx)
       → IsGone f stands (setting m.workload s.0 here.def) (seen_on m p s) (contexts_of m s.0) here.act.0 n (f.local here.user here.ctx)
       (f.went here.user (seen_on m p s) here.ctx n)
   gone-law e n m p s st here later some few goes =
@@ -62,7 +62,7 @@ module _ {U C : Type 0} (f : Calls U C) (stands : Standing U C) (keep : Keeps f 
 
   pub rests-gone : (w : WorkloadView) (e g n : ℕ) (m : Machine U C) (p : ProcNo) (s : SpaceNo) → (rest : Rests f stands keep w e g m)
       → (here : IsAt f stands keep m p s) → e < m.event → 1 ≤ n
-      → m.event + n ≤ MAX_EVENTS + 1 → GoesOn (setting m.workload s.0 here.def) n (f.local here.user here.ctx)
+      → m.event + n ≤ MAX_EVENTS + 1 → StaysLocal (setting m.workload s.0 here.def) n (f.local here.user here.ctx)
       → Rests f stands keep w (g + n - 1) g (gone_to f p s (f.went here.user (seen_on m p s) here.ctx n) m)
   rests-gone w e g n m p s rest here later some few goes =
       let r = f.went here.user (seen_on m p s) here.ctx n in
@@ -84,9 +84,9 @@ module _ {U C : Type 0} (f : Calls U C) (stands : Standing U C) (keep : Keeps f 
       let rest = rests-next f stands keep m.workload m.event m.event m (rests-between f stands keep m between) in
       let here = at-owned f stands keep m.event first p s rest.standing can.owner in
       let same : can.def ≡ here.def = same_Some can.def here.def (sym can.is_def ∙ here.is_def) in
-      let goes : GoesOn (setting m.workload s.0 here.def) (suc n) (f.local here.user here.ctx) =
-      subst (λ (d : SpaceView). GoesOn (setting m.workload s.0 d) (suc n) (f.local here.user here.ctx)) same
-      (subst (λ z. GoesOn (setting m.workload s.0 can.def) (suc n) z) (local-is first p s here) can.goes) in
+      let goes : StaysLocal (setting m.workload s.0 here.def) (suc n) (f.local here.user here.ctx) =
+      subst (λ (d : SpaceView). StaysLocal (setting m.workload s.0 d) (suc n) (f.local here.user here.ctx)) same
+      (subst (λ z. StaysLocal (setting m.workload s.0 can.def) (suc n) z) (local-is first p s here) can.goes) in
       let after : Machine U C = gone_to f p s (f.went here.user (seen_on first p s) here.ctx (suc n)) first in
       let done = rests-gone m.workload m.event g (suc n) first p s rest here (omega arith) (omega arith) (omega (arith, few)) goes in
       let at_end : Rests f stands keep m.workload (m.event + suc n) g after = subst (λ (i : ℕ). Rests f stands keep m.workload i g after) (omega arith) done in
@@ -164,7 +164,7 @@ module _ {U C : Type 0} (f : Calls U C) (stands : Standing U C) (keep : Keeps f 
 
   seat-go : (w : WorkloadView) (s : SpaceNo) (def : SpaceView) (n : ℕ) (x : SeatState) → slice_get w.spaces s.0 ≡ Some def → IsSeat (setting w s.0 def) x
       → AreNextLocal w n x
-      → GoesOn (setting w s.0 def) n x
+      → StaysLocal (setting w s.0 def) n x
   seat-go w s def n (Local space thread program pc regs) of seat next =
       let here : slice_get w.spaces space.0 ≡ Some def = ap (λ (z : SpaceNo). slice_get w.spaces z.0) seat.0 ∙ of in
       subst (λ (o : Option SpaceView). AreLocal (program_at (programs_in o) program) n (record { pc = pc; regs = regs })) here next
@@ -185,7 +185,7 @@ module _ {U C : Type 0} (f : Calls U C) (stands : Standing U C) (keep : Keeps f 
             def = here.def;
             owner = owner;
             is_def = here.is_def;
-            goes = subst (λ (x : SeatState). GoesOn (setting m.workload s.0 here.def) n x) (sym is)
+            goes = subst (λ (x : SeatState). StaysLocal (setting m.workload s.0 here.def) n x) (sym is)
                 (seat-go m.workload s here.def n (f.local here.user here.ctx) here.is_def seat
                 (subst (λ (x : SeatState). AreNextLocal m.workload n x) is next));
           }

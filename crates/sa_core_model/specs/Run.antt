@@ -13,7 +13,7 @@ use Rattle.sa_abstract.specs.declared.answer.SeatState.TheVariants.{Local, Away}
 use Rattle.sa_abstract.specs.Calls.{Calls}
 use Rattle.sa_abstract.specs.Setting.{Setting}
 use Rattle.sa_assign.specs.Aims.{space_no}
-use Rattle.sa_abstract.specs.Keeps.{GoesOn}
+use Rattle.sa_abstract.specs.Keeps.{StaysLocal}
 use Rattle.sa_kernel_model.specs.State.{owner_of, line_of}
 use Rattle.sa_kernel_model.specs.Opening.{opened}
 use Rattle.sa_core_model.specs.Machine.{Machine}
@@ -53,7 +53,7 @@ module _ {U C : Type 0} (f : Calls U C) where
     pub def : SpaceView
     pub owner : owner_of m.kernel p ≡ Some space
     pub is_def : slice_get m.workload.spaces space.0 ≡ Some def
-    pub goes : GoesOn (setting m.workload space.0 def) n (local_on f m p)
+    pub goes : StaysLocal (setting m.workload space.0 def) n (local_on f m p)
 
 -- the programs of a space of a workload
 abbrev pub programs_in : Option SpaceView → List (List Instr)

@@ -5,7 +5,7 @@ ghost use Rattle.sa_replay.specs.Replayed.{opened};
 ghost use Rattle.sa_core.specs.View.{machine};
 ghost use Rattle.sa_core_model.specs.End.{end_of};
 ghost use Rattle.sa_core_model.specs.Run.{opening};
-ghost use Rattle.sa_script.specs.Text.{Fits};
+ghost use Rattle.sa_script.specs.Text.{FitsCommand};
 ghost use Rattle.sa_debug.specs.Session.{Gives, fresh, broken, cleared, with_halt, shown, first, next, point_at, IsNext, SaysEnded, Stops, Turns, Steps, RunsTo, RunsSoFar, Does, DoesSoFar};
 ghost use Rattle.sa_debug.specs.OverMachines.{over_machines, session};
 ghost use Rattle.sa_debug.specs.Reached.{IsPlayable};
@@ -65,7 +65,7 @@ impl<U: UserLevel> Session<U> {
     ///
     /// An error is want of memory, and changes nothing but that a `run` has made some of its turns.
     pub fn command(&mut self, command: &DebugCommand) -> Result<Reply, AllocError>
-        requires { Fits (machine self.old.core).workload command.now }
+        requires { FitsCommand (machine self.old.core).workload command.now }
         ensures ok { IfOk result (λ reply. Does (over_machines U.calls self.old.core.budget) command.now
             (session self.old) (session self.new) reply) }
         ensures err { OnErr result (DoesSoFar (over_machines U.calls self.old.core.budget) command.now

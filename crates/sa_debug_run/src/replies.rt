@@ -3,7 +3,7 @@ ghost use Rattle.std.specs.Prelude.{◌≡◌, All, IfOk, OnErr};
 ghost use Rattle.sa_core.specs.View.{machine};
 ghost use Rattle.sa_debug.specs.OverMachines.{over_machines, session};
 ghost use Rattle.sa_package_model.specs.Step.{fast_calls};
-ghost use Rattle.sa_script.specs.Text.{Fits};
+ghost use Rattle.sa_script.specs.Text.{FitsCommand};
 ghost use Rattle.sa_debug_laws.specs.Told.{CameSoFar};
 ghost use Rattle.sa_debug_run.specs.Debugged.{AreDone};
 
@@ -20,7 +20,7 @@ pub(crate) fn do_all(
     debugged: &mut Session<FastThreads>,
     commands: &[DebugCommand],
 ) -> Result<Vec<u8>, AllocError>
-    requires { All (Fits (machine debugged.old.core).workload) commands.now }
+    requires { All (FitsCommand (machine debugged.old.core).workload) commands.now }
     ensures ok { IfOk result (λ text. AreDone debugged.old.core.budget commands.now
         (session debugged.old) (session debugged.new) text.items) }
     ensures err { OnErr result (CameSoFar (over_machines fast_calls debugged.old.core.budget) commands.now

@@ -1,5 +1,5 @@
 ghost use Rattle.std.specs.Prelude.{◌≤◌, All, IfOk, IfErr};
-ghost use Rattle.sa_script.specs.Text.{Fits};
+ghost use Rattle.sa_script.specs.Text.{FitsCommand};
 ghost use Rattle.sa_debug_run.specs.Debugged.{IsOver, RanSoFar, IsDebugged, IsUndebugged};
 
 use crate::replies::do_all;
@@ -70,7 +70,7 @@ fn do_script(
 ) -> Result<Debugged, Trace>
     requires some { 1 ≤ budget }
     requires few { budget ≤ MAX_EVENTS }
-    requires fit { All (Fits workload) commands.now }
+    requires fit { All (FitsCommand workload) commands.now }
     ensures ok { IfOk result (λ x.
         IsOver workload budget commands.now x.replies.items x.trace.items x.end x.events) }
     ensures err { IfErr result (λ trace. RanSoFar workload budget commands.now trace.items) }

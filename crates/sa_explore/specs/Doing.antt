@@ -25,8 +25,8 @@ abbrev pub turns_to : Scope → Search → ℕ → List ProcNo
 turns_to scope search at = scope.begun.items ++ way_to (states_of search) at
 
 -- runs go on at a state
-abbrev pub GoesOn : Search → ℕ → Type 0
-GoesOn search at = (s : State) × (slice_get (states_of search) at ≡ Some s) × (s.end ≡ None)
+abbrev pub RunsGoOn : Search → ℕ → Type 0
+RunsGoOn search at = (s : State) × (slice_get (states_of search) at ≡ Some s) × (s.end ≡ None)
 
 -- `code` is the key of an outlook
 module _ {U C D : Type 0} (f : Calls U C) (plain : Option SpaceView → C → D) (code : Outlook U D → List ℕ) (scope : Scope) where

@@ -5,7 +5,7 @@ ghost use Rattle.sa_keys.specs.Key.{key_of};
 ghost use Rattle.sa_explore_model.specs.declared.answer.State.{State};
 ghost use Rattle.sa_explore_model.specs.Search.{AreLinked};
 ghost use Rattle.sa_explore.specs.Ahead.{AreAhead};
-ghost use Rattle.sa_explore.specs.Doing.{states_of, turns_to, GoesOn, HasDone, AreMade, HasStopped};
+ghost use Rattle.sa_explore.specs.Doing.{states_of, turns_to, RunsGoOn, HasDone, AreMade, HasStopped};
 
 use crate::progress::Progress;
 use crate::search::{Scope, Search};
@@ -53,7 +53,7 @@ impl Search {
     ) -> Result<bool, AllocError>
         requires done { HasDone U.calls U.plain (key_of U.value_key U.context_key) scope.now self.old at 0 }
         requires ahead { AreAhead U.calls U.plain (key_of U.value_key U.context_key) scope.now self.old }
-        requires goes { GoesOn self.old at }
+        requires goes { RunsGoOn self.old at }
         requires turns { turns.now ≡ turns_to scope.now self.old at }
         requires few { length turns.now < MAX_EVENTS }
         ensures made { IfOk result (λ all. AreMade U.calls U.plain (key_of U.value_key U.context_key)

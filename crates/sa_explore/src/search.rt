@@ -5,7 +5,7 @@ ghost use Rattle.sa_core.specs.View.{machine};
 ghost use Rattle.sa_keys.specs.Key.{key_of};
 ghost use Rattle.sa_explore_runs.specs.Runs.{LeadTo};
 ghost use Rattle.sa_explore.specs.Ahead.{AreAhead};
-ghost use Rattle.sa_explore.specs.Doing.{turns_to, GoesOn, HasDone, IsMade};
+ghost use Rattle.sa_explore.specs.Doing.{turns_to, RunsGoOn, HasDone, IsMade};
 
 use crate::ahead::{Tried, keep_ahead, turn_from};
 use crate::replay::end_at;
@@ -84,7 +84,7 @@ impl Search {
         requires done { HasDone U.calls U.plain (key_of U.value_key U.context_key) scope.now self.old at p.0 }
         requires ahead { AreAhead U.calls U.plain (key_of U.value_key U.context_key) scope.now self.old }
         requires within { p.0 < scope.now.workload.processors }
-        requires goes { GoesOn self.old at }
+        requires goes { RunsGoOn self.old at }
         requires turns { turns.now ≡ turns_to scope.now self.old at }
         requires few { length turns.now < MAX_EVENTS }
         ensures made { IfOk result (λ made. IsMade U.calls U.plain (key_of U.value_key U.context_key)

@@ -17,8 +17,8 @@ use Rattle.sa_sync.specs.Sync.{Sync, mutex_at, semaphore_at, joiners_at, is_done
 use Rattle.sa_sync.specs.Calls.{Change, goes, waits, is_holder, locked, passed_on, unlocked, waited, signalled, joined, stored}
 use Rattle.sa_fast.specs.declared.shared.Shared.{Shared}
 use Rattle.sa_fast.specs.declared.threads.Block.{Block}
-use Rattle.sa_fast.specs.declared.threads.Place.{Place}
-use Rattle.sa_fast.specs.declared.threads.Place.TheVariants.{Unmade, Ready, Running, Waiting, Blocked, Carried, Done}
+use Rattle.sa_fast.specs.declared.threads.KeptPlace.{KeptPlace}
+use Rattle.sa_fast.specs.declared.threads.KeptPlace.TheVariants.{Unmade, Ready, Running, Waiting, Blocked, Carried, Done}
 use Rattle.sa_fast.specs.declared.instruction.Ran.{Ran}
 use Rattle.sa_fast.specs.declared.instruction.Ran.TheVariants.{Goes, Leaves, Blocks}
 use Rattle.sa_fast.specs.declared.instruction.TheConstants.{NOT_MADE}
@@ -34,7 +34,7 @@ abbrev if_not : Bool → ℕ
 if_not b = cond b 0 1
 
 -- a thread that a context carries is at no other place
-carried_is : (p : Place) → if_not (is_carried p) ≡ 0 → (one_where (is_ready p) ≡ 0) × (one_where (is_done_place p) ≡ 0) × (one_where (is_unmade p) ≡ 0)
+carried_is : (p : KeptPlace) → if_not (is_carried p) ≡ 0 → (one_where (is_ready p) ≡ 0) × (one_where (is_done_place p) ≡ 0) × (one_where (is_unmade p) ≡ 0)
 carried_is Unmade e = absurd (omega arith)
 carried_is Ready e = absurd (omega arith)
 carried_is Running e = (refl, refl, refl)
@@ -44,7 +44,7 @@ carried_is Carried e = absurd (omega arith)
 carried_is Done e = absurd (omega arith)
 
 -- nor is one that was not made
-unmade_is : (p : Place) → one_where (is_unmade p) ≡ 1 → if_not (is_carried p) ≡ 1
+unmade_is : (p : KeptPlace) → one_where (is_unmade p) ≡ 1 → if_not (is_carried p) ≡ 1
 unmade_is Unmade e = refl
 unmade_is Ready e = absurd (omega arith)
 unmade_is Running e = absurd (omega arith)
@@ -59,7 +59,7 @@ stays_other Leaves t u ne = refl
 stays_other (Blocks length page) t u ne = one_other t.0 u (λ e. ne (sym e))
 
 -- where the thread of the instruction is after it, by the answer
-abbrev IsPlaceFor : Shared → ThreadNo → Sync → Place → Ran → Type 0
+abbrev IsPlaceFor : Shared → ThreadNo → Sync → KeptPlace → Ran → Type 0
 IsPlaceFor x t s p Goes = p ≡ place_at x t.0
 IsPlaceFor x t s p Leaves = ((p ≡ Waiting) × (done_at s t.0 ≡ done_at x.sync t.0)) ⊎ ((p ≡ Done) × (done_at s t.0 ≡ 1))
 IsPlaceFor x t s p (Blocks length page) = p ≡ Blocked
@@ -94,12 +94,12 @@ module _ (def : SpaceView) (processors event : ℕ) (x : Shared) (w : Option Thr
     place_other : (u : ℕ) → u ≢ t.0 → place_at o.shared u ≡ place_at x u
     place_other u ne = ap (λ bs. (block_at bs u).place) shape.threads ∙ ap (λ (b : Block). b.place) (get_or-set_other x.threads t.0 u shape.block unmade ne)
 
-    abbrev Agrees : Place → Type 0
+    abbrev Agrees : KeptPlace → Type 0
     Agrees p =
         AgreesBy (count_in_all t.0 o.shared.state.lists.lists) (waits_of o.shared.sync t.0) (done_at o.shared.sync t.0) (unmade_at o.shared.state.lists t.0) p
 
     -- in a hand, at a place of hands
-    in_hand : (p : Place) → threads_at_rest o.shared t.0 ≡ 0
+    in_hand : (p : KeptPlace) → threads_at_rest o.shared t.0 ≡ 0
         → (one_where (is_ready p) ≡ 0) × (one_where (is_done_place p) ≡ 0) × (one_where (is_unmade p) ≡ 0) → Agrees p
     in_hand p none at = record {
       ready = omega (arith, none, at.0);

@@ -30,7 +30,7 @@ use Rattle.sa_sync.specs.Laws.{SameNumbers, woken, joining}
 use Rattle.sa_sync.proofs.Numbers.{stored_keeps}
 use Rattle.sa_fast.specs.declared.shared.Shared.{Shared}
 use Rattle.sa_fast.specs.declared.threads.Block.{Block}
-use Rattle.sa_fast.specs.declared.threads.Place.TheVariants.{Waiting, Blocked, Done}
+use Rattle.sa_fast.specs.declared.threads.KeptPlace.TheVariants.{Waiting, Blocked, Done}
 use Rattle.sa_fast.specs.declared.instruction.Ran.{Ran}
 use Rattle.sa_fast.specs.declared.instruction.Ran.TheVariants.{Goes, Leaves, Blocks}
 use Rattle.sa_fast.specs.declared.instruction.TheConstants.{NOT_MADE}

@@ -19,7 +19,7 @@ use Rattle.sa_sync.specs.declared.answer.SyncAnswer.TheVariants as answer
 use Rattle.sa_sync.specs.Sync.{Sync, cell_at, semaphore_at, joiners_at, with_joiners, Waits, WaitsNowhere}
 use Rattle.sa_sync.specs.Calls.{Change, locked, unlocked, waited, signalled, joined as joined_by, finished, stored}
 use Rattle.sa_fast.specs.declared.threads.Block.{Block}
-use Rattle.sa_fast.specs.declared.threads.Place.TheVariants.{Waiting, Blocked, Done}
+use Rattle.sa_fast.specs.declared.threads.KeptPlace.TheVariants.{Waiting, Blocked, Done}
 use Rattle.sa_fast.specs.declared.shared.Shared.{Shared}
 use Rattle.sa_fast.specs.declared.instruction.Ran.{Ran}
 use Rattle.sa_fast.specs.declared.instruction.Ran.TheVariants.{Goes, Leaves, Blocks}

@@ -9,8 +9,8 @@ use Rattle.sa_lists.specs.ReadyView.{ReadyView, AreListsFor}
 use Rattle.sa_sync.specs.Sync.{Sync, semaphore_at, waits_of, is_done}
 use Rattle.sa_code.specs.Changes.{IsPackage}
 use Rattle.sa_fast.specs.declared.shared.Shared.{Shared}
-use Rattle.sa_fast.specs.declared.threads.Place.{Place}
-use Rattle.sa_fast.specs.declared.threads.Place.TheVariants.{Unmade, Ready, Running, Waiting, Blocked}
+use Rattle.sa_fast.specs.declared.threads.KeptPlace.{KeptPlace}
+use Rattle.sa_fast.specs.declared.threads.KeptPlace.TheVariants.{Unmade, Ready, Running, Waiting, Blocked}
 use Rattle.sa_fast.specs.Threads.{block_at, is_done as is_done_place}
 use Rattle.sa_fast.specs.Work.{AreNamed}
 use Rattle.sa_fast.specs.Instruction.{IsAt}
@@ -46,25 +46,25 @@ empty_at works l = one_if_empty (list_at works l)
 abbrev pub one_where : Bool → ℕ
 one_where b = if b then 1 else 0
 
-abbrev pub is_ready : Place → Bool
+abbrev pub is_ready : KeptPlace → Bool
 is_ready Ready = true
 is_ready _ = false
 
-abbrev pub is_waiting : Place → Bool
+abbrev pub is_waiting : KeptPlace → Bool
 is_waiting Waiting = true
 is_waiting _ = false
 
-abbrev pub is_unmade : Place → Bool
+abbrev pub is_unmade : KeptPlace → Bool
 is_unmade Unmade = true
 is_unmade _ = false
 
-pub record AgreesBy (listed waits done unmade : ℕ) (place : Place) : Type 0 where
+pub record AgreesBy (listed waits done unmade : ℕ) (place : KeptPlace) : Type 0 where
   pub ready : listed ≡ one_where (is_ready place)
   pub waiting : waits ≤ one_where (is_waiting place)
   pub ends : done ≡ one_where (is_done_place place)
   pub new : unmade ≡ one_where (is_unmade place)
 
-abbrev pub place_at : Shared → ℕ → Place
+abbrev pub place_at : Shared → ℕ → KeptPlace
 place_at x t = (block_at x.threads t).place
 
 abbrev pub AgreesAt : Shared → ℕ → Type 0
@@ -72,7 +72,7 @@ AgreesAt x t =
     AgreesBy (count_in_all t x.state.lists.lists) (waits_of x.sync t) (done_at x.sync t) (unmade_at x.state.lists t) (place_at x t)
 
 -- a thread that no context carries is at neither of the places Running and Blocked
-abbrev pub is_carried : Place → Bool
+abbrev pub is_carried : KeptPlace → Bool
 is_carried Running = true
 is_carried Blocked = true
 is_carried _ = false

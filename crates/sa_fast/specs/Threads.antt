@@ -3,11 +3,11 @@ use Rattle.std.specs.Prelude.{◌≡◌, ℕ, ◌≤◌, Bool, true, false, List
 use Rattle.sa_base.specs.declared.limits.TheConstants.{MAX_THREADS}
 use Rattle.sa_instr.specs.declared.limits.TheConstants.{REGISTERS}
 use Rattle.sa_fast.specs.declared.threads.Block.{Block}
-use Rattle.sa_fast.specs.declared.threads.Place.{Place}
-use Rattle.sa_fast.specs.declared.threads.Place.TheVariants.{Unmade, Ready, Running, Carried, Done}
+use Rattle.sa_fast.specs.declared.threads.KeptPlace.{KeptPlace}
+use Rattle.sa_fast.specs.declared.threads.KeptPlace.TheVariants.{Unmade, Ready, Running, Carried, Done}
 
 -- a thread at the beginning of a program
-abbrev pub at_start : ℕ → Place → Block
+abbrev pub at_start : ℕ → KeptPlace → Block
 at_start program place = record { program = program; pc = 0; regs = replicate REGISTERS 0; place = place }
 
 -- a thread that was not made
@@ -21,26 +21,26 @@ abbrev pub with_block : List Block → ℕ → Block → List Block
 with_block threads t block = slice_set threads t block
 
 -- the same thread at another place, or at another instruction with other registers
-abbrev pub moved_to : Block → Place → Block
+abbrev pub moved_to : Block → KeptPlace → Block
 moved_to block place = record block { place = place }
 
 abbrev pub gone_to : Block → ℕ → List ℕ → Block
 gone_to block pc regs = record block { pc = pc; regs = regs }
 
 -- the load of a space are the threads that are ready or run
-abbrev pub is_loaded : Place → Bool
+abbrev pub is_loaded : KeptPlace → Bool
 is_loaded Ready = true
 is_loaded Running = true
 is_loaded _ = false
 
 -- active are those, and the ones that were stopped or unblocked and are not yet ready again
-abbrev pub is_active : Place → Bool
+abbrev pub is_active : KeptPlace → Bool
 is_active Ready = true
 is_active Running = true
 is_active Carried = true
 is_active _ = false
 
-abbrev pub is_done : Place → Bool
+abbrev pub is_done : KeptPlace → Bool
 is_done Done = true
 is_done _ = false
 

@@ -10,7 +10,7 @@ ghost use Rattle.sa_fast.specs.Work.{with_name, added_all, IsUnlisted, IsWork};
 ghost use Rattle.sa_fast.specs.Instruction.{outcome, outcome_of, went, told_by, forked, joins, blocks, touched, ended, next_of, value_in, says_of, instr_of, run, run_says, IsAt, CanRun};
 
 use crate::shared::Shared;
-use crate::threads::{Block, Place, Threads};
+use crate::threads::{Block, KeptPlace, Threads};
 use crate::work::WorkLists;
 use sa_base::{MAX_THREADS, PAGES, Record, Seen, SpaceNo, ThreadNo, Trace, has_page};
 use sa_code::add_record;
@@ -192,7 +192,7 @@ fn with_value(mut block: Block, reg: Reg, value: u64) -> Block
 }
 
 // The same thread elsewhere.
-fn moved(mut block: Block, place: Place) -> Block
+fn moved(mut block: Block, place: KeptPlace) -> Block
     ensures { result ≡ moved_to block place }
 {
     block.place = place;
@@ -219,7 +219,7 @@ fn tell(
             Ran::Goes
         }
         SyncAnswer::Waits => {
-            shared.threads.set(t, moved(block, Place::Waiting));
+            shared.threads.set(t, moved(block, KeptPlace::Waiting));
             Ran::Leaves
         }
         SyncAnswer::Wakes(woken) => {
@@ -279,7 +279,7 @@ fn fork(
         program,
         pc: 0,
         regs: Regs::zero(),
-        place: Place::Waiting,
+        place: KeptPlace::Waiting,
     };
     shared.threads.set(made, first);
     shared.works.add(work, made);
@@ -310,7 +310,7 @@ fn block_for(shared: &mut Shared, t: ThreadNo, block: Block, length: u32, page: 
     requires { t.0 < MAX_THREADS }
     ensures { (w : _) → outcome shared.new w result ≡ blocks shared.old w t block length page }
 {
-    shared.threads.set(t, moved(block, Place::Blocked));
+    shared.threads.set(t, moved(block, KeptPlace::Blocked));
     Ran::Blocks { length, page }
 }
 
@@ -352,7 +352,7 @@ fn end(shared: &mut Shared, work: &mut Option<ThreadNo>, t: ThreadNo) -> Ran
     ensures { record { shared = shared.new; work = work.new; answer = result }
         ≡ ended shared.old work.old t (block_at shared.old.threads t.0) }
 {
-    shared.threads.set_place(t, Place::Done);
+    shared.threads.set_place(t, KeptPlace::Done);
     shared.sync.finish(t);
     wake_joiners(&mut shared.sync, &mut shared.works, work, t);
     Ran::Leaves

@@ -11,5 +11,5 @@ mod work;
 pub use hints::{idle_owed, more_owed};
 pub use instruction::{NOT_MADE, Ran, run};
 pub use shared::Shared;
-pub use threads::{Block, Place, Threads};
+pub use threads::{Block, KeptPlace, Threads};
 pub use work::WorkLists;

@@ -11,7 +11,7 @@ use std::marker::Model;
 
 /// Where a thread is.
 #[derive(Clone, Copy, Debug, PartialEq, Eq)]
-pub enum Place {
+pub enum KeptPlace {
     /// It was not made.
     Unmade,
     /// In a ready list.
@@ -28,26 +28,26 @@ pub enum Place {
     Done,
 }
 
-impl Place {
+impl KeptPlace {
     // Whether a thread there is of its space's load.
     fn is_loaded(self) -> bool
         ensures { result ≡ is_loaded self }
     {
-        matches!(self, Place::Ready | Place::Running)
+        matches!(self, KeptPlace::Ready | KeptPlace::Running)
     }
 
     // Whether a thread there is active.
     fn is_active(self) -> bool
         ensures { result ≡ is_active self }
     {
-        matches!(self, Place::Ready | Place::Running | Place::Carried)
+        matches!(self, KeptPlace::Ready | KeptPlace::Running | KeptPlace::Carried)
     }
 
     // Whether a thread there is at its end.
     fn is_done(self) -> bool
         ensures { result ≡ is_done self }
     {
-        matches!(self, Place::Done)
+        matches!(self, KeptPlace::Done)
     }
 }
 
@@ -59,7 +59,7 @@ pub struct Block {
     /// The place of its next instruction.
     pub pc: u16,
     pub regs: Regs,
-    pub place: Place,
+    pub place: KeptPlace,
 }
 
 /// The blocks of the 512 threads that a space can have, by their numbers.
@@ -97,7 +97,7 @@ impl Threads {
             program: 0,
             pc: 0,
             regs: Regs::zero(),
-            place: Place::Unmade,
+            place: KeptPlace::Unmade,
         };
         Ok(Threads {
             blocks: vec![in alloc; block; MAX_THREADS as usize]?,
@@ -146,7 +146,7 @@ impl Threads {
     }
 
     /// A thread is at another place.
-    pub fn set_place(&mut self, t: ThreadNo, place: Place)
+    pub fn set_place(&mut self, t: ThreadNo, place: KeptPlace)
         requires { t.0 < MAX_THREADS }
         ensures { self.new ≡ with_block self.old t.0 (moved_to (block_at self.old t.0) place) }
     {

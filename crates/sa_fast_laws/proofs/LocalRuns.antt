@@ -18,7 +18,7 @@ use Rattle.sa_fast.specs.Instruction.{instr_of, with_thread}
 use Rattle.sa_fast.specs.Threads.{unmade, block_at, gone_to}
 use Rattle.sa_fast.specs.declared.threads.Block.{Block}
 use Rattle.sa_abstract.specs.Calls.{Contexts}
-use Rattle.sa_abstract.specs.Keeps.{GoesOn}
+use Rattle.sa_abstract.specs.Keeps.{StaysLocal}
 use Rattle.sa_abstract.specs.Setting.{Setting}
 use Rattle.sa_abstract.specs.Walk.{program_at, after_one, AreLocal, ins_records}
 use Rattle.sa_package_model.specs.Rules.{pair, did, with_shared}
@@ -140,13 +140,13 @@ pub fast-goes : (w : WorkloadView) (s : Setting) (e : ℕ) (r : Readings) (u : P
     (c : Context) (seen : Seen) (n : ℕ)
     → IsActing fast_calls fast_stands fast_fits w s e r u cs p a life c
     → Sees s.space (event_begun_at w seen.event p r) p seen.event seen → line_of r p ≡ None → 1 ≤ n → e < seen.event → seen.event + n ≤ MAX_EVENTS + 1
-    → GoesOn s n (fast_calls.local u c)
+    → StaysLocal s n (fast_calls.local u c)
     → AreLegalIns fast_threads w seen.event p r (fast_calls.went u seen c n).says
     (λ last. fast_fits w s last (fast_calls.went u seen c n).user (put cs a.0 (Some (fast_calls.went u seen c n).ctx)))
 fast-goes w s e r u cs p a life c seen n acting sees low some later within local = by c.state c.sections c.work acting local where
   by : (state : ContextState) (fs : List Frame) (wk : Option ThreadNo)
       → IsActing fast_calls fast_stands fast_fits w s e r u cs p a life (record { state = state; sections = fs; work = wk })
-      → GoesOn s n (local_at u state)
+      → StaysLocal s n (local_at u state)
       → AreLegalIns fast_threads w seen.event p r (gone_at u (record { state = state; sections = fs; work = wk }) n state).says
       (λ last. FastFits s.space last (gone_at u (record { state = state; sections = fs; work = wk }) n state).user
       (put cs a.0 (Some (gone_at u (record { state = state; sections = fs; work = wk }) n state).ctx)))

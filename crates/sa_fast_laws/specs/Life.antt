@@ -12,7 +12,7 @@ use Rattle.sa_copies.specs.Copies.{package_ops, section_at}
 use Rattle.sa_fast.specs.Rest.{one_of, place_at}
 use Rattle.sa_fast.specs.Work.{work_of}
 use Rattle.sa_fast.specs.declared.shared.Shared.{Shared}
-use Rattle.sa_fast.specs.declared.threads.Place.TheVariants.{Carried}
+use Rattle.sa_fast.specs.declared.threads.KeptPlace.TheVariants.{Carried}
 use Rattle.sa_package_model.specs.Hands.{threads_in}
 use Rattle.sa_laws.specs.Life.{Life, Lock}
 use Rattle.sa_laws.specs.Locks.{back_is_due}

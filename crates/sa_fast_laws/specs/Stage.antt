@@ -5,8 +5,8 @@ use Rattle.sa_base.specs.declared.number.ActNo.{ActNo}
 use Rattle.sa_base.specs.declared.number.ProcNo.{ProcNo}
 use Rattle.sa_base.specs.declared.number.SpaceNo.{SpaceNo}
 use Rattle.sa_base.specs.declared.record.Note.TheVariants.{Preempted, Unblocked}
-use Rattle.sa_fast.specs.declared.threads.Place.{Place as KeptPlace}
-use Rattle.sa_fast.specs.declared.threads.Place.TheVariants as kept
+use Rattle.sa_fast.specs.declared.threads.KeptPlace.{KeptPlace}
+use Rattle.sa_fast.specs.declared.threads.KeptPlace.TheVariants as kept
 use Rattle.sa_laws.specs.Life.{Life}
 use Rattle.sa_laws.specs.Readings.{Readings, untold_of, running_of}
 use Rattle.sa_laws.specs.Record.{same_note}

@@ -118,13 +118,13 @@ Leaves p r owner s rest = leave_run rest ≡ leave_records p owner s (is_fetchin
 
 -- A block gives an upcall: a block names the number of its I/O, and directly after it comes an up of its space, or
 -- the leave.
-abbrev pub GoesOn : Bool → ProcNo → Readings → SpaceNo → List Record → Type 0
-GoesOn true p r s rest = BeginsWithUp s rest
-GoesOn false p r s rest = Leaves p r (Some s) s rest
+abbrev pub UpOrLeave : Bool → ProcNo → Readings → SpaceNo → List Record → Type 0
+UpOrLeave true p r s rest = BeginsWithUp s rest
+UpOrLeave false p r s rest = Leaves p r (Some s) s rest
 
 pub record GivesUpcall (p : ProcNo) (r : Readings) (s : SpaceNo) (io : IoNo) (rest : List Record) : Type 0 where
   pub number : io.0 ≡ r.io_count
-  pub follows : GoesOn (is_resident r s UPCALL_PAGE) p r s rest
+  pub follows : UpOrLeave (is_resident r s UPCALL_PAGE) p r s rest
 
 abbrev pub GivesUpcallThen : ProcNo → RecordLaw
 GivesUpcallThen p r (Block s t a io) rest = GivesUpcall p r s io rest

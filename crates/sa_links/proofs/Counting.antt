@@ -29,7 +29,7 @@ lacks_tail x y ys none = let c = count_other x y ys (lacks_head x y ys none) in 
 pub count-cons-ge : (x y : ℕ) (ys : List ℕ) → count_in x ys ≤ count_in x (y ∷ ys)
 count-cons-ge x y ys = let e = count-cons x y ys in omega arith
 
--- what a list has at a place is in it
+-- what a list has at a slot is in it
 pub get_in : (xs : List ℕ) (k t : ℕ) → slice_get xs k ≡ Some t → 1 ≤ count_in t xs
 get_in [] k t e = absurd cc
 get_in (x ∷ xs) zero t e = let one = count_same t x xs (same_Some _ _ e) in omega arith

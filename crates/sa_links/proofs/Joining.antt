@@ -3,10 +3,10 @@ use Rattle.std.proofs.Common.{◌≡◌, ℕ, ◌<◌, List, length, get_or, set
 use Rattle.std.proofs.lemmas.List.{length-set, map-set, set-get_or, get_or-map}
 use Rattle.std.proofs.lemmas.List.Elements.{All-set}
 use Rattle.std.specs.Ptr.{Ptr}
-use Rattle.sa_links.specs.declared.block.Place.{Place}
+use Rattle.sa_links.specs.declared.block.Slot.{Slot}
 use Rattle.sa_links.specs.declared.node.Node.{Node, Node', out-Node, roll-Node, rolls-Node', is-Node'}
 use Rattle.sa_links.specs.Rings.{joined}
-use Rattle.sa_links.specs.Wiring.{IsNodePlace, node_index, prev_of, next_of, number_of, IsLinked, AreLinked, wires_of, numbers_of, IsRelinked}
+use Rattle.sa_links.specs.Wiring.{IsNodeSlot, node_index, prev_of, next_of, number_of, IsLinked, AreLinked, wires_of, numbers_of, IsRelinked}
 
 pub out_prev : (n : Node) → (out-Node n).prev.ptr ≡ prev_of n
 out_prev n = sym (ap prev_of (is-Node' n))
@@ -24,10 +24,10 @@ with_next n q = Node' (prev_of n) q (number_of n)
 abbrev pub with_prev : Node → Ptr → Node
 with_prev n p = Node' p (next_of n) (number_of n)
 
-pub rolled_next : (n : Node) (q : Place Node) → roll-Node (record { prev = (out-Node n).prev; next = q; number = (out-Node n).number }) ≡ with_next n q.ptr
+pub rolled_next : (n : Node) (q : Slot Node) → roll-Node (record { prev = (out-Node n).prev; next = q; number = (out-Node n).number }) ≡ with_next n q.ptr
 rolled_next n q = rolls-Node' (record { prev = (out-Node n).prev; next = q; number = (out-Node n).number }) ∙ (λ i. Node' (out_prev n i) q.ptr (out_number n i))
 
-pub rolled_prev : (n : Node) (p : Place Node) → roll-Node (record { prev = p; next = (out-Node n).next; number = (out-Node n).number }) ≡ with_prev n p.ptr
+pub rolled_prev : (n : Node) (p : Slot Node) → roll-Node (record { prev = p; next = (out-Node n).next; number = (out-Node n).number }) ≡ with_prev n p.ptr
 rolled_prev n p = rolls-Node' (record { prev = p; next = (out-Node n).next; number = (out-Node n).number }) ∙ (λ i. Node' p.ptr (out_next n i) (out_number n i))
 
 -- what a write of a node that agrees with the old one leaves of a property of the nodes
@@ -37,8 +37,8 @@ kept f nodes i old new h at same =
     let read : f new ≡ get_or (map f nodes) i (f old) = same ∙ ap f at ∙ sym (get_or-map f nodes i old (f old) h) in
     map-set f nodes i new ∙ ap (λ x. set (map f nodes) i x) read ∙ set-get_or (map f nodes) i (f old)
 
-module _ (base : Ptr) (nodes : List Node) (front back : Ptr) (n m : Node) (at-front : IsNodePlace base (length nodes) front)
-    (at-back : IsNodePlace base (length nodes) back) where
+module _ (base : Ptr) (nodes : List Node) (front back : Ptr) (n m : Node) (at-front : IsNodeSlot base (length nodes) front)
+    (at-back : IsNodeSlot base (length nodes) back) where
   abbrev i : ℕ
   i = node_index base front
 
@@ -85,8 +85,8 @@ module _ (base : Ptr) (nodes : List Node) (front back : Ptr) (n m : Node) (at-fr
         record { block = e; size = joined_size; numbers = joined_numbers; linked = λ l. subst (λ z. AreLinked z end) (sym e) (joined_linked l) }
 
 -- the same, as the steps of `join` say it
-module _ (base base₁ base₂ : Ptr) (nodes mid' new : List Node) (front back : Place Node) (n m : Node)
-    (at-front : IsNodePlace base (length nodes) front.ptr) (at-back : IsNodePlace base (length nodes) back.ptr) (e₁ : base₁ ≡ base) (e₂ : base₂ ≡ base₁)
+module _ (base base₁ base₂ : Ptr) (nodes mid' new : List Node) (front back : Slot Node) (n m : Node)
+    (at-front : IsNodeSlot base (length nodes) front.ptr) (at-back : IsNodeSlot base (length nodes) back.ptr) (e₁ : base₁ ≡ base) (e₂ : base₂ ≡ base₁)
     (read-n : n ≡ get_or nodes (node_index base front.ptr) n)
     (mid-is : mid' ≡ set nodes (node_index base front.ptr) (roll-Node (record { prev = (out-Node n).prev; next = back; number = (out-Node n).number })))
     (read-m : m ≡ get_or mid' (node_index base₁ back.ptr) m)

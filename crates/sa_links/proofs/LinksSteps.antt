@@ -1,5 +1,5 @@
 -- What the calls of `Links` read of the nodes, and what they leave of the lists.
---     count_is, head_is      the count of nodes, and the place of a list's head
+--     count_is, head_is      the count of nodes, and the slot of a list's head
 --     front_read, back_read, free_read      what the nodes say of a list's ends, and of a node in no list
 --     after_change      the nodes after a change of links
 --     pushed_front, pushed_back, removed, popped_front, popped_back, unlinked, moved      the rings after a call
@@ -11,7 +11,7 @@ use Rattle.std.specs.Option.{IfSome, option_eq, is_some}
 use Rattle.sa_links.specs.declared.node.Node.{Node, out-Node}
 use Rattle.sa_links.specs.Lists.{IsFree, IsIn, IsListed, IsNext, Lists, count_in, count_in_all, list_at, with_list, without}
 use Rattle.sa_links.specs.Rings.{Wires, joined, IsEdge, IsChain, IsRings, lists_of}
-use Rattle.sa_links.specs.Wiring.{IsNodePlace, node_index, next_of, prev_of, number_of, wires_of, number_at, AreNumbered, AreLinked, IsRelinked, IsLinks}
+use Rattle.sa_links.specs.Wiring.{IsNodeSlot, node_index, next_of, prev_of, number_of, wires_of, number_at, AreNumbered, AreLinked, IsRelinked, IsLinks}
 use Rattle.std.proofs.lemmas.List.Sums.{sum_by-cons}
 use Rattle.sa_links.proofs.Counting.{count_same, count-append, count-cons-ge, count-replicate, empty_lists, count_set, count_at, stands_between, without_between}
 use Rattle.sa_links.proofs.Chains.{last_of, first_of, last_in, chain_begins, chain_ends, chain_split, edge_made, edge_kept}
@@ -82,12 +82,12 @@ prev_read base nodes i n h e = let f : Node → ℕ = λ x. node_index base (pre
     ap (node_index base) (out_prev n) ∙ ap f e ∙ sym (get_or-map f nodes i n 0 h)
 
 pub next_inside : (base : Ptr) (nodes : List Node) (i : ℕ) (n : Node) → AreLinked base nodes → i < length nodes → n ≡ get_or nodes i n
-    → IsNodePlace base (length nodes) (out-Node n).next.ptr
-next_inside base nodes i n linked h e = subst (λ p. IsNodePlace base (length nodes) p) (ap next_of (sym e) ∙ sym (out_next n)) (linked i n h).next
+    → IsNodeSlot base (length nodes) (out-Node n).next.ptr
+next_inside base nodes i n linked h e = subst (λ p. IsNodeSlot base (length nodes) p) (ap next_of (sym e) ∙ sym (out_next n)) (linked i n h).next
 
 pub prev_inside : (base : Ptr) (nodes : List Node) (i : ℕ) (n : Node) → AreLinked base nodes → i < length nodes → n ≡ get_or nodes i n
-    → IsNodePlace base (length nodes) (out-Node n).prev.ptr
-prev_inside base nodes i n linked h e = subst (λ p. IsNodePlace base (length nodes) p) (ap prev_of (sym e) ∙ sym (out_prev n)) (linked i n h).prev
+    → IsNodeSlot base (length nodes) (out-Node n).prev.ptr
+prev_inside base nodes i n linked h e = subst (λ p. IsNodeSlot base (length nodes) p) (ap prev_of (sym e) ∙ sym (out_prev n)) (linked i n h).prev
 
 -- the nodes of a `Links` that is seen as v
 module _ {begin : Ptr} (base : Ptr) (nodes : List Node) (count : ℕ) (v : Lists) (view : lists_of (wires_of base nodes) count ≡ v)
@@ -358,7 +358,7 @@ next_is w v x i r hi l xs ys e = elim (cases_lt l (length v.lists)) [
       absurd (omega arith)
 ]
 
--- what a list has at a place is in it
+-- what a list has at a slot is in it
 if_some : (o : Option ℕ) (P Q : ℕ → Type 0) → ((x : ℕ) → P x → Q x) → IfSome o P → IfSome o Q
 if_some None P Q f h = tt
 if_some (Some x) P Q f h = f x h

@@ -1,5 +1,5 @@
 -- What the walks of the three functions share.
---     word_had, word_made      a place, which is one pointer
+--     word_had, word_made      a slot, which is one pointer
 --     tells      what is owned of a value is one machine value
 --     one_out, one_in, one_seen      a value is taken out of the block, put back, or seen
 --     some_of      a value of the block, where it has one
@@ -35,7 +35,7 @@ use Rattle.std.proofs.Math.Nat.{mul-div_cancel}
 use Rattle.std.proofs.RcSteps.{Good, word}
 use Rattle.std.proofs.VecSteps.El.{El, el_x, R, sz}
 use Rattle.std.proofs.VecSteps.Rows.{apart, whole}
-use Rattle.sa_links.specs.contracts.block.Place as Place-type
+use Rattle.sa_links.specs.contracts.block.Slot as Slot-type
 
 abbrev one_field : Shape
 one_field = record { name = []; args = []; types = []; fields = RawPtr ∷ [] }
@@ -67,9 +67,9 @@ module _ (Y : RattleType) (L : Laws Y) {M : Type 1} {𝓤 : Ura M} {𝓛 : Logic
       rewrite t 0 (λ (us : List Val). ‵ (Y.own_val x us)) one.1.0 refl $ k one.0 one.1.0 one.1.1)
 
 module _ (E : El) where
-  -- the row of a place
+  -- the row of a slot
   abbrev pub Pl : RattleType
-  Pl = Place-type.the_row (R E)
+  Pl = Slot-type.the_row (R E)
 
   module _ {M : Type 1} {𝓤 : Ura M} (𝓛 : Logic 𝓤) (n : ℕ) (xs : List (el_x E)) (i : ℕ) (b o : ℕ) where
     abbrev all : List (el_x E) → SProp 𝓤
@@ -107,8 +107,8 @@ fits_here c s i within fit =
     let few : i * s ≤ c * s = grind arith in
     (omega arith, omega arith)
 
-next_place : (i s o : ℕ) → i * s + (o + s) ≡ suc i * s + o
-next_place i s o = omega arith
+next_slot : (i s o : ℕ) → i * s + (o + s) ≡ suc i * s + o
+next_slot i s o = omega arith
 
 module _ {M : Type 1} {𝓤 : Ura M} (𝓛 : Logic 𝓤) (R : RattleType) (b : ℕ) (κ : Lft) where
   abbrev s : ℕ
@@ -122,7 +122,7 @@ module _ {M : Type 1} {𝓤 : Ura M} (𝓛 : Logic 𝓤) (R : RattleType) (b : �
       subst (λ (k : ℕ). ent 𝓤 (sem 𝓛 (elements_shared R (x ∷ xs) b o κ)) (sem 𝓛 (shared_of R x b k κ))) e
       (fst∗ 𝓤 (sem 𝓛 (shared_of R x b o κ)) (sem 𝓛 (elements_shared R xs b (o + s) κ)))
   one_seen (x ∷ xs) (suc i) d o h =
-      subst (λ (k : ℕ). ent 𝓤 (sem 𝓛 (elements_shared R (x ∷ xs) b o κ)) (sem 𝓛 (shared_of R (get_or xs i d) b k κ))) (next_place i s o)
+      subst (λ (k : ℕ). ent 𝓤 (sem 𝓛 (elements_shared R (x ∷ xs) b o κ)) (sem 𝓛 (shared_of R (get_or xs i d) b k κ))) (next_slot i s o)
       (via 𝓤 (sem 𝓛 (elements_shared R xs b (o + s) κ)) (snd∗ 𝓤 (sem 𝓛 (shared_of R x b o κ)) (sem 𝓛 (elements_shared R xs b (o + s) κ)))
       (one_seen xs i d (o + s) (le_of_suc-le-suc h)))
 

@@ -1,4 +1,4 @@
-pub mod Place
+pub mod Slot
 pub mod Lists
 pub mod Rings
 pub mod Wiring

@@ -1,14 +1,14 @@
 -- What the nodes of a block say: where their links lead, and their numbers.
 use Rattle.std.specs.Prelude.{◌≡◌, ℕ, List, length, map, All, Option, Some, None, nat_lt, slice_index_or, if◌then◌else◌}
 use Rattle.std.specs.Ptr.{Ptr}
-use Rattle.sa_links.specs.Place.{IsPlace, index_of}
+use Rattle.sa_links.specs.Slot.{IsSlot, index_of}
 use Rattle.sa_links.specs.Rings.{Wires, IsRings, lists_of}
 use Rattle.sa_links.specs.declared.node.Node.{Node, Node'}
 use Rattle.sa_links.specs.contracts.node.Node.{the_row}
 
 -- the block of `size` nodes that begins at base has a node at p
-abbrev pub IsNodePlace : Ptr → ℕ → Ptr → Type 0
-IsNodePlace base size p = IsPlace the_row base size p
+abbrev pub IsNodeSlot : Ptr → ℕ → Ptr → Type 0
+IsNodeSlot base size p = IsSlot the_row base size p
 
 -- which of its nodes that is, from 0 on
 abbrev pub node_index : Ptr → Ptr → ℕ
@@ -26,8 +26,8 @@ number_of (Node' prev next number) = number
 
 -- both links of a node lead to nodes of the block
 pub record IsLinked (base : Ptr) (size : ℕ) (node : Node) : Type 0 where
-  pub prev : IsNodePlace base size (prev_of node)
-  pub next : IsNodePlace base size (next_of node)
+  pub prev : IsNodeSlot base size (prev_of node)
+  pub next : IsNodeSlot base size (next_of node)
 
 abbrev pub AreLinked : Ptr → List Node → Type 0
 AreLinked base nodes = All (IsLinked base (length nodes)) nodes

@@ -2,8 +2,8 @@
 ghost use Rattle.std.specs.Prelude.{◌≡◌, ◌≢◌, ◌-◌, ◌<◌, ◌↔◌, [], ◌∷◌, ◌++◌, length, take, drop, replicate, slice_get, IfOk, IfSome, IsTrue, OnOk};
 ghost use Rattle.sa_links.specs.Lists.{HasSameCounts, IsApart, IsFree, IsIn, IsListed, IsNext, list_at, with_list, without};
 
-use crate::block::{Place, at, begin_of};
-use crate::node::{Node, insert, join, place_of, remove};
+use crate::block::{Slot, at, begin_of};
+use crate::node::{Node, insert, join, slot_of, remove};
 use crate::start::{close, numbered};
 use std::alloc::{AllocError, Global};
 use std::marker::Model;
@@ -16,7 +16,7 @@ use std::marker::Model;
 pub struct Links {
     // the nodes, and after them the heads of the lists
     nodes: Vec<Node>,
-    begin: Place<Node>,
+    begin: Slot<Node>,
     count: u32,
 }
 
@@ -58,9 +58,9 @@ impl Links {
         requires free { IsFree self.old node }
         ensures { self.new ≡ with_list self.old list (node ∷ list_at self.old.lists list) }
     {
-        let head = place_of(&self.nodes, self.begin, self.count as usize + list as usize);
-        let place = place_of(&self.nodes, self.begin, node as usize);
-        insert(&mut self.nodes, head, place);
+        let head = slot_of(&self.nodes, self.begin, self.count as usize + list as usize);
+        let slot = slot_of(&self.nodes, self.begin, node as usize);
+        insert(&mut self.nodes, head, slot);
     }
 
     /// Puts a node that is in no list at the end of `list`.
@@ -70,10 +70,10 @@ impl Links {
         requires free { IsFree self.old node }
         ensures { self.new ≡ with_list self.old list (list_at self.old.lists list ++ node ∷ []) }
     {
-        let head = place_of(&self.nodes, self.begin, self.count as usize + list as usize);
-        let place = place_of(&self.nodes, self.begin, node as usize);
+        let head = slot_of(&self.nodes, self.begin, self.count as usize + list as usize);
+        let slot = slot_of(&self.nodes, self.begin, node as usize);
         let last = at(&self.nodes, head).prev;
-        insert(&mut self.nodes, last, place);
+        insert(&mut self.nodes, last, slot);
     }
 
     /// Takes the first node out of `list`: `None` exactly where the list is empty.
@@ -84,7 +84,7 @@ impl Links {
         ensures node { IfSome result (λ node. node < self.new.nodes) }
         ensures free { IfSome result (λ node. IsFree self.new node) }
     {
-        let head = place_of(&self.nodes, self.begin, self.count as usize + list as usize);
+        let head = slot_of(&self.nodes, self.begin, self.count as usize + list as usize);
         let first = at(&self.nodes, head).next;
         let number = at(&self.nodes, first).number?;
         remove(&mut self.nodes, first);
@@ -101,7 +101,7 @@ impl Links {
         ensures node { IfSome result (λ node. node < self.new.nodes) }
         ensures free { IfSome result (λ node. IsFree self.new node) }
     {
-        let head = place_of(&self.nodes, self.begin, self.count as usize + list as usize);
+        let head = slot_of(&self.nodes, self.begin, self.count as usize + list as usize);
         let last = at(&self.nodes, head).prev;
         let number = at(&self.nodes, last).number?;
         remove(&mut self.nodes, last);
@@ -117,8 +117,8 @@ impl Links {
         ensures free { IsFree self.new node }
     {
         let _ = list;
-        let place = place_of(&self.nodes, self.begin, node as usize);
-        remove(&mut self.nodes, place);
+        let slot = slot_of(&self.nodes, self.begin, node as usize);
+        remove(&mut self.nodes, slot);
     }
 
     /// Moves all nodes of the list `from` to the end of `list`, in their order. A node that is in no
@@ -131,8 +131,8 @@ impl Links {
             self.new ≡ with_list (with_list self.old list xs) from [] }
         ensures counts { HasSameCounts self.old self.new }
     {
-        let head = place_of(&self.nodes, self.begin, self.count as usize + list as usize);
-        let emptied = place_of(&self.nodes, self.begin, self.count as usize + from as usize);
+        let head = slot_of(&self.nodes, self.begin, self.count as usize + list as usize);
+        let emptied = slot_of(&self.nodes, self.begin, self.count as usize + from as usize);
         let first = at(&self.nodes, emptied).next;
         if at(&self.nodes, first).number.is_none() {
             return;
@@ -152,7 +152,7 @@ impl Links {
         ensures stands { IfSome result (λ node. IsIn node (list_at self.now.lists list)) }
         ensures listed { IfSome result (λ node. IsListed self.now node) }
     {
-        let head = place_of(&self.nodes, self.begin, self.count as usize + list as usize);
+        let head = slot_of(&self.nodes, self.begin, self.count as usize + list as usize);
         at(&self.nodes, at(&self.nodes, head).next).number
     }
 
@@ -165,7 +165,7 @@ impl Links {
         ensures stands { IfSome result (λ node. IsIn node (list_at self.now.lists list)) }
         ensures listed { IfSome result (λ node. IsListed self.now node) }
     {
-        let head = place_of(&self.nodes, self.begin, self.count as usize + list as usize);
+        let head = slot_of(&self.nodes, self.begin, self.count as usize + list as usize);
         at(&self.nodes, at(&self.nodes, head).prev).number
     }
 
@@ -184,7 +184,7 @@ impl Links {
         ensures node { IfSome result (λ next. next < self.now.nodes) }
         ensures listed { IfSome result (λ next. IsListed self.now next) }
     {
-        let here = place_of(&self.nodes, self.begin, node as usize);
+        let here = slot_of(&self.nodes, self.begin, node as usize);
         at(&self.nodes, at(&self.nodes, here).next).number
     }
 
@@ -206,8 +206,8 @@ impl Links {
         requires { node < self.now.nodes }
         ensures { IsTrue result ↔ IsFree self.now node }
     {
-        let place = place_of(&self.nodes, self.begin, node as usize);
-        at(&self.nodes, at(&self.nodes, place).next).number == Some(node)
+        let slot = slot_of(&self.nodes, self.begin, node as usize);
+        at(&self.nodes, at(&self.nodes, slot).next).number == Some(node)
     }
 
     /// Says that the lists are apart: each has numbers of nodes alone, and no number is there more than once.

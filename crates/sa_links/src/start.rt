@@ -4,8 +4,8 @@ ghost use Rattle.std.specs.Vec.{vec_ptr};
 ghost use Rattle.sa_links.specs.Rings.{IsEdge};
 ghost use Rattle.sa_links.specs.Wiring.{AreLinked, AreNumbered, IsRelinked, number_at, wires_of};
 
-use crate::block::{Place, begin_of};
-use crate::node::{Node, join, place_of};
+use crate::block::{Slot, begin_of};
+use crate::node::{Node, join, slot_of};
 use std::alloc::{AllocError, Global};
 
 // The number that the node at `index` holds: the heads of lists, from `count` on, have none.
@@ -39,7 +39,7 @@ pub(crate) fn numbered(alloc: Global, count: u32, lists: u32) -> Result<Vec<Node
 }
 
 // Closes each node in itself.
-pub(crate) fn close(nodes: &mut Vec<Node>, begin: Place<Node>)
+pub(crate) fn close(nodes: &mut Vec<Node>, begin: Slot<Node>)
     requires begin { begin.ptr ≡ vec_ptr nodes.old }
     requires linked { AreLinked (vec_ptr nodes.old) nodes.old.items }
     ensures relinked { IsRelinked (vec_ptr nodes.old) nodes.old.items
@@ -48,7 +48,7 @@ pub(crate) fn close(nodes: &mut Vec<Node>, begin: Place<Node>)
         → IsEdge (wires_of (vec_ptr nodes.new) nodes.new.items) k k }
 {
     for index in 0..nodes.len() {
-        let place = place_of(nodes, begin, index);
-        join(nodes, place, place);
+        let slot = slot_of(nodes, begin, index);
+        join(nodes, slot, slot);
     }
 }

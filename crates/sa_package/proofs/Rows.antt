@@ -12,7 +12,7 @@ use Rattle.sa_instr.specs.declared.instr.Instr.TheVariants.{End}
 use Rattle.sa_lists.specs.ReadyView.{thread, processor}
 use Rattle.sa_copies.specs.Copies.{package_ops}
 use Rattle.sa_sync.specs.Sync.{opening}
-use Rattle.sa_fast.specs.declared.threads.Place.TheVariants.{Running, Waiting}
+use Rattle.sa_fast.specs.declared.threads.KeptPlace.TheVariants.{Running, Waiting}
 use Rattle.sa_fast.specs.Threads.{at_start}
 use Rattle.sa_package_model.specs.declared.context.Context.{Context}
 use Rattle.sa_package_model.specs.declared.context.ContextState.TheVariants.{Code}

@@ -11,7 +11,7 @@ use crate::settling::place;
 use sa_base::{Note, Stopped};
 use sa_code::{Code, Frame};
 use sa_copies::copy_place;
-use sa_fast::Place;
+use sa_fast::KeptPlace;
 use sa_package_model::{Context, ContextState};
 
 impl FastThreads {
@@ -45,7 +45,7 @@ impl FastThreads {
         ensures { pair self.new ctx.new ≡ took_over self.old ctx.old other.now }
     {
         let thread = other.state.thread();
-        place(&mut self.package.shared, thread, Place::Carried);
+        place(&mut self.package.shared, thread, KeptPlace::Carried);
         let own = section_of(&self.package.shared.state.code, other.state);
         if let Some(frame) = own {
             ctx.sections.add(frame);

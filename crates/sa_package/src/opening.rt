@@ -7,7 +7,7 @@ use crate::package::FastThreads;
 use sa_base::{MAX_PROCESSORS, MAX_THREADS, ProcNo, SpaceNo, ThreadNo};
 use sa_code::{MAX_LISTS, PackageState, routines};
 use sa_copies::make_copies;
-use sa_fast::{Block, Place, Shared, Threads, WorkLists};
+use sa_fast::{Block, KeptPlace, Shared, Threads, WorkLists};
 use sa_instr::Regs;
 use sa_lists::{Ranks, ReadyLists};
 use sa_package_model::Package;
@@ -63,7 +63,7 @@ impl FastThreads {
                 program: 0,
                 pc: 0,
                 regs: Regs::zero(),
-                place: Place::Ready,
+                place: KeptPlace::Ready,
             },
         );
         let state = PackageState {

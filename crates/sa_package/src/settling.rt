@@ -7,7 +7,7 @@ ghost use Rattle.sa_package_model.specs.Rules.{pair, load, owed, settled, placed
 
 use crate::package::FastThreads;
 use sa_base::{BULK_RETURN, Seen, ThreadNo};
-use sa_fast::{Place, Shared, more_owed};
+use sa_fast::{KeptPlace, Shared, more_owed};
 use sa_package_model::{Context, ContextState};
 
 impl FastThreads {
@@ -40,7 +40,7 @@ impl FastThreads {
         requires thread { CanBeDue self.old.shared thread }
         ensures { pair self.new ctx.new ≡ put_last self.old ctx.old thread }
     {
-        place(&mut self.package.shared, thread, Place::Carried);
+        place(&mut self.package.shared, thread, KeptPlace::Carried);
         if let Some(t) = thread {
             self.package.shared.works.add(&mut ctx.work, t);
         }
@@ -69,7 +69,7 @@ fn settled_to(thread: Option<ThreadNo>, left: bool, owed: bool, bulk: bool) -> C
 }
 
 // A thread is elsewhere, if there is one.
-pub(crate) fn place(shared: &mut Shared, thread: Option<ThreadNo>, place: Place)
+pub(crate) fn place(shared: &mut Shared, thread: Option<ThreadNo>, place: KeptPlace)
     requires { IsThread thread }
     ensures { shared.new ≡ placed shared.old thread place }
 {

@@ -14,7 +14,7 @@ use crate::settling::place;
 use sa_abstract::Step;
 use sa_base::{BULK_RETURN, MAX_THREADS, PACKAGE_PAGE, ProcNo, Record, Seen, ThreadNo, Trace};
 use sa_code::{Frame, MicroDone, Op, micro};
-use sa_fast::{Place, Ran, Shared, idle_owed, run};
+use sa_fast::{KeptPlace, Ran, Shared, idle_owed, run};
 use sa_instr::MAX_PATIENCE;
 use sa_package_model::{Context, ContextState};
 
@@ -109,7 +109,7 @@ impl FastThreads {
         ensures { Steps (continued self.old ctx.old frame) seen.now trace.old self.new ctx.new result trace.new }
     {
         self.put_last(ctx, ctx.state.thread());
-        place(&mut self.package.shared, frame.thread, Place::Running);
+        place(&mut self.package.shared, frame.thread, KeptPlace::Running);
         ctx.sections.remove_first();
         ctx.state = ContextState::Code(frame);
         let cont = Record::Cont(self.package.shared.state.space, frame.thread);
@@ -263,7 +263,7 @@ impl FastThreads {
             }
             MicroDone::Spun => Step::Did,
             MicroDone::Faulted => {
-                place(&mut self.package.shared, frame.thread, Place::Blocked);
+                place(&mut self.package.shared, frame.thread, KeptPlace::Blocked);
                 Step::Block {
                     length: self.package.fetch,
                     page: Some(PACKAGE_PAGE),
@@ -300,8 +300,8 @@ fn move_thread(shared: &mut Shared, op: Option<Op>, before: Frame, after: Frame)
     ensures { shared.new ≡ moved_by shared.old op before after }
 {
     match op {
-        Some(Op::Push) => place(shared, before.pushed, Place::Ready),
-        Some(Op::Pop) => place(shared, after.thread, Place::Running),
+        Some(Op::Push) => place(shared, before.pushed, KeptPlace::Ready),
+        Some(Op::Pop) => place(shared, after.thread, KeptPlace::Running),
         _ => {}
     }
 }

@@ -13,8 +13,8 @@ use Rattle.sa_sync.specs.Sync.{Sync, Mutex, Semaphore}
 use Rattle.sa_code.specs.declared.state.Frame.{Frame}
 use Rattle.sa_code.specs.declared.state.PackageState.{PackageState}
 use Rattle.sa_fast.specs.declared.threads.Block.{Block}
-use Rattle.sa_fast.specs.declared.threads.Place.{Place}
-use Rattle.sa_fast.specs.declared.threads.Place.TheVariants.{Unmade, Ready, Running, Waiting, Blocked, Carried, Done}
+use Rattle.sa_fast.specs.declared.threads.KeptPlace.{KeptPlace}
+use Rattle.sa_fast.specs.declared.threads.KeptPlace.TheVariants.{Unmade, Ready, Running, Waiting, Blocked, Carried, Done}
 use Rattle.sa_fast.specs.declared.shared.Shared.{Shared}
 use Rattle.sa_fast.specs.Rest.{is_unmade}
 use Rattle.sa_fast.specs.Threads.{unmade}
@@ -179,7 +179,7 @@ sync-code x y r s same =
         ≡ record { mutexes = b; semaphores = d; joiners = f; done = h; cells = j }
     same-sync a b c d e f g h i j e1 e2 e3 e4 e5 = rw (e1, e2, e3, e4, e5) refl
 
-place-same : (x y : Place) → place_no x ≡ place_no y → x ≡ y
+place-same : (x y : KeptPlace) → place_no x ≡ place_no y → x ≡ y
 place-same Unmade Unmade is = refl
 place-same Ready Ready is = refl
 place-same Running Running is = refl
@@ -189,7 +189,7 @@ place-same Carried Carried is = refl
 place-same Done Done is = refl
 place-same _ _ is = absurd (omega arith)
 
-same-block : (a b c d : ℕ) (f g : List ℕ) (p q : Place) → a ≡ b → c ≡ d → f ≡ g → p ≡ q
+same-block : (a b c d : ℕ) (f g : List ℕ) (p q : KeptPlace) → a ≡ b → c ≡ d → f ≡ g → p ≡ q
     → (let v : Block = record { program = a; pc = c; regs = f; place = p } in v) ≡ record { program = b; pc = d; regs = g; place = q }
 same-block a b c d f g p q e1 e2 e3 e4 = rw (e1, e2, e3, e4) refl
 
@@ -213,7 +213,7 @@ all-zero (r ∷ rs) all =
     let both = and-both (is_zero r) (list_all is_zero rs) all in
     ap (λ n. n ∷ rs) (zero-is r both.0) ∙ ap (λ z. 0 ∷ z) (all-zero rs both.1)
 
-unmade-is : (p : Place) → is_unmade p ≡ true → p ≡ Unmade
+unmade-is : (p : KeptPlace) → is_unmade p ≡ true → p ≡ Unmade
 unmade-is Unmade is = refl
 unmade-is _ is = absurd (let e : false ≡ true = is in cc)
 

@@ -4,8 +4,8 @@ use Rattle.std.proofs.lemmas.Bool.{le-ltb}
 use Rattle.sa_links.specs.Lists.{list_at}
 use Rattle.sa_links.proofs.Counting.{count_at, first_counted}
 use Rattle.sa_sync.specs.Sync.{is_done}
-use Rattle.sa_fast.specs.declared.threads.Place.{Place}
-use Rattle.sa_fast.specs.declared.threads.Place.TheVariants.{Unmade, Ready, Running, Waiting, Blocked, Carried, Done}
+use Rattle.sa_fast.specs.declared.threads.KeptPlace.{KeptPlace}
+use Rattle.sa_fast.specs.declared.threads.KeptPlace.TheVariants.{Unmade, Ready, Running, Waiting, Blocked, Carried, Done}
 use Rattle.sa_fast.specs.Threads.{is_done as is_done_place}
 use Rattle.sa_fast.specs.Rest.{unmade_at, done_at, one_where, is_unmade, place_at}
 use Rattle.sa_abstract.specs.Setting.{Setting}
@@ -16,7 +16,7 @@ use Rattle.sa_package_model.specs.Stands.{IsStanding}
 use Rattle.sa_package_model.proofs.Holding.{rest_unlisted}
 use Rattle.sa_package_keys.specs.Packages.{HasThreads, HasUnmade}
 
-unmade_ends : (p : Place) (unmade done : ℕ) → unmade ≡ 1 → unmade ≡ one_where (is_unmade p) → done ≡ one_where (is_done_place p) → done ≡ 0
+unmade_ends : (p : KeptPlace) (unmade done : ℕ) → unmade ≡ 1 → unmade ≡ one_where (is_unmade p) → done ≡ one_where (is_done_place p) → done ≡ 0
 unmade_ends Unmade unmade done one new ends = ends
 unmade_ends Ready unmade done one new ends = absurd (let e : unmade ≡ 0 = new in omega arith)
 unmade_ends Running unmade done one new ends = absurd (let e : unmade ≡ 0 = new in omega arith)

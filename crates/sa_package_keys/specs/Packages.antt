@@ -10,8 +10,8 @@ use Rattle.sa_links.specs.Lists.{list_at}
 use Rattle.sa_sync.specs.Sync.{Sync, Mutex, Semaphore, is_done}
 use Rattle.sa_code.specs.declared.state.Frame.{Frame}
 use Rattle.sa_fast.specs.declared.threads.Block.{Block}
-use Rattle.sa_fast.specs.declared.threads.Place.{Place}
-use Rattle.sa_fast.specs.declared.threads.Place.TheVariants.{Unmade, Ready, Running, Waiting, Blocked, Carried, Done}
+use Rattle.sa_fast.specs.declared.threads.KeptPlace.{KeptPlace}
+use Rattle.sa_fast.specs.declared.threads.KeptPlace.TheVariants.{Unmade, Ready, Running, Waiting, Blocked, Carried, Done}
 use Rattle.sa_fast.specs.declared.shared.Shared.{Shared}
 use Rattle.sa_fast.specs.Rest.{is_unmade}
 use Rattle.sa_package_model.specs.declared.context.Context.{Context}
@@ -67,7 +67,7 @@ abbrev pub sync_key : Sync → List ℕ
 sync_key s =
     list mutex_key s.mutexes ++ list semaphore_key s.semaphores ++ padded is_empty (list number) s.joiners ++ padded not flag s.done ++ list number s.cells
 
-abbrev pub place_no : Place → ℕ
+abbrev pub place_no : KeptPlace → ℕ
 place_no Unmade = 0
 place_no Ready = 1
 place_no Running = 2

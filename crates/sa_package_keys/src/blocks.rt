@@ -9,7 +9,7 @@ ghost use Rattle.sa_package_keys.specs.Packages.{place_no, block_key, is_new, is
 
 use sa_base::MAX_THREADS;
 use sa_codes::put_number;
-use sa_fast::{Block, Place, Threads};
+use sa_fast::{Block, KeptPlace, Threads};
 use sa_instr::{REGISTERS, Reg, Regs};
 use std::alloc::AllocError;
 
@@ -46,10 +46,10 @@ fn is_new(block: &Block) -> bool
 }
 
 // Whether a thread there was not made.
-fn is_unmade(place: Place) -> bool
+fn is_unmade(place: KeptPlace) -> bool
     ensures { result ≡ is_unmade place }
 {
-    matches!(place, Place::Unmade)
+    matches!(place, KeptPlace::Unmade)
 }
 
 // Whether each register is 0.
@@ -83,17 +83,17 @@ fn put_block(block: &Block, key: &mut Vec<u8>) -> Result<(), AllocError>
 }
 
 // The number of a place.
-fn place_no(place: Place) -> u64
+fn place_no(place: KeptPlace) -> u64
     ensures { result ≡ place_no place }
 {
     match place {
-        Place::Unmade => 0,
-        Place::Ready => 1,
-        Place::Running => 2,
-        Place::Waiting => 3,
-        Place::Blocked => 4,
-        Place::Carried => 5,
-        Place::Done => 6,
+        KeptPlace::Unmade => 0,
+        KeptPlace::Ready => 1,
+        KeptPlace::Running => 2,
+        KeptPlace::Waiting => 3,
+        KeptPlace::Blocked => 4,
+        KeptPlace::Carried => 5,
+        KeptPlace::Done => 6,
     }
 }
 

@@ -8,7 +8,7 @@ use Rattle.sa_base.specs.declared.record.Note.{Note}
 use Rattle.sa_base.specs.declared.record.Note.TheVariants.{Add, Preempted, Blocked, Unblocked}
 use Rattle.sa_abstract.specs.Setting.{Setting}
 use Rattle.sa_abstract.specs.Calls.{Contexts}
-use Rattle.sa_abstract.specs.Keeps.{IsSeen, IsHandedOver, IsHanded, GoesOn}
+use Rattle.sa_abstract.specs.Keeps.{IsSeen, IsHandedOver, IsHanded, StaysLocal}
 use Rattle.sa_lists.proofs.Changes.{home-inside}
 use Rattle.sa_fast.specs.Instruction.{CanRun}
 use Rattle.sa_fast.specs.Rest.{one_if, one_of}
@@ -65,9 +65,9 @@ module _ (s : Setting) (e : ℕ) (u : Package) (cs : Contexts Context) (h : IsSt
         subst (λ x. IsThread (carried_by x)) at
         (own_thread s e u cs h a c is (carried_by c.state) (λ x. let less = carried_less c.state c.sections x in omega arith))
 
-  pub go_can : (n : ℕ) → GoesOn s n (local_at u c.state) → CanGo u c
+  pub go_can : (n : ℕ) → StaysLocal s n (local_at u c.state) → CanGo u c
   go_can n local = go_at c.state refl local where
-    go_at : (state : ContextState) → c.state ≡ state → GoesOn s n (local_at u state) → CanGoAt u c.state
+    go_at : (state : ContextState) → c.state ≡ state → StaysLocal s n (local_at u state) → CanGoAt u c.state
     go_at (Code g) at local = absurd local
     go_at (Work t) at local = absurd local
     go_at (Hint t) at local = absurd local

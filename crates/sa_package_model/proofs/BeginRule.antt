@@ -24,8 +24,8 @@ use Rattle.sa_sync.specs.Sync.{Semaphore, free_mutex, semaphore_of, semaphore_at
 use Rattle.sa_sync.proofs.LawLemmas.{opening-waits}
 use Rattle.sa_code.proofs.Kept.{begun-package}
 use Rattle.sa_copies.specs.Copies.{package_ops}
-use Rattle.sa_fast.specs.declared.threads.Place.{Place}
-use Rattle.sa_fast.specs.declared.threads.Place.TheVariants.{Ready, Unmade}
+use Rattle.sa_fast.specs.declared.threads.KeptPlace.{KeptPlace}
+use Rattle.sa_fast.specs.declared.threads.KeptPlace.TheVariants.{Ready, Unmade}
 use Rattle.sa_fast.specs.declared.threads.Block.{Block}
 use Rattle.sa_fast.specs.Threads.{unmade, at_start, block_at}
 use Rattle.sa_fast.specs.Instruction.{IsAt}
@@ -157,7 +157,7 @@ module _ (ranks : Ranks) (s : Setting) (h : IsSetting s) where
   ends : (t : ℕ) → done_at (opening s.def) t ≡ 0
   ends t = ap (λ b. cond b 1 0) (all_false MAX_THREADS t)
 
-  abbrev Agrees : ℕ → Place → Type 0
+  abbrev Agrees : ℕ → KeptPlace → Type 0
   Agrees t p =
       AgreesBy (count_in_all t (opened ranks s.processors).lists) (waits_of (opening s.def) t) (done_at (opening s.def) t)
       (unmade_at (opened ranks s.processors) t) p

@@ -23,11 +23,11 @@ use Rattle.sa_package_model.specs.Laws.{IsMadeFor}
 use Rattle.sa_package_model.specs.Context.{carried_by, section_in}
 use Rattle.sa_package_model.specs.Rules.{thread_alone}
 use Rattle.sa_package_model.specs.Hands.{sections_of, locks_in, free_locks, locks_of, threads_in, threads_of, name_of, carried_of}
-use Rattle.sa_package_model.specs.Stands.{Fits, AreSections, IsContext, IsStanding}
+use Rattle.sa_package_model.specs.Stands.{FitsOperation, AreSections, IsContext, IsStanding}
 use Rattle.sa_package_model.proofs.OnePlace.{moves, joins}
 
 -- sections stay sections where their lists stay
-fits_kept : (r s : ReadyView) (f : Frame) (op : Option Op) → list_of s (list_in f).0 ≡ list_of r (list_in f).0 → Fits r f op → Fits s f op
+fits_kept : (r s : ReadyView) (f : Frame) (op : Option Op) → list_of s (list_in f).0 ≡ list_of r (list_in f).0 → FitsOperation r f op → FitsOperation s f op
 fits_kept r s f None same h = absurd h
 fits_kept r s f (Some TakePush) same h = absurd h
 fits_kept r s f (Some Push) same h = h

@@ -22,7 +22,7 @@ use Rattle.sa_code.proofs.Cases.{micro-outcome}
 use Rattle.sa_copies.specs.Copies.{package_ops, copy_at}
 use Rattle.sa_copies.specs.Runs.{is_section_op}
 use Rattle.sa_copies.proofs.Places.{next-push, next-pop, next-free}
-use Rattle.sa_fast.specs.declared.threads.Place.TheVariants.{Ready, Running, Blocked, Carried}
+use Rattle.sa_fast.specs.declared.threads.KeptPlace.TheVariants.{Ready, Running, Blocked, Carried}
 use Rattle.sa_fast.specs.Work.{work_of}
 use Rattle.sa_fast.specs.Rest.{one_if, one_of, threads_at_rest, AgreesAt, not_carried}
 use Rattle.sa_fast.proofs.WorkSteps.{count_one, one_same, one_other}
@@ -34,7 +34,7 @@ use Rattle.sa_package_model.specs.Context.{carried_by, section_in, is_left, has_
 use Rattle.sa_package_model.specs.Conditions.{IsThread, CanBeDue, CanCode}
 use Rattle.sa_package_model.specs.Rules.{thread_alone, at_state, owed, settled, placed, with_shared, with_package, put_last, coded_by, coded, context_after}
 use Rattle.sa_package_model.specs.Hands.{carried_of, sections_of, locks_in, locks_of, threads_in, threads_of}
-use Rattle.sa_package_model.specs.Stands.{Fits, AreSections, StandsAt, IsState, IsContext, IsStanding}
+use Rattle.sa_package_model.specs.Stands.{FitsOperation, AreSections, StandsAt, IsState, IsContext, IsStanding}
 use Rattle.sa_package_model.proofs.Changing.{IsChange, sections_kept, still-change}
 use Rattle.sa_package_model.proofs.Views.{IsBetween, settled_between, yields_between, between_locks, between_threads, between_context, between_rest, section_sections, section_locks, section_threads, section_context, section_fits, section_rest, has_copy}
 use Rattle.sa_package_model.proofs.Holding.{lock_once, own_locked, own_inside, own_made, own_unready, own_due, own_thread, own_work, own_rest, rest_once}
@@ -89,7 +89,7 @@ module _ (s : Setting) (e : ℕ) (u : Package) (cs : Contexts Context) (h : IsSt
         ≡ one_of f.thread x + one_of f.pushed x + threads_in c.sections x + 0 + count_in x (work_of u.shared.works c.work)
     threads_are = section_threads c f k at copy u.shared.works
 
-    fits : Fits u.shared.state.lists f (slice_get package_ops f.pc)
+    fits : FitsOperation u.shared.state.lists f (slice_get package_ops f.pc)
     fits = section_fits c f k at copy u.shared.state.lists here
 
     rest : AreSections u.shared.state.lists c.sections
@@ -128,7 +128,7 @@ module _ (s : Setting) (e : ℕ) (u : Package) (cs : Contexts Context) (h : IsSt
           unlisted = own_unready s e u cs h a c is t.0.0 mine;
         }
 
-    can_in_section : (op : Option Op) → Fits u.shared.state.lists f op → CanDo u.shared.state f op
+    can_in_section : (op : Option Op) → FitsOperation u.shared.state.lists f op → CanDo u.shared.state f op
     can_in_section None fits = absurd fits
     can_in_section (Some TakePush) fits = absurd fits
     can_in_section (Some Push) fits = (can_change fits.0, can_push fits.1)
@@ -204,7 +204,7 @@ module _ (s : Setting) (e : ℕ) (u : Package) (cs : Contexts Context) (h : IsSt
           let new = at_state c (Code g) in
           let x = placed (record u.shared { state = m.state }) f.pushed Ready in
           let pushed_placeable = beside_placeable s e u cs h a c is f.pushed (λ y. omega (arith, threads_are k copy y, carried_x y)) in
-          let own : Fits u.shared.state.lists f (Some Push) = subst (Fits u.shared.state.lists f) op (fits k copy) in
+          let own : FitsOperation u.shared.state.lists f (Some Push) = subst (FitsOperation u.shared.state.lists f) op (fits k copy) in
           let done : IsChange s e u (with_shared u x) (Some c) new = record {
             made = made_with s u x h.made refl;
             code = h.code;
@@ -245,7 +245,7 @@ module _ (s : Setting) (e : ℕ) (u : Package) (cs : Contexts Context) (h : IsSt
                 (record { inside = pushed_placeable.inside; carried = pushed_placeable.carried }) y in
                 omega (arith, carried_x y);
             context = section_context new g copied.0 refl copied.1 m.state.lists
-                (subst (StandsAt g) (sym next) tt) (subst (Fits m.state.lists g) (sym next) (own.0, refl))
+                (subst (StandsAt g) (sym next) tt) (subst (FitsOperation m.state.lists g) (sym next) (own.0, refl))
                 (sections_kept u.shared.state.lists m.state.lists c.sections
                 (λ y some. list_of-with_list_other u.shared.state.lists (list_in f).0 y
                 (inserted u.shared.state.lists.ranks t.0 (list_of u.shared.state.lists (list_in f).0)) (apart_rest k copy y some)) (rest k copy));
@@ -264,7 +264,7 @@ module _ (s : Setting) (e : ℕ) (u : Package) (cs : Contexts Context) (h : IsSt
           let new = at_state c (Code g) in
           let x = placed (record u.shared { state = m.state }) g.thread Running in
           let left = without_chosen u.shared.state.lists (takes_first u.shared.state.lists f.own) (list_in f).0 in
-          let own : Fits u.shared.state.lists f (Some Pop) = subst (Fits u.shared.state.lists f) op (fits k copy) in
+          let own : FitsOperation u.shared.state.lists f (Some Pop) = subst (FitsOperation u.shared.state.lists f) op (fits k copy) in
           let listed : 1 ≤ count_in_all t u.shared.state.lists.lists =
           (let one = count_chosen u.shared.state.lists (takes_first u.shared.state.lists f.own) (list_in f).0 t t takes in let same = one_same t t refl in
           let all = count_at t u.shared.state.lists.lists (list_in f).0 in omega arith) in
@@ -307,7 +307,7 @@ module _ (s : Setting) (e : ℕ) (u : Package) (cs : Contexts Context) (h : IsSt
                 let none : one_of f.thread y ≡ 0 = ap (λ p. one_of p y) own.2 in
                 omega (arith, carried_x y);
             context = section_context new g copied.0 refl copied.1 m.state.lists
-                (subst (StandsAt g) (sym next) tt) (subst (Fits m.state.lists g) (sym next) (own.0, own.1))
+                (subst (StandsAt g) (sym next) tt) (subst (FitsOperation m.state.lists g) (sym next) (own.0, own.1))
                 (sections_kept u.shared.state.lists m.state.lists c.sections
                 (λ y some. list_of-with_list_other u.shared.state.lists (list_in f).0 y left (apart_rest k copy y some)) (rest k copy));
           } in
@@ -319,7 +319,7 @@ module _ (s : Setting) (e : ℕ) (u : Package) (cs : Contexts Context) (h : IsSt
           let m = freed u.shared.state f (list_in f) in
           let g : Frame = m.frame in
           let v = with_package u m.state in
-          let own : Fits u.shared.state.lists f (Some Free) = subst (Fits u.shared.state.lists f) op (fits k copy) in
+          let own : FitsOperation u.shared.state.lists f (Some Free) = subst (FitsOperation u.shared.state.lists f) op (fits k copy) in
           let held = own_locked s e u cs h a c is (list_in f).0 (has_lock k copy) in
           let within : (list_in f).0 < length u.shared.state.lists.locked = let same = h.parts.state.ready.locks in let y = inside k copy in omega arith in
           let done : (state : ContextState) → IsBetween state f.thread → IsChange s e u v (Some c) (at_state c state) = λ state between. record {

@@ -16,7 +16,7 @@ use Rattle.sa_sync.specs.Sync.{waits_of}
 use Rattle.sa_abstract.specs.Setting.{Setting}
 use Rattle.sa_abstract.specs.Calls.{Contexts}
 use Rattle.sa_abstract.specs.Walk.{Spot, program_at, after_one, after_many, ins_records}
-use Rattle.sa_abstract.specs.Keeps.{IsSeat, GoesOn, is_away, moved_to, IsGone}
+use Rattle.sa_abstract.specs.Keeps.{IsSeat, StaysLocal, is_away, moved_to, IsGone}
 use Rattle.sa_fast.specs.declared.threads.Block.{Block}
 use Rattle.sa_fast.specs.Threads.{unmade, block_at}
 use Rattle.sa_fast.specs.Instruction.{with_thread, IsAt}
@@ -101,7 +101,7 @@ module _ (s : Setting) (e : ℕ) (u : Package) (cs : Contexts Context) (h : IsSt
         context = h.contexts a c is;
       }
 
-  gone_by : (seen : Seen) (n : ℕ) (state : ContextState) → e < seen.event → c.state ≡ state → GoesOn s n (local_at u state)
+  gone_by : (seen : Seen) (n : ℕ) (state : ContextState) → e < seen.event → c.state ≡ state → StaysLocal s n (local_at u state)
       → IsGone fast_calls fast_stands s seen cs a n (local_at u state) (gone_at u c n state)
   gone_by seen n (Code f) later at local = absurd local
   gone_by seen n (Work t) later at local = absurd local
@@ -127,6 +127,6 @@ module _ (s : Setting) (e : ℕ) (u : Package) (cs : Contexts Context) (h : IsSt
       }
   gone_by seen n (Look looks) later at local = absurd local
 
-  pub goes : (seen : Seen) (n : ℕ) → e < seen.event → GoesOn s n (local_at u c.state)
+  pub goes : (seen : Seen) (n : ℕ) → e < seen.event → StaysLocal s n (local_at u c.state)
       → IsGone fast_calls fast_stands s seen cs a n (local_at u c.state) (went u seen c n)
   goes seen n later local = gone_by seen n c.state later refl local

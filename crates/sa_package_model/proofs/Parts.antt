@@ -14,7 +14,7 @@ use Rattle.sa_code.specs.Micro.{chosen, without_chosen}
 use Rattle.sa_code.specs.Changes.{IsPackage, ChangesOnly}
 use Rattle.sa_fast.specs.declared.shared.Shared.{Shared}
 use Rattle.sa_fast.specs.declared.threads.Block.{Block}
-use Rattle.sa_fast.specs.declared.threads.Place.{Place}
+use Rattle.sa_fast.specs.declared.threads.KeptPlace.{KeptPlace}
 use Rattle.sa_fast.specs.Threads.{unmade, block_at, with_block, moved_to}
 use Rattle.sa_fast.specs.Work.{with_name, IsWork}
 use Rattle.sa_fast.specs.Instruction.{IsAt}
@@ -41,7 +41,7 @@ parts_later def p e f x h later = record {
 }
 
 -- a thread is elsewhere
-pub length_placed : (blocks : List Block) (t : Option ThreadNo) (place : Place) → length (blocks_placed blocks t place) ≡ length blocks
+pub length_placed : (blocks : List Block) (t : Option ThreadNo) (place : KeptPlace) → length (blocks_placed blocks t place) ≡ length blocks
 length_placed blocks None place = refl
 length_placed blocks (Some n) place = length-set blocks n.0 (moved_to (block_at blocks n.0) place)
 
@@ -55,14 +55,14 @@ at_set def blocks t n b new old = elim (cases_eq t n) [
   ]
 ]
 
-at_placed : (def : SpaceView) (blocks : List Block) (t : ℕ) (n : Option ThreadNo) (place : Place) → IsAt def (block_at blocks t)
+at_placed : (def : SpaceView) (blocks : List Block) (t : ℕ) (n : Option ThreadNo) (place : KeptPlace) → IsAt def (block_at blocks t)
     → IsAt def (block_at (blocks_placed blocks n place) t)
 at_placed def blocks t None place h = h
 at_placed def blocks t (Some n) place h =
     at_set def blocks t n.0 (moved_to (block_at blocks n.0) place)
     (λ e. let here : IsAt def (block_at blocks n.0) = subst (λ k. IsAt def (block_at blocks k)) e h in record { program = here.program; pc = here.pc }) h
 
-pub parts_placed : (def : SpaceView) (p e : ℕ) (x : Shared) (t : Option ThreadNo) (place : Place) → ArePartsFor def p e x
+pub parts_placed : (def : SpaceView) (p e : ℕ) (x : Shared) (t : Option ThreadNo) (place : KeptPlace) → ArePartsFor def p e x
     → ArePartsFor def p e (placed x t place)
 parts_placed def p e x t place h = record {
   state = h.state;

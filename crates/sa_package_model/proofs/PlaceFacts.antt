@@ -9,8 +9,8 @@ use Rattle.sa_links.specs.Lists.{count_in_all}
 use Rattle.sa_sync.specs.Sync.{waits_of}
 use Rattle.sa_fast.specs.declared.shared.Shared.{Shared}
 use Rattle.sa_fast.specs.declared.threads.Block.{Block}
-use Rattle.sa_fast.specs.declared.threads.Place.{Place}
-use Rattle.sa_fast.specs.declared.threads.Place.TheVariants.{Running, Blocked, Carried}
+use Rattle.sa_fast.specs.declared.threads.KeptPlace.{KeptPlace}
+use Rattle.sa_fast.specs.declared.threads.KeptPlace.TheVariants.{Running, Blocked, Carried}
 use Rattle.sa_fast.specs.Threads.{unmade, block_at, moved_to, is_done}
 use Rattle.sa_fast.specs.Rest.{one_if, one_of, one_where, done_at, unmade_at, threads_at_rest, is_ready, is_unmade, is_carried, place_at, AgreesBy, AgreesAt, not_carried}
 use Rattle.sa_fast.proofs.WorkSteps.{one_same, one_other}
@@ -34,13 +34,13 @@ pub carried_small : (x : Shared) (u : ℕ) → not_carried x u ≤ 1
 carried_small x u = if_not_small (is_carried (place_at x u))
 
 -- a place that a thread in a hand can have
-pub record IsHandPlace (p : Place) : Type 0 where
+pub record IsHandPlace (p : KeptPlace) : Type 0 where
   pub ready : is_ready p ≡ false
   pub done : is_done p ≡ false
   pub made : is_unmade p ≡ false
 
 -- one thread is elsewhere
-module _ (x : Shared) (n : ThreadNo) (p : Place) (inside : n.0 < length x.threads) where
+module _ (x : Shared) (n : ThreadNo) (p : KeptPlace) (inside : n.0 < length x.threads) where
   pub place_here : place_at (placed x (Some n) p) n.0 ≡ p
   place_here = ap (λ (b : Block). b.place) (get_or-set_same x.threads n.0 (moved_to (block_at x.threads n.0) p) unmade inside)
 
@@ -70,7 +70,7 @@ pub record IsPlaceable (x : Shared) (n : Option ThreadNo) (before : ℕ) : Type 
   pub carried : (m : ThreadNo) → n ≡ Some m → not_carried x m.0 ≡ before
 
 -- a thread in a hand goes to another place there
-pub agree_in_hand : (x : Shared) (n : Option ThreadNo) (before : ℕ) (p : Place) → IsHandPlace p → IsPlaceable x n before
+pub agree_in_hand : (x : Shared) (n : Option ThreadNo) (before : ℕ) (p : KeptPlace) → IsHandPlace p → IsPlaceable x n before
     → ((m : ThreadNo) → n ≡ Some m → threads_at_rest x m.0 ≡ 0) → ((u : ℕ) → AgreesAt x u) → (u : ℕ) → AgreesAt (placed x n p) u
 agree_in_hand x None before p hand can rest all u = all u
 agree_in_hand x (Some n) before p hand can rest all u =
@@ -81,7 +81,7 @@ agree_in_hand x (Some n) before p hand can rest all u =
     agree_one x n p (can.inside n refl) (record { ready = omega arith; waiting = omega arith; ends = omega arith; new = omega arith }) (λ v ne. all v) u
 
 -- a carried thread is put down; one that is not carried is picked up; others stay what they are
-pub put_down : (x : Shared) (n : Option ThreadNo) (p : Place) → is_carried p ≡ false → IsPlaceable x n 0 → (u : ℕ)
+pub put_down : (x : Shared) (n : Option ThreadNo) (p : KeptPlace) → is_carried p ≡ false → IsPlaceable x n 0 → (u : ℕ)
     → not_carried (placed x n p) u ≡ not_carried x u + one_of n u
 put_down x None p free can u = omega arith
 put_down x (Some n) p free can u = elim (cases_eq u n.0) [
@@ -91,7 +91,7 @@ put_down x (Some n) p free can u = elim (cases_eq u n.0) [
   | inr ne ↦ omega (arith, carried_there x n p (can.inside n refl) u ne, one_other n.0 u (λ f. ne (sym f)))
 ]
 
-pub picked_up : (x : Shared) (n : Option ThreadNo) (p : Place) → is_carried p ≡ true → IsPlaceable x n 1 → (u : ℕ)
+pub picked_up : (x : Shared) (n : Option ThreadNo) (p : KeptPlace) → is_carried p ≡ true → IsPlaceable x n 1 → (u : ℕ)
     → not_carried (placed x n p) u + one_of n u ≡ not_carried x u
 picked_up x None p held can u = omega arith
 picked_up x (Some n) p held can u = elim (cases_eq u n.0) [
@@ -101,7 +101,7 @@ picked_up x (Some n) p held can u = elim (cases_eq u n.0) [
   | inr ne ↦ omega (arith, carried_there x n p (can.inside n refl) u ne, one_other n.0 u (λ f. ne (sym f)))
 ]
 
-pub put_still : (x : Shared) (n : Option ThreadNo) (p : Place) → IsPlaceable x n (if_not (is_carried p)) → (u : ℕ)
+pub put_still : (x : Shared) (n : Option ThreadNo) (p : KeptPlace) → IsPlaceable x n (if_not (is_carried p)) → (u : ℕ)
     → not_carried (placed x n p) u ≡ not_carried x u
 put_still x None p can u = refl
 put_still x (Some n) p can u = elim (cases_eq u n.0) [

@@ -8,7 +8,7 @@ use Rattle.sa_links.specs.Lists.{list_at}
 use Rattle.sa_lists.specs.ReadyView.{ReadyView}
 use Rattle.sa_code.specs.declared.state.Frame.{Frame}
 use Rattle.sa_fast.specs.declared.shared.Shared.{Shared}
-use Rattle.sa_fast.specs.declared.threads.Place.TheVariants.{Carried}
+use Rattle.sa_fast.specs.declared.threads.KeptPlace.TheVariants.{Carried}
 use Rattle.sa_fast.specs.Work.{joined, IsWork, AreApart}
 use Rattle.sa_fast.specs.Instruction.{with_works}
 use Rattle.sa_fast.specs.Rest.{one_of, threads_at_rest}

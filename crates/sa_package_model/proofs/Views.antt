@@ -18,7 +18,7 @@ use Rattle.sa_package_model.specs.declared.context.ContextState.TheVariants.{Cod
 use Rattle.sa_package_model.specs.Context.{carried_by, section_in, before_all, at_copy, settled_to}
 use Rattle.sa_package_model.specs.Rules.{thread_alone}
 use Rattle.sa_package_model.specs.Hands.{sections_of, locks_in, locks_of, threads_in, threads_of}
-use Rattle.sa_package_model.specs.Stands.{Fits, IsSection, AreSections, StandsAt, IsState, IsContext}
+use Rattle.sa_package_model.specs.Stands.{FitsOperation, IsSection, AreSections, StandsAt, IsState, IsContext}
 
 -- a state in no section, which carries t
 pub record IsBetween (state : ContextState) (t : Option ThreadNo) : Type 0 where
@@ -69,17 +69,17 @@ module _ (c : Context) (f : Frame) (k : ℕ) (at : c.state ≡ Code f) (copy : c
   section_threads works x =
       ap (λ o. threads_in (before_all o c.sections) x + one_of (thread_alone o (carried_by c.state)) x + count_in x (work_of works c.work)) section_is
 
-  pub section_context : (r : ReadyView) → IsState (Code f) → Fits r f (slice_get package_ops f.pc) → AreSections r c.sections → IsContext r c
+  pub section_context : (r : ReadyView) → IsState (Code f) → FitsOperation r f (slice_get package_ops f.pc) → AreSections r c.sections → IsContext r c
   section_context r state fits sections =
       let own : IsSection r (moved_at f k) = record {
         copy = copies-copied f.pc k copy;
-        fits = subst (Fits r (moved_at f k)) (sym (ops-copied f.pc k copy)) (refit r (slice_get package_ops f.pc) fits);
+        fits = subst (FitsOperation r (moved_at f k)) (sym (ops-copied f.pc k copy)) (refit r (slice_get package_ops f.pc) fits);
       } in
       record {
         state = subst IsState (sym at) state;
         sections = subst (AreSections r) (sym section_sections) (own, sections);
       } where
-        refit : (r : ReadyView) (op : Option Op) → Fits r f op → Fits r (moved_at f k) op
+        refit : (r : ReadyView) (op : Option Op) → FitsOperation r f op → FitsOperation r (moved_at f k) op
         refit r None h = absurd h
         refit r (Some TakePush) h = absurd h
         refit r (Some Push) h = h
@@ -89,13 +89,13 @@ module _ (c : Context) (f : Frame) (k : ℕ) (at : c.state ≡ Code f) (copy : c
         refit r (Some Leave) h = absurd h
         refit r (Some Yield) h = absurd h
 
-  pub section_fits : (r : ReadyView) → IsContext r c → Fits r f (slice_get package_ops f.pc)
+  pub section_fits : (r : ReadyView) → IsContext r c → FitsOperation r f (slice_get package_ops f.pc)
   section_fits r h =
       let both : AreSections r (moved_at f k ∷ c.sections) = subst (AreSections r) section_sections h.sections in
       let own : IsSection r (moved_at f k) = both.0 in
-      let fits : Fits r (moved_at f k) (slice_get package_ops f.pc) = subst (Fits r (moved_at f k)) (ops-copied f.pc k copy) own.fits in
+      let fits : FitsOperation r (moved_at f k) (slice_get package_ops f.pc) = subst (FitsOperation r (moved_at f k)) (ops-copied f.pc k copy) own.fits in
       refit r (slice_get package_ops f.pc) fits where
-        refit : (r : ReadyView) (op : Option Op) → Fits r (moved_at f k) op → Fits r f op
+        refit : (r : ReadyView) (op : Option Op) → FitsOperation r (moved_at f k) op → FitsOperation r f op
         refit r None h = absurd h
         refit r (Some TakePush) h = absurd h
         refit r (Some Push) h = h

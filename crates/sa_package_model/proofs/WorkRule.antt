@@ -19,7 +19,7 @@ use Rattle.sa_code.specs.Changes.{IsPackage}
 use Rattle.sa_code.proofs.Steps.{taken-changes_only}
 use Rattle.sa_code.proofs.Kept.{micro-package}
 use Rattle.sa_copies.specs.Copies.{package_ops}
-use Rattle.sa_fast.specs.declared.threads.Place.TheVariants.{Running, Carried}
+use Rattle.sa_fast.specs.declared.threads.KeptPlace.TheVariants.{Running, Carried}
 use Rattle.sa_fast.specs.Work.{work_of, IsWork}
 use Rattle.sa_fast.specs.Rest.{one_if, one_of}
 use Rattle.sa_fast.proofs.WorkSteps.{without_first-step}
@@ -31,7 +31,7 @@ use Rattle.sa_package_model.specs.Context.{carried_by, section_in, is_left, has_
 use Rattle.sa_package_model.specs.Conditions.{IsThread, CanBeDue, CanWork}
 use Rattle.sa_package_model.specs.Rules.{thread_alone, at_state, owed, settled, placed, put_last, continued, own_list, push_of, pushing_by, pushing, pop_of, popping_by, popping}
 use Rattle.sa_package_model.specs.Hands.{carried_of, locks_in, locks_of, threads_in, threads_of}
-use Rattle.sa_package_model.specs.Stands.{Fits, IsSection, AreSections, StandsAt, IsContext, IsStanding}
+use Rattle.sa_package_model.specs.Stands.{FitsOperation, IsSection, AreSections, StandsAt, IsContext, IsStanding}
 use Rattle.sa_package_model.proofs.Changing.{IsChange, sections_kept, still-change}
 use Rattle.sa_package_model.proofs.Views.{IsBetween, settled_between, between_locks, between_threads, between_context, between_rest, section_locks, section_threads, section_context}
 use Rattle.sa_package_model.proofs.Holding.{own_made, own_unready, own_due, own_thread, own_work}
@@ -39,7 +39,7 @@ use Rattle.sa_package_model.proofs.PlaceFacts.{IsPlaceable, agree_in_hand, put_d
 use Rattle.sa_package_model.proofs.Parts.{length_placed, parts_placed, parts_state, parts_works, made_with, due-step, lock_taken}
 
 -- a section can be in the code
-fits_stands : (r : ReadyView) (f : Frame) (op : Option Op) → Fits r f op → StandsAt f op
+fits_stands : (r : ReadyView) (f : Frame) (op : Option Op) → FitsOperation r f op → StandsAt f op
 fits_stands r f None h = absurd h
 fits_stands r f (Some TakePush) h = absurd h
 fits_stands r f (Some Push) h = tt

@@ -21,8 +21,8 @@ use Rattle.sa_code.specs.declared.state.MicroDone.{MicroDone}
 use Rattle.sa_code.specs.declared.state.MicroDone.TheVariants as micros
 use Rattle.sa_code.specs.Micro.{Micro, micro}
 use Rattle.sa_fast.specs.declared.threads.Block.{Block as BlockOf}
-use Rattle.sa_fast.specs.declared.threads.Place.{Place}
-use Rattle.sa_fast.specs.declared.threads.Place.TheVariants.{Ready, Running, Blocked, Carried}
+use Rattle.sa_fast.specs.declared.threads.KeptPlace.{KeptPlace}
+use Rattle.sa_fast.specs.declared.threads.KeptPlace.TheVariants.{Ready, Running, Blocked, Carried}
 use Rattle.sa_fast.specs.declared.shared.Shared.{Shared}
 use Rattle.sa_fast.specs.declared.instruction.Ran.TheVariants as rans
 use Rattle.sa_fast.specs.declared.instruction.Ran.{Ran}
@@ -54,14 +54,14 @@ abbrev pub at_state : Context → ContextState → Context
 at_state c state = record c { state = state }
 
 -- a thread is elsewhere, if there is one
-abbrev pub blocks_placed : List BlockOf → Option ThreadNo → Place → List BlockOf
+abbrev pub blocks_placed : List BlockOf → Option ThreadNo → KeptPlace → List BlockOf
 blocks_placed blocks None place = blocks
 blocks_placed blocks (Some t) place = with_block blocks t.0 (moved_to (block_at blocks t.0) place)
 
-abbrev pub placed : Shared → Option ThreadNo → Place → Shared
+abbrev pub placed : Shared → Option ThreadNo → KeptPlace → Shared
 placed x t place = record x { threads = blocks_placed x.threads t place }
 
-abbrev pub placed_in : Package → Option ThreadNo → Place → Package
+abbrev pub placed_in : Package → Option ThreadNo → KeptPlace → Package
 placed_in u t place = with_shared u (placed u.shared t place)
 
 -- a stopped thread is put into the work list last, if there is one

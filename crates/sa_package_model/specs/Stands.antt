@@ -20,16 +20,16 @@ use Rattle.sa_package_model.specs.Hands.{AreInOnePlace, sections_of, free_locks,
 
 -- CONTEXTS. A section has a list; before its effect it pushes a thread, or carries none while its list has some, and it
 -- pushes none else
-abbrev pub Fits : ReadyView → Frame → Option Op → Type 0
-Fits r f (Some Push) = IsSome f.list × IsSome f.pushed
-Fits r f (Some Pop) = IsSome f.list × (f.pushed ≡ None) × (f.thread ≡ None) × (0 < length (list_of r (list_in f).0))
-Fits r f (Some Free) = IsSome f.list × (f.pushed ≡ None)
-Fits r f _ = ⊥
+abbrev pub FitsOperation : ReadyView → Frame → Option Op → Type 0
+FitsOperation r f (Some Push) = IsSome f.list × IsSome f.pushed
+FitsOperation r f (Some Pop) = IsSome f.list × (f.pushed ≡ None) × (f.thread ≡ None) × (0 < length (list_of r (list_in f).0))
+FitsOperation r f (Some Free) = IsSome f.list × (f.pushed ≡ None)
+FitsOperation r f _ = ⊥
 
 -- and it is in its copy
 pub record IsSection (r : ReadyView) (f : Frame) : Type 0 where
   pub copy : copy_at f.pc ≡ Some f.pc
-  pub fits : Fits r f (slice_get package_ops f.pc)
+  pub fits : FitsOperation r f (slice_get package_ops f.pc)
 
 abbrev pub AreSections : ReadyView → List Frame → Type 0
 AreSections r [] = Unit {0}

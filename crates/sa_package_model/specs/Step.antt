@@ -26,7 +26,7 @@ use Rattle.sa_code.specs.Changes.{opening_package, in_section as is_in_section}
 use Rattle.sa_copies.specs.Copies.{package_ops}
 use Rattle.sa_sync.specs.Sync.{opening}
 use Rattle.sa_fast.specs.declared.threads.Block.{Block}
-use Rattle.sa_fast.specs.declared.threads.Place.TheVariants.{Ready}
+use Rattle.sa_fast.specs.declared.threads.KeptPlace.TheVariants.{Ready}
 use Rattle.sa_fast.specs.Threads.{unmade, at_start, block_at, with_block, gone_to, active_of, done_of}
 use Rattle.sa_fast.specs.Instruction.{with_thread}
 use Rattle.sa_package_model.specs.declared.context.Context.{Context}

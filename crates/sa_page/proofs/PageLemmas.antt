@@ -6,5 +6,5 @@ pub behind : (before after piece whole part : List ℕ) → after ≡ before ++ 
 behind before after piece whole part e w p = e ∙ ap (λ xs. xs ++ piece) w ∙ ap (λ xs. whole ++ xs) p
 
 -- the first piece
-pub begun : (before after piece : List ℕ) → after ≡ before ++ piece → before ≡ [] → after ≡ piece
-begun before after piece e none = e ∙ ap (λ xs. xs ++ piece) none
+pub begins-with : (before after piece : List ℕ) → after ≡ before ++ piece → before ≡ [] → after ≡ piece
+begins-with before after piece e none = e ∙ ap (λ xs. xs ++ piece) none

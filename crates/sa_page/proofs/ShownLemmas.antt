@@ -9,7 +9,7 @@ use Rattle.sa_check_moment.specs.Seen.{Seen, event}
 use Rattle.sa_check.specs.Items.{is_with, what_of}
 use Rattle.sa_check.specs.Judged.{after}
 use Rattle.sa_check.proofs.EventLemmas.{first-event}
-use Rattle.sa_page.specs.Shown.{changes, Shows, WritesShown, GoesOn}
+use Rattle.sa_page.specs.Shown.{changes, Shows, WritesShown, WritesOne}
 
 -- so far this was written, and what shows the rest behind it shows the whole
 abbrev pub Continues : Seen → List Event → List ℕ → Seen → List Event → List ℕ → Type 0
@@ -29,7 +29,7 @@ events-are first others n records len is =
     ∙ ap (λ rs. event first.event first.proc rs ∷ events_of (drop n others)) (sym is)
 
 -- one event more
-more : (m next : Seen) (e : Event) (es : List Event) (old out final : List ℕ) → GoesOn m e old out next → WritesShown next es out final
+more : (m next : Seen) (e : Event) (es : List Event) (old out final : List ℕ) → WritesOne m e old out next → WritesShown next es out final
     → WritesShown m (e ∷ es) old final
 more m next e es old out final goes shown =
     let rest : Shows (after m e) es shown.text = subst (λ (s : Seen). Shows s es shown.text) goes.moment shown.shows in
@@ -40,7 +40,7 @@ more m next e es old out final goes shown =
     }
 
 pub goes-on : (start now next : Seen) (events all es : List Event) (old out new : List ℕ) (e : Event) → all ≡ e ∷ es
-    → GoesOn now e out new next → Continues start events old now all out → Continues start events old next es new
+    → WritesOne now e out new next → Continues start events old now all out → Continues start events old next es new
 goes-on start now next events all es old out new e at goes so final shown =
     so final (subst (λ xs. WritesShown now xs out final) (sym at) (more now next e es out new final goes shown))
 

@@ -29,11 +29,11 @@ pub record WritesShown (m : Seen) (events : List Event) (old new : List ℕ) : T
   pub written : new ≡ old ++ text
 
 -- one event: what it changes is written, or it is not stepwise
-pub record GoesOn (m : Seen) (e : Event) (old new : List ℕ) (next : Seen) : Type 0 where
+pub record WritesOne (m : Seen) (e : Event) (old new : List ℕ) (next : Seen) : Type 0 where
   pub steps : IsStepwise m.workload m.readings e
   pub moment : next ≡ after m e
   pub written : new ≡ old ++ changes m e
 
 abbrev pub ShowsOne : Seen → Event → List ℕ → List ℕ → Option Pair → Type 0
 ShowsOne m e old new None = (IsStepwise m.workload m.readings e → ⊥) × (new ≡ old)
-ShowsOne m e old new (Some pair) = GoesOn m e old new (seen pair.now.moment)
+ShowsOne m e old new (Some pair) = WritesOne m e old new (seen pair.now.moment)

@@ -7,7 +7,7 @@ use Rattle.sa_base.specs.declared.context.Seen.{Seen}
 use Rattle.sa_base.specs.declared.context.Stopped.{Stopped}
 use Rattle.sa_base.specs.declared.record.Note.{Note}
 use Rattle.sa_abstract.specs.declared.answer.SeatState.TheVariants.{Away}
-use Rattle.sa_abstract.specs.Keeps.{IsOf, IsSeenOf, IsStep, IsTelling, IsGoing, GoesOn}
+use Rattle.sa_abstract.specs.Keeps.{IsOf, IsSeenOf, IsStep, IsTelling, IsGoing, StaysLocal}
 use Rattle.sa_lemmas.specs.Function.{put}
 use Rattle.sa_lemmas.proofs.FunctionUpdates.{put-same}
 use Rattle.sa_fast.specs.Work.{IsWork}
@@ -108,6 +108,6 @@ told_base v c note held r =
 pub went_base : (v : Prio) (seen : Seen) (c : PrioContext) (n : ℕ) → IsGoing prio_calls prio_stands v seen c n → CanGo v.base c.base
 went_base v seen c n r =
     base.go_can r.setting r.event v.base (bases r.others) r.value.base r.act c.base (ap (option_map unmarked_of) r.mine) n (by c.urge r.goes) where
-      by : (urge : Bool) → GoesOn r.setting n (if urge then Away else local_at v.base c.base.state) → GoesOn r.setting n (local_at v.base c.base.state)
+      by : (urge : Bool) → StaysLocal r.setting n (if urge then Away else local_at v.base c.base.state) → StaysLocal r.setting n (local_at v.base c.base.state)
       by true goes = absurd goes
       by false goes = goes

@@ -11,7 +11,7 @@ use Rattle.sa_base.specs.declared.record.Note.TheVariants.{Add, Preempted, Block
 use Rattle.sa_abstract.specs.declared.answer.SeatState.TheVariants.{Away}
 use Rattle.sa_abstract.specs.Setting.{Setting, IsSetting}
 use Rattle.sa_abstract.specs.Calls.{Contexts}
-use Rattle.sa_abstract.specs.Keeps.{IsSeen, IsHandedOver, IsHanded, IsSeat, IsGone, GoesOn, is_away, told_contexts}
+use Rattle.sa_abstract.specs.Keeps.{IsSeen, IsHandedOver, IsHanded, IsSeat, IsGone, StaysLocal, is_away, told_contexts}
 use Rattle.sa_lemmas.specs.Function.{put}
 use Rattle.sa_lemmas.proofs.FunctionUpdates.{put-self}
 use Rattle.sa_lists.specs.declared.ranks.Ranks.TheVariants.{Many}
@@ -186,7 +186,7 @@ module _ (s : Setting) (e : ℕ) (v : Prio) (cs : Contexts PrioContext) (h : IsP
         (seat_or base.0 c.urge, away_or c.base.state base.1 c.urge)
 
     -- A RUN OF LOCAL INSTRUCTIONS
-    goes_by : (seen : Seen) (n : ℕ) (urge : Bool) → c.urge ≡ urge → e < seen.event → GoesOn s n (if urge then Away else fast.local_at v.base c.base.state)
+    goes_by : (seen : Seen) (n : ℕ) (urge : Bool) → c.urge ≡ urge → e < seen.event → StaysLocal s n (if urge then Away else fast.local_at v.base c.base.state)
         → IsGone prio_calls prio_stands s seen cs a n (if urge then Away else fast.local_at v.base c.base.state) (went v seen c n)
     goes_by seen n true mark after on = absurd on
     goes_by seen n false mark after on =
@@ -200,5 +200,5 @@ module _ (s : Setting) (e : ℕ) (v : Prio) (cs : Contexts PrioContext) (h : IsP
           state = ap (λ b. if b then Away else fast.local_at r.user r.ctx.state) mark ∙ base.state;
         }
 
-    pub prio_goes : (seen : Seen) (n : ℕ) → e < seen.event → GoesOn s n (local v c) → IsGone prio_calls prio_stands s seen cs a n (local v c) (went v seen c n)
+    pub prio_goes : (seen : Seen) (n : ℕ) → e < seen.event → StaysLocal s n (local v c) → IsGone prio_calls prio_stands s seen cs a n (local v c) (went v seen c n)
     prio_goes seen n after on = goes_by seen n c.urge refl after on

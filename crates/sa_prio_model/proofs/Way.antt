@@ -4,7 +4,7 @@ use Rattle.sa_base.specs.declared.context.Seen.{Seen}
 use Rattle.sa_abstract.specs.Setting.{Setting}
 use Rattle.sa_abstract.specs.Calls.{Contexts}
 use Rattle.sa_lemmas.specs.Function.{put}
-use Rattle.sa_fast.specs.declared.threads.Place.TheVariants.{Carried}
+use Rattle.sa_fast.specs.declared.threads.KeptPlace.TheVariants.{Carried}
 use Rattle.sa_fast.specs.Rest.{one_of}
 use Rattle.sa_package_model.specs.declared.context.Context.{Context}
 use Rattle.sa_package_model.specs.declared.package.Package.{Package}

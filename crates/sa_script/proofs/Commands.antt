@@ -20,7 +20,7 @@ use Rattle.sa_script.specs.declared.word.Word.TheVariants.{Break, Clear, Halt, G
 use Rattle.sa_script.specs.Words.{word_text, word_in}
 use Rattle.sa_script.specs.Fields.{Pieces, Taken, taken, made, proc_in, turns_in, thread_at, point_at}
 use Rattle.sa_script.specs.Line.{command_at, finished, said_by}
-use Rattle.sa_script.specs.Text.{thread_words, point_words, words_of, last_words, FitsThread, FitsPoint, Fits}
+use Rattle.sa_script.specs.Text.{thread_words, point_words, words_of, last_words, FitsThread, FitsPoint, FitsCommand}
 use Rattle.sa_script.proofs.Readers.{Reads, same_taken, reads-taken, reads-word, reads-named, reads-point, reads-next_proc, reads-next_turns, NamedFits, PointFits}
 
 -- the numbers of a workload are small
@@ -66,7 +66,7 @@ point-fits w x h = ((h.thread.space, omega (arith, h.thread.thread)), (omega ari
 
 -- what a word and the pieces after it say is the command whose words they are
 abbrev pub IsSaid : WorkloadView → Pieces → Pieces → DebugCommand → Type 0
-IsSaid w ps rest c = (ps ≡ words_of c ++ rest) × Fits w c
+IsSaid w ps rest c = (ps ≡ words_of c ++ rest) × FitsCommand w c
 
 one-back : (w : WorkloadView) → IsSmall w → (word : Word) (ps rest : Pieces) (c : DebugCommand) → command_at w word ps ≡ Ok (Some c, rest)
     → IsSaid w (word_text word ∷ ps) rest c
@@ -137,7 +137,7 @@ said-ok w ps o h =
     let last = unless-ok (at_end made.0.1) made.0.0 o made.2 in
     (got.0.0, got.0.1, word.0, made.1 ∙ ap (λ r. Ok (made.0.0, r)) (at_end-none made.0.1 last.0) ∙ ap (λ c. Ok (c, [])) last.1)
 
-pub said_by-command : (w : WorkloadView) → IsSmall w → (ps : Pieces) (c : DebugCommand) → said_by w ps ≡ Ok (Some c) → (ps ≡ words_of c) × Fits w c
+pub said_by-command : (w : WorkloadView) → IsSmall w → (ps : Pieces) (c : DebugCommand) → said_by w ps ≡ Ok (Some c) → (ps ≡ words_of c) × FitsCommand w c
 said_by-command w few ps c h =
     let got = said-ok w ps (Some c) h in
     let is = one-back w few got.0 got.1 [] c got.3 in
@@ -146,7 +146,7 @@ said_by-command w few ps c h =
 pub said_by-last : (w : WorkloadView) → IsSmall w → (ps : Pieces) → said_by w ps ≡ Ok None → ps ≡ last_words
 said_by-last w few ps h = let got = said-ok w ps None h in got.2 ∙ none-back w few got.0 got.1 [] got.3
 
-pub command-said : (w : WorkloadView) → IsSmall w → (c : DebugCommand) → Fits w c → said_by w (words_of c) ≡ Ok (Some c)
+pub command-said : (w : WorkloadView) → IsSmall w → (c : DebugCommand) → FitsCommand w c → said_by w (words_of c) ≡ Ok (Some c)
 command-said w few (commands.Break x) fits =
     ap finished (command-forth (point_at w) point_words (PointFits w) (reads-point w few.spaces) (λ x. commands.Break x) x (point-fits w x fits))
 command-said w few (commands.Clear x) fits =
@@ -178,7 +178,7 @@ fine-points w few x fits =
     fine-decimal x.space.0 (decimal x.thread.0 ∷ decimal x.place ∷ []) (omega (arith, fits.thread.space, few.spaces))
     (fine-decimal x.thread.0 (decimal x.place ∷ []) (omega (arith, fits.thread.thread)) (fine-number x.place (omega (arith, fits.place))))
 
-pub fine-command : (w : WorkloadView) → IsSmall w → (c : DebugCommand) → Fits w c → AreFine (words_of c)
+pub fine-command : (w : WorkloadView) → IsSmall w → (c : DebugCommand) → FitsCommand w c → AreFine (words_of c)
 fine-command w few (commands.Break x) fits = fine-cons (codes "break") (point_words x) refl (lacks_by_test 32 (codes "break") refl) (fine-points w few x fits)
 fine-command w few (commands.Clear x) fits = fine-cons (codes "clear") (point_words x) refl (lacks_by_test 32 (codes "clear") refl) (fine-points w few x fits)
 fine-command w few (commands.Halt p) fits =

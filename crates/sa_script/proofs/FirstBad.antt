@@ -14,7 +14,7 @@ use Rattle.sa_script.specs.declared.command.DebugCommand.{DebugCommand}
 use Rattle.sa_script.specs.declared.script.TheConstants.{MAX_LINES}
 use Rattle.sa_script.specs.Line.{line_in, cause_after}
 use Rattle.sa_script.specs.Reading.{after_line, read_from, script_of}
-use Rattle.sa_script.specs.Text.{script_text, Fits, IsTextOf}
+use Rattle.sa_script.specs.Text.{script_text, FitsCommand, IsTextOf}
 use Rattle.sa_script.specs.TextLaws.{IsFirstBad}
 use Rattle.sa_script.proofs.Commands.{IsSmall, small-workload}
 use Rattle.sa_script.proofs.Whole.{command_line, text_lines, step, line_in-some, line_in-none, lines-refused, text-lines}
@@ -41,7 +41,7 @@ pub record Stops (w : WorkloadView) (number : ℕ) (before : List DebugCommand) 
   pub within : k ≤ length lines
   pub few : number + k ≤ MAX_LINES + 1
   pub more : List DebugCommand
-  pub fit : All (Fits w) more
+  pub fit : All (FitsCommand w) more
   pub front : take k (text_lines more) ≡ take k lines
   pub alike : (others : List LineText) → take (suc k) others ≡ take (suc k) lines → read_from w number before others ≡ Err bad
 
@@ -86,7 +86,7 @@ module _ (w : WorkloadView) where
       within = omega arith;
       few = omega arith;
       more = [];
-      fit = All-nil (Fits w);
+      fit = All-nil (FitsCommand w);
       front = refl;
       alike = no_line-alike number before bad h;
     },
@@ -101,7 +101,7 @@ module _ (w : WorkloadView) where
             within = omega arith;
             few = omega arith;
             more = [];
-            fit = All-nil (Fits w);
+            fit = All-nil (FitsCommand w);
             front = refl;
             alike = cause-alike number before line lines wrong.0 bad wrong.1 wrong.2;
           },
@@ -118,7 +118,7 @@ module _ (w : WorkloadView) where
                   within = omega (arith, later.within);
                   few = omega (arith, later.few);
                   more = next.0 ∷ later.more;
-                  fit = All-cons (Fits w) next.0 later.more is.2 later.fit;
+                  fit = All-cons (FitsCommand w) next.0 later.more is.2 later.fit;
                   front = ap (λ ls. command_line next.0 ∷ ls) later.front ∙ ap (λ l. l ∷ take rest.0 lines) (sym is.0);
                   alike = next-alike number before line lines next.0 bad rest.0 next.1 later.alike;
                 },
@@ -134,7 +134,7 @@ module _ (w : WorkloadView) where
                   within = omega arith;
                   few = omega arith;
                   more = [];
-                  fit = All-nil (Fits w);
+                  fit = All-nil (FitsCommand w);
                   front = ap (λ l. l ∷ []) (sym is.0);
                   alike = last-alike number before line lines bad last.0 behind;
                 },

@@ -27,7 +27,7 @@ use Rattle.sa_script.specs.declared.script.TheConstants.{MAX_LINES}
 use Rattle.sa_script.specs.Fields.{Pieces}
 use Rattle.sa_script.specs.Line.{said_by, line_in, cause_after}
 use Rattle.sa_script.specs.Reading.{after_line, read_from, script_of}
-use Rattle.sa_script.specs.Text.{words_of, last_words, line_of, script_text, Fits, IsScript}
+use Rattle.sa_script.specs.Text.{words_of, last_words, line_of, script_text, FitsCommand, IsScript}
 use Rattle.sa_script.proofs.Commands.{IsSmall, small-workload, said_by-command, said_by-last, command-said, fine-command, fine-last}
 
 -- the line of a command, and the last line
@@ -65,7 +65,7 @@ numbered-over : (w : WorkloadView) (number : ℕ) (ps : Pieces) → MAX_LINES < 
 numbered-over w number ps over = ap (λ b. cond b (Err TooMany) (said_by w ps)) (lt-ltb MAX_LINES number over)
 
 -- each line is read back
-pub line_in-command : (w : WorkloadView) → IsSmall w → (number : ℕ) (c : DebugCommand) → Fits w c
+pub line_in-command : (w : WorkloadView) → IsSmall w → (number : ℕ) (c : DebugCommand) → FitsCommand w c
     → line_in w number (command_line c) ≡ numbered w number (words_of c)
 line_in-command w few number c fits = line_in-fine w number (words_of c) (some-words c) (fine-command w few c fits)
 
@@ -84,7 +84,7 @@ line_in-ok w number line o h =
     ]
 
 pub line_in-some : (w : WorkloadView) → IsSmall w → (number : ℕ) (line : LineText) (c : DebugCommand) → line_in w number line ≡ Ok (Some c)
-    → (line ≡ command_line c) × (number ≤ MAX_LINES) × Fits w c
+    → (line ≡ command_line c) × (number ≤ MAX_LINES) × FitsCommand w c
 line_in-some w few number line c h =
     let got = line_in-ok w number line (Some c) h in
     let is = said_by-command w few got.0 c got.3 in
@@ -104,15 +104,15 @@ last-said : (w : WorkloadView) → said_by w last_words ≡ Ok None
 last-said w = refl
 
 -- the lines of few commands are read as these
-pub lines-read : (w : WorkloadView) → IsSmall w → (number : ℕ) (before more : List DebugCommand) → All (Fits w) more → number + length more ≤ MAX_LINES
+pub lines-read : (w : WorkloadView) → IsSmall w → (number : ℕ) (before more : List DebugCommand) → All (FitsCommand w) more → number + length more ≤ MAX_LINES
     → read_from w number before (text_lines more) ≡ Ok (before ++ more)
 lines-read w small number before [] fits few =
     ap (step w number before []) (line_in-last w number ∙ numbered-within w number last_words (omega arith) ∙ last-said w) ∙ ap Ok (sym (append-nil before))
 lines-read w small number before (c ∷ more) fits few =
     ap (step w number before (text_lines more))
-    (line_in-command w small number c (All-head (Fits w) c more fits) ∙ numbered-within w number (words_of c) (omega arith)
-    ∙ command-said w small c (All-head (Fits w) c more fits))
-    ∙ lines-read w small (number + 1) (before ++ c ∷ []) more (All-tail (Fits w) c more fits) (omega arith)
+    (line_in-command w small number c (All-head (FitsCommand w) c more fits) ∙ numbered-within w number (words_of c) (omega arith)
+    ∙ command-said w small c (All-head (FitsCommand w) c more fits))
+    ∙ lines-read w small (number + 1) (before ++ c ∷ []) more (All-tail (FitsCommand w) c more fits) (omega arith)
     ∙ ap Ok (append_assoc before (c ∷ []) more)
 
 -- and where they are refused, it is the first line that is one too many
@@ -126,7 +126,7 @@ within_or_over : (number : ℕ) → number ≤ MAX_LINES + 1 → (number ≤ MAX
 within_or_over number few =
     elim (eqb_tells number (MAX_LINES + 1)) [ inl same ↦ inr same.1 | inr other ↦ let apart : number ≢ MAX_LINES + 1 = other.1 in inl (omega arith) ]
 
-pub lines-refused : (w : WorkloadView) → IsSmall w → (number : ℕ) (before more : List DebugCommand) (bad : Bad) → All (Fits w) more → number ≤ MAX_LINES + 1
+pub lines-refused : (w : WorkloadView) → IsSmall w → (number : ℕ) (before more : List DebugCommand) (bad : Bad) → All (FitsCommand w) more → number ≤ MAX_LINES + 1
     → read_from w number before (text_lines more) ≡ Err bad → bad.line ≡ MAX_LINES + 1
 lines-refused w small number before [] bad fits few h =
     elim (within_or_over number few) [
@@ -138,13 +138,13 @@ lines-refused w small number before [] bad fits few h =
 lines-refused w small number before (c ∷ more) bad fits few h =
     elim (within_or_over number few) [
       | inl within ↦
-          lines-refused w small (number + 1) (before ++ c ∷ []) more bad (All-tail (Fits w) c more fits) (omega arith)
+          lines-refused w small (number + 1) (before ++ c ∷ []) more bad (All-tail (FitsCommand w) c more fits) (omega arith)
           (sym (ap (step w number before (text_lines more))
-          (line_in-command w small number c (All-head (Fits w) c more fits) ∙ numbered-within w number (words_of c) within
-          ∙ command-said w small c (All-head (Fits w) c more fits))) ∙ h)
+          (line_in-command w small number c (All-head (FitsCommand w) c more fits) ∙ numbered-within w number (words_of c) within
+          ∙ command-said w small c (All-head (FitsCommand w) c more fits))) ∙ h)
       | inr over ↦
           line_is number TooMany bad (sym (ap (step w number before (text_lines more))
-          (line_in-command w small number c (All-head (Fits w) c more fits) ∙ numbered-over w number (words_of c) (omega arith))) ∙ h) ∙ over
+          (line_in-command w small number c (All-head (FitsCommand w) c more fits) ∙ numbered-over w number (words_of c) (omega arith))) ∙ h) ∙ over
     ]
 
 -- lines that are read are those of what they are read as
@@ -152,7 +152,7 @@ pub record AreLinesOf (w : WorkloadView) (number : ℕ) (before : List DebugComm
   pub more : List DebugCommand
   pub whole : all ≡ before ++ more
   pub are : lines ≡ text_lines more
-  pub fit : All (Fits w) more
+  pub fit : All (FitsCommand w) more
   pub few : number + length more ≤ MAX_LINES
 
 after_line-ok : {A : Type 0} (number : ℕ) (r : Result (Option DebugCommand) Cause) (more : DebugCommand → Result A Bad) (last : Result A Bad) (a : A)
@@ -179,7 +179,7 @@ lines-only w small number before (line ∷ lines) all h =
             more = next.0 ∷ rest.more;
             whole = rest.whole ∙ append_assoc before (next.0 ∷ []) rest.more;
             are = ap (λ l. l ∷ lines) is.0 ∙ ap (λ ls. command_line next.0 ∷ ls) rest.are;
-            fit = All-cons (Fits w) next.0 rest.more is.2 rest.fit;
+            fit = All-cons (FitsCommand w) next.0 rest.more is.2 rest.fit;
             few = omega (arith, rest.few);
           }
       | inr last ↦
@@ -189,7 +189,7 @@ lines-only w small number before (line ∷ lines) all h =
             more = [];
             whole = sym none.1 ∙ sym (append-nil before);
             are = ap (λ l. l ∷ lines) is.0 ∙ ap (λ ls. last_line ∷ ls) (none_after cause_after (number + 1) lines none.0);
-            fit = All-nil (Fits w);
+            fit = All-nil (FitsCommand w);
             few = omega (arith, is.1);
           }
     ]
@@ -208,16 +208,16 @@ lines-text cs =
 
 -- and the lines of the text are those lines
 
-commands-lines : (w : WorkloadView) → IsSmall w → (cs : List DebugCommand) (rest : List ℕ) → All (Fits w) cs
+commands-lines : (w : WorkloadView) → IsSmall w → (cs : List DebugCommand) (rest : List ℕ) → All (FitsCommand w) cs
     → line_texts (flat_map (λ c. line_of (words_of c)) cs ++ rest) ≡ map command_line cs ++ line_texts rest
 commands-lines w small [] rest fits = refl
 commands-lines w small (c ∷ cs) rest fits =
     ap line_texts (regroup (join_with_byte 32 (words_of c)) (flat_map (λ d. line_of (words_of d)) cs) rest)
     ∙ line_texts-ended (join_with_byte 32 (words_of c)) (flat_map (λ d. line_of (words_of d)) cs ++ rest)
-    (fine-lacks (words_of c) (fine-command w small c (All-head (Fits w) c cs fits)))
-    ∙ ap (λ ls. command_line c ∷ ls) (commands-lines w small cs rest (All-tail (Fits w) c cs fits))
+    (fine-lacks (words_of c) (fine-command w small c (All-head (FitsCommand w) c cs fits)))
+    ∙ ap (λ ls. command_line c ∷ ls) (commands-lines w small cs rest (All-tail (FitsCommand w) c cs fits))
 
-pub text-lines : (w : WorkloadView) → IsSmall w → (cs : List DebugCommand) → All (Fits w) cs → line_texts (script_text cs) ≡ text_lines cs
+pub text-lines : (w : WorkloadView) → IsSmall w → (cs : List DebugCommand) → All (FitsCommand w) cs → line_texts (script_text cs) ≡ text_lines cs
 unfolding script_text
 text-lines w small cs fits =
     commands-lines w small cs (line_of last_words) fits
@@ -239,7 +239,7 @@ script_of-ok w is text cs h =
     record {
       text_of = record {
         printed = sym (line_texts-joined text) ∙ ap (flat_map whole_line) (got.are ∙ ap text_lines all) ∙ lines-text cs;
-        fit = subst (All (Fits w)) all got.fit;
+        fit = subst (All (FitsCommand w)) all got.fit;
       };
       few = omega (arith, got.few, ap length all);
     }

@@ -47,19 +47,19 @@ pub record FitsPoint (w : WorkloadView) (x : Point) : Type 0 where
   pub thread : FitsThread w x.space x.thread
   pub place : x.place < MAX_INSTRUCTIONS
 
-abbrev pub Fits : WorkloadView → DebugCommand → Type 0
-Fits w (Break x) = FitsPoint w x
-Fits w (Clear x) = FitsPoint w x
-Fits w (Halt p) = p.0 < w.processors
-Fits w (Go p) = p.0 < w.processors
-Fits w (Step p) = p.0 < w.processors
-Fits w (Run n) = (1 ≤ n) × (n ≤ MAX_EVENTS)
-Fits w (Show s t) = FitsThread w s t
+abbrev pub FitsCommand : WorkloadView → DebugCommand → Type 0
+FitsCommand w (Break x) = FitsPoint w x
+FitsCommand w (Clear x) = FitsPoint w x
+FitsCommand w (Halt p) = p.0 < w.processors
+FitsCommand w (Go p) = p.0 < w.processors
+FitsCommand w (Step p) = p.0 < w.processors
+FitsCommand w (Run n) = (1 ≤ n) × (n ≤ MAX_EVENTS)
+FitsCommand w (Show s t) = FitsThread w s t
 
 -- the script of these commands for this workload, of any number of lines
 pub record IsTextOf (w : WorkloadView) (text : List ℕ) (commands : List DebugCommand) : Type 0 where
   pub printed : text ≡ script_text commands
-  pub fit : All (Fits w) commands
+  pub fit : All (FitsCommand w) commands
 
 -- the script of these commands for this workload, of no more lines than there may be
 pub record IsScript (w : WorkloadView) (text : List ℕ) (commands : List DebugCommand) : Type 0 where

@@ -8,7 +8,7 @@ use Rattle.sa_seat.specs.declared.answer.Entered.{Entered}
 use Rattle.sa_seat.specs.declared.answer.Entered.TheVariants.{Turned, DroppedLine, DroppedStart, Ended}
 use Rattle.sa_seat.specs.Chain.{IsLed}
 use Rattle.sa_seat.specs.Seat.{SeatView}
-use Rattle.sa_seat.specs.Enter.{IsTurned, IsCommitted, IsEvents, IsAnswer, IsEntered, IsOneTurn, Fits, HasEntered}
+use Rattle.sa_seat.specs.Enter.{IsTurned, IsCommitted, IsEvents, IsAnswer, IsEntered, IsOneTurn, FitsAnswer, HasEntered}
 
 module _ {U C : Type 0} (f : Calls U C) (budget : ℕ) (m : Machine U C) (s : SeatView) where
   pub events-none : (n : ℕ) (after : Machine U C) → s.pending ≡ 0 → IsTurned f budget m s n after → IsEvents f budget m s s.pending n after
@@ -26,7 +26,7 @@ module _ {U C : Type 0} (f : Calls U C) (budget : ℕ) (m : Machine U C) (s : Se
   events-fit zero n after e is = (let z = is.one in omega (arith, z), (λ none. is.one), λ some. absurd (omega (arith, e, some)))
   events-fit (suc k) n after e is = (is.some, (λ none. absurd (omega (arith, e, none))), λ some. is.few)
 
-  answer-fits : (answer : Entered) (after : Machine U C) → IsAnswer f budget m s answer after → Fits s answer
+  answer-fits : (answer : Entered) (after : Machine U C) → IsAnswer f budget m s answer after → FitsAnswer s answer
   answer-fits (Turned n) after is = events-fit s.pending n after refl is
   answer-fits (DroppedLine e) after is = is.0.pending
   answer-fits (DroppedStart c start) after is = (is.0.pending, is.3, is.4)

@@ -76,14 +76,14 @@ module _ {U C : Type 0} (f : Calls U C) (budget : ℕ) where
     pub entered : IsEntered before s answer after seat
 
 -- what can be said of an entry without the lock: how many events it became, or which burst was dropped
-abbrev pub Fits : SeatView → Entered → Type 0
-Fits s (Turned n) = (1 ≤ n) × (s.pending ≡ 0 → n ≡ 1) × (0 < s.pending → n ≤ s.pending)
-Fits s (DroppedLine e) = 0 < s.pending
-Fits s (DroppedStart c start) = (0 < s.pending) × (start ≡ s.start) × (c ≢ start)
-Fits s (Ended x) = Unit {0}
+abbrev pub FitsAnswer : SeatView → Entered → Type 0
+FitsAnswer s (Turned n) = (1 ≤ n) × (s.pending ≡ 0 → n ≡ 1) × (0 < s.pending → n ≤ s.pending)
+FitsAnswer s (DroppedLine e) = 0 < s.pending
+FitsAnswer s (DroppedStart c start) = (0 < s.pending) × (start ≡ s.start) × (c ≢ start)
+FitsAnswer s (Ended x) = Unit {0}
 
 -- the seat after an entry, whose copy is the core's context
 pub record HasEntered (old : SeatView) (answer : Entered) (new : SeatView) : Type 0 where
-  pub fits : Fits old answer
+  pub fits : FitsAnswer old answer
   pub context : SeatState
   pub seat_is : new ≡ renewed context (credited_by answer old)

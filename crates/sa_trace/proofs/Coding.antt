@@ -11,11 +11,11 @@ use Rattle.sa_base.specs.declared.number.ActNo.{ActNo}
 use Rattle.sa_base.specs.declared.number.IoNo.{IoNo}
 use Rattle.sa_trace.specs.declared.field.Field.{Field}
 use Rattle.sa_trace.specs.declared.field.Field.TheVariants.{Space, OptionalSpace, Thread, OptionalThread, Processor, Activation, Io, Place, Value, Demand}
-use Rattle.sa_trace.specs.Field.{range_of, Fits, number_in, optional_in}
+use Rattle.sa_trace.specs.Field.{range_of, FitsField, number_in, optional_in}
 
 -- what is read from a value is held by the field like this, and nothing is read exactly where it may not hold the value
 abbrev pub IsReading : {A : Type 0} → Field → (A → Option ℕ) → Option ℕ → Option A → Type 0
-IsReading field held value read = MatchOption read (Fits field value → ⊥) (λ a. Fits field value × (held a ≡ value))
+IsReading field held value read = MatchOption read (FitsField field value → ⊥) (λ a. FitsField field value × (held a ≡ value))
 
 -- how the things of a type are held by a field
 pub record Coded (A : Type 0) : Type 0 where
@@ -23,7 +23,7 @@ pub record Coded (A : Type 0) : Type 0 where
   pub held : A → Option ℕ
   pub read : Option ℕ → Option A
   pub back : (value : Option ℕ) → IsReading field held value (read value)
-  pub forth : (a : A) → Fits field (held a) → read (held a) ≡ Some a
+  pub forth : (a : A) → FitsField field (held a) → read (held a) ≡ Some a
 
 -- a value where a test says so
 tested : {A : Type 0} (b : Bool) (P : Type 0) (x : A) (Q : A → Type 0) → ((b ≡ true) × P) ⊎ ((b ≡ false) × (P → ⊥)) → (P → Q x)
@@ -42,7 +42,7 @@ range_tells n m = elim (leb_tells n m) [ inl is ↦ inl is | inr not ↦ inr (no
 pub number_back : (field : Field) → (IsTrue (range_of field).optional → ⊥) → (value : Option ℕ) → IsReading field (λ n. Some n) value (number_in field value)
 number_back field never None = never
 number_back field never (Some n) = tested (nat_le n (range_of field).greatest) (n ≤ (range_of field).greatest) n
-    (λ m. Fits field (Some n) × (Some m ≡ Some n)) (range_tells n (range_of field).greatest) (λ le. (le, refl))
+    (λ m. FitsField field (Some n) × (Some m ≡ Some n)) (range_tells n (range_of field).greatest) (λ le. (le, refl))
 
 pub number_forth : (field : Field) (n : ℕ) → n ≤ (range_of field).greatest → number_in field (Some n) ≡ Some n
 number_forth field n fits = ap (λ b. if b then Some n else None) (le-leb n (range_of field).greatest fits)
@@ -59,31 +59,31 @@ plain field never = record {
 
 module _ {A : Type 0} (field : Field) (made : ℕ → A) (number : A → ℕ) (numbers : (n : ℕ) → number (made n) ≡ n) (things : (a : A) → made (number a) ≡ a) where
   made_back : (IsTrue (range_of field).optional → ⊥) → (value : Option ℕ)
-      → MatchOption (number_in field value) (Fits field value → ⊥) (λ n. Fits field value × (Some (number (made n)) ≡ value))
+      → MatchOption (number_in field value) (FitsField field value → ⊥) (λ n. FitsField field value × (Some (number (made n)) ≡ value))
   made_back never None = never
   made_back never (Some n) = tested (nat_le n (range_of field).greatest) (n ≤ (range_of field).greatest) n
-      (λ m. Fits field (Some n) × (Some (number (made m)) ≡ Some n)) (range_tells n (range_of field).greatest) (λ le. (le, ap Some (numbers n)))
+      (λ m. FitsField field (Some n) × (Some (number (made m)) ≡ Some n)) (range_tells n (range_of field).greatest) (λ le. (le, ap Some (numbers n)))
 
   pub numbered_back : (IsTrue (range_of field).optional → ⊥) → (value : Option ℕ)
       → IsReading field (λ a. Some (number a)) value (option_map made (number_in field value))
   numbered_back never value =
-      mapped made (number_in field value) (Fits field value → ⊥) (λ a. Fits field value × (Some (number a) ≡ value)) (made_back never value)
+      mapped made (number_in field value) (FitsField field value → ⊥) (λ a. FitsField field value × (Some (number a) ≡ value)) (made_back never value)
 
   pub numbered_forth : (a : A) → number a ≤ (range_of field).greatest → option_map made (number_in field (Some (number a))) ≡ Some a
   numbered_forth a fits = ap (λ o. option_map made o) (number_forth field (number a) fits) ∙ ap Some (things a)
 
   optional_made_back : IsTrue (range_of field).optional → (value : Option ℕ)
-      → MatchOption (optional_in field value) (Fits field value → ⊥) (λ o. Fits field value × (option_map number (option_map made o) ≡ value))
+      → MatchOption (optional_in field value) (FitsField field value → ⊥) (λ o. FitsField field value × (option_map number (option_map made o) ≡ value))
   optional_made_back may None = (may, refl)
   optional_made_back may (Some n) = tested (nat_le n (range_of field).greatest) (n ≤ (range_of field).greatest) (Some n)
-      (λ o. Fits field (Some n) × (option_map number (option_map made o) ≡ Some n)) (range_tells n (range_of field).greatest) (λ le. (le, ap Some (numbers n)))
+      (λ o. FitsField field (Some n) × (option_map number (option_map made o) ≡ Some n)) (range_tells n (range_of field).greatest) (λ le. (le, ap Some (numbers n)))
 
   pub optional_back : IsTrue (range_of field).optional → (value : Option ℕ)
       → IsReading field (λ a. option_map number a) value (option_map (λ o. option_map made o) (optional_in field value))
-  optional_back may value = mapped (λ o. option_map made o) (optional_in field value) (Fits field value → ⊥)
-      (λ a. Fits field value × (option_map number a ≡ value)) (optional_made_back may value)
+  optional_back may value = mapped (λ o. option_map made o) (optional_in field value) (FitsField field value → ⊥)
+      (λ a. FitsField field value × (option_map number a ≡ value)) (optional_made_back may value)
 
-  pub optional_forth : (a : Option A) → Fits field (option_map number a)
+  pub optional_forth : (a : Option A) → FitsField field (option_map number a)
       → option_map (λ o. option_map made o) (optional_in field (option_map number a)) ≡ Some a
   optional_forth None fits = refl
   optional_forth (Some a) fits =

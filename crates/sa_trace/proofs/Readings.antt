@@ -9,7 +9,7 @@ use Rattle.sa_trace.specs.declared.field.Field.{Field}
 use Rattle.sa_trace.specs.declared.field.Field.TheVariants.{Space, OptionalSpace, Thread, OptionalThread, Processor, Activation, Io, Place, Value, Demand}
 use Rattle.sa_base.specs.declared.refusal.Cause.{Cause}
 use Rattle.sa_base.specs.declared.refusal.Cause.TheVariants.{BadNumber, OutOfRange}
-use Rattle.sa_trace.specs.Field.{range_of, Fits, AllFit}
+use Rattle.sa_trace.specs.Field.{range_of, FitsField, AllFit}
 use Rattle.sa_trace.specs.Pieces.{and_then, or_cause, within, number_in, field_in, fields_in, wrong_or, wrong_count}
 use Rattle.sa_text.proofs.Spelling.{decimal-lacks}
 use Rattle.sa_text.proofs.NumberOf.{reads_number, number_of-some}
@@ -105,22 +105,22 @@ no_dash n small = false_from_ne_true (bytes_eq (decimal n) (codes "-")) (λ same
     let lacks : All (λ b. b ≢ 45) (45 ∷ []) = subst (λ bs. All (λ b. b ≢ 45) bs) dash (decimal-lacks n 45 small (omega arith)) in
     All-head (λ b. b ≢ 45) 45 [] lacks refl)
 
-pub field_in-ok : (field : Field) (p : List ℕ) (v : Option ℕ) → field_in field p ≡ Ok v → (p ≡ piece v) × Fits field v
+pub field_in-ok : (field : Field) (p : List ℕ) (v : Option ℕ) → field_in field p ≡ Ok v → (p ≡ piece v) × FitsField field v
 field_in-ok field p v h =
     elim (if_either ((range_of field).optional && bytes_eq p (codes "-")) (Ok None) (and_then (number_in 0 (range_of field).greatest p) (λ n. Ok (Some n)))
     (Ok v) h) [
       | inl taken ↦
           let tests = and_parts (range_of field).optional (bytes_eq p (codes "-")) taken.0 in
           let e : None ≡ v = same_Ok None v taken.1 in
-          subst (λ w. (p ≡ piece w) × Fits field w) e ((bytes_eq-Decides p (codes "-")).0 tests.1, tests.0)
+          subst (λ w. (p ≡ piece w) × FitsField field w) e ((bytes_eq-Decides p (codes "-")).0 tests.1, tests.0)
       | inr other ↦
           let got = and_then-ok (number_in 0 (range_of field).greatest p) (λ n. Ok (Some n)) v other.1 in
           let read = number_in-ok 0 (range_of field).greatest p got.0 got.1 in
           let e : Some got.0 ≡ v = same_Ok (Some got.0) v got.2 in
-          subst (λ w. (p ≡ piece w) × Fits field w) e (read.0, read.3)
+          subst (λ w. (p ≡ piece w) × FitsField field w) e (read.0, read.3)
     ]
 
-pub field_in-piece : (field : Field) (v : Option ℕ) → Fits field v → field_in field (piece v) ≡ Ok v
+pub field_in-piece : (field : Field) (v : Option ℕ) → FitsField field v → field_in field (piece v) ≡ Ok v
 field_in-piece field None h =
     ap (λ b. cond (b && bytes_eq (codes "-") (codes "-")) (Ok None) (and_then (number_in 0 (range_of field).greatest (codes "-")) (λ n. Ok (Some n)))) h
 field_in-piece field (Some n) h =

@@ -26,14 +26,14 @@ range_of Value = bits 64
 range_of Demand = bits 16
 
 -- the field may hold this
-abbrev pub Fits : Field → Option ℕ → Type 0
-Fits field None = IsTrue (range_of field).optional
-Fits field (Some n) = n ≤ (range_of field).greatest
+abbrev pub FitsField : Field → Option ℕ → Type 0
+FitsField field None = IsTrue (range_of field).optional
+FitsField field (Some n) = n ≤ (range_of field).greatest
 
 -- there is a value for each field, which may hold it
 abbrev pub AllFit : List Field → List (Option ℕ) → Type 0
 AllFit [] [] = Unit {0}
-AllFit (field ∷ fields) (value ∷ values) = Fits field value × AllFit fields values
+AllFit (field ∷ fields) (value ∷ values) = FitsField field value × AllFit fields values
 AllFit _ _ = ⊥
 
 -- the number that a field holds, if there is one that it may hold

@@ -1,6 +1,6 @@
 // The fields of records.
 ghost use Rattle.std.specs.Prelude.{◌≡◌, ◌↔◌, IsTrue};
-ghost use Rattle.sa_trace.specs.Field.{range_of, Fits};
+ghost use Rattle.sa_trace.specs.Field.{range_of, FitsField};
 
 /// What a field of a record is. An `Optional` one may be absent, which the trace text writes as `-`.
 #[derive(Clone, Copy, Debug, PartialEq, Eq)]
@@ -65,7 +65,7 @@ impl Field {
 
     /// Whether such a field may hold this.
     pub fn fits(self, value: Option<u64>) -> bool
-        ensures { IsTrue result ↔ Fits self value }
+        ensures { IsTrue result ↔ FitsField self value }
     {
         match value {
             None => self.range().optional,

@@ -1,6 +1,6 @@
 // A record as its kind and its fields.
 ghost use Rattle.std.specs.Prelude.{◌≡◌, ◌≤◌, [], ◌∷◌, length};
-ghost use Rattle.sa_trace.specs.Field.{Fits};
+ghost use Rattle.sa_trace.specs.Field.{FitsField};
 ghost use Rattle.sa_trace.specs.Kind.{form_of};
 ghost use Rattle.sa_trace.specs.Parts.{parts, parts_of, FitTheKind, thread_number, space_number};
 
@@ -127,42 +127,42 @@ fn three(kind: Kind, a: Option<u64>, b: Option<u64>, c: Option<u64>) -> Parts
 
 fn space(s: SpaceNo) -> Option<u64>
     ensures number { result ≡ Some s.0 }
-    ensures fits { Fits Field.Space result }
+    ensures fits { FitsField Field.Space result }
 {
     Some(u64::from(s.0))
 }
 
 fn thread(t: ThreadNo) -> Option<u64>
     ensures number { result ≡ Some t.0 }
-    ensures fits { Fits Field.Thread result }
+    ensures fits { FitsField Field.Thread result }
 {
     Some(u64::from(t.0))
 }
 
 fn processor(p: ProcNo) -> Option<u64>
     ensures number { result ≡ Some p.0 }
-    ensures fits { Fits Field.Processor result }
+    ensures fits { FitsField Field.Processor result }
 {
     Some(u64::from(p.0))
 }
 
 fn activation(a: ActNo) -> Option<u64>
     ensures number { result ≡ Some a.0 }
-    ensures fits { Fits Field.Activation result }
+    ensures fits { FitsField Field.Activation result }
 {
     Some(a.0)
 }
 
 fn io_number(io: IoNo) -> Option<u64>
     ensures number { result ≡ Some io.0 }
-    ensures fits { Fits Field.Io result }
+    ensures fits { FitsField Field.Io result }
 {
     Some(u64::from(io.0))
 }
 
 fn carried(t: Option<ThreadNo>) -> Option<u64>
     ensures number { result ≡ thread_number t }
-    ensures fits { Fits Field.OptionalThread result }
+    ensures fits { FitsField Field.OptionalThread result }
 {
     match t {
         None => None,
@@ -172,7 +172,7 @@ fn carried(t: Option<ThreadNo>) -> Option<u64>
 
 fn owner(s: Option<SpaceNo>) -> Option<u64>
     ensures number { result ≡ space_number s }
-    ensures fits { Fits Field.OptionalSpace result }
+    ensures fits { FitsField Field.OptionalSpace result }
 {
     match s {
         None => None,

@@ -59,39 +59,39 @@ abbrev pub LinesArePlain : Type 0
 LinesArePlain = (i : Item) → FitsItem i → (is_plain (words_of i) ≡ true) × (is_plain (record_text i.what) ≡ true)
 
 -- the numbers of a state are those of a trace
-abbrev pub Fits : ℕ → Type 0
-Fits n = n < 2 ^ 64
+abbrev pub FitsNumber : ℕ → Type 0
+FitsNumber n = n < 2 ^ 64
 
 abbrev pub FitsLook : Look → Type 0
 FitsLook look.Unowned = Unit {0}
-FitsLook (look.Thread s t) = Fits s.0 × Fits t.0
-FitsLook (look.Package s) = Fits s.0
-FitsLook (look.Placed s) = Fits s.0
-FitsLook (look.GoesOn s) = Fits s.0
-FitsLook (look.List s l) = Fits s.0 × Fits l.0
-FitsLook (look.Idle s) = Fits s.0
-FitsLook (look.Section s) = Fits s.0
+FitsLook (look.Thread s t) = FitsNumber s.0 × FitsNumber t.0
+FitsLook (look.Package s) = FitsNumber s.0
+FitsLook (look.Placed s) = FitsNumber s.0
+FitsLook (look.GoesOn s) = FitsNumber s.0
+FitsLook (look.List s l) = FitsNumber s.0 × FitsNumber l.0
+FitsLook (look.Idle s) = FitsNumber s.0
+FitsLook (look.Section s) = FitsNumber s.0
 
 abbrev pub FitsAct : Option ActNo → Type 0
 FitsAct None = Unit {0}
-FitsAct (Some a) = Fits a.0
+FitsAct (Some a) = FitsNumber a.0
 
 abbrev pub FitsDoing : Doing → Type 0
-FitsDoing (Runs p) = Fits p.0
-FitsDoing (Section p) = Fits p.0
-FitsDoing (Blocked io) = Fits io.0
+FitsDoing (Runs p) = FitsNumber p.0
+FitsDoing (Section p) = FitsNumber p.0
+FitsDoing (Blocked io) = FitsNumber io.0
 FitsDoing other = Unit {0}
 
 abbrev pub FitsHolder : Holder → Type 0
 FitsHolder Nobody = Unit {0}
-FitsHolder (Handler p) = Fits p.0
-FitsHolder (Thread p t) = Fits p.0 × Fits t.0
+FitsHolder (Handler p) = FitsNumber p.0
+FitsHolder (Thread p t) = FitsNumber p.0 × FitsNumber t.0
 
 abbrev pub FitsState : State → Type 0
 FitsState (state.Context c) = FitsLook c.look × FitsAct c.act
 FitsState (state.Doing d) = FitsDoing d
 FitsState (state.Holder h) = FitsHolder h
-FitsState (state.Tally y) = Fits y.n
+FitsState (state.Tally y) = FitsNumber y.n
 
 -- the names of slices
 abbrev pub NamesArePlain : Type 0

@@ -93,8 +93,8 @@ is_over_after t r = is_block r || (is_lock t && is_free r)
 abbrev pub since : Track → Item → ℕ
 since t i = if is_over_after t i.what then min (i.event + 1) (2 ^ 64 - 1) else i.event
 
-abbrev pub begun : Track → ℕ → Going
-begun t begin = record { from = begin; clock = begin; shown = start t; state = start t; first = 0 }
+abbrev pub slice_begun : Track → ℕ → Going
+slice_begun t begin = record { from = begin; clock = begin; shown = start t; state = start t; first = 0 }
 
 -- a slice goes on where the same is shown, else another one begins
 abbrev pub going_by : Bool → Going → State → ℕ → ℕ → Going
@@ -111,8 +111,8 @@ closed t g to last =
 abbrev pub closed_unless : Bool → Track → Going → ℕ → ℕ → List Slice
 closed_unless same t g to last = if same then [] else closed t g to last
 
-abbrev pub goes_on : Track → Going → Item → Bool
-goes_on t g i = same_state t g.shown (after t g.state i)
+abbrev pub slice_goes_on : Track → Going → Item → Bool
+slice_goes_on t g i = same_state t g.shown (after t g.state i)
 
 abbrev pub clock_at : Track → Going → Item → ℕ
 clock_at t g i = max g.clock (since t i)
@@ -120,8 +120,8 @@ clock_at t g i = max g.clock (since t i)
 abbrev pub slices_from : Track → ℕ → Going → ℕ → List Item → List Slice
 slices_from t end g k [] = closed t g (max g.clock end) k
 slices_from t end g k (i ∷ is) =
-    closed_unless (goes_on t g i) t g (clock_at t g i) k
-    ++ slices_from t end (going_by (goes_on t g i) g (after t g.state i) (clock_at t g i) k) (k + 1) is
+    closed_unless (slice_goes_on t g i) t g (clock_at t g i) k
+    ++ slices_from t end (going_by (slice_goes_on t g i) g (after t g.state i) (clock_at t g i) k) (k + 1) is
 
 abbrev pub slices : Span → List Item → Track → List Slice
-slices span items t = slices_from t span.end (begun t span.begin) 0 items
+slices span items t = slices_from t span.end (slice_begun t span.begin) 0 items

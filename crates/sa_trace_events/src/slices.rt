@@ -1,6 +1,6 @@
 // The slices of a track.
 ghost use Rattle.std.specs.Prelude.{◌≡◌, ◌++◌, OnOk};
-ghost use Rattle.sa_trace_events.specs.Slices.{level_of, shown_context, is_work, shown_doing, shown_holder, start, after, same_state, is_shown, is_block, is_free, is_lock, is_over_after, since, begun, going_by, closed, closed_unless, slices};
+ghost use Rattle.sa_trace_events.specs.Slices.{level_of, shown_context, is_work, shown_doing, shown_holder, start, after, same_state, is_shown, is_block, is_free, is_lock, is_over_after, since, slice_begun, going_by, closed, closed_unless, slices};
 
 use crate::state::{Context, Doing, Holder, Tally};
 use crate::track::{Level, Track};
@@ -221,8 +221,8 @@ fn is_free(what: &Record) -> bool
 }
 
 impl Going {
-    fn begun(track: Track, begin: u64) -> Going
-        ensures { result ≡ begun track begin }
+    fn slice_begun(track: Track, begin: u64) -> Going
+        ensures { result ≡ slice_begun track begin }
     {
         Going {
             from: begin,
@@ -264,7 +264,7 @@ pub(crate) fn push_slices(
 ) -> Result<(), AllocError>
     ensures { OnOk result (out.new.items ≡ out.old.items ++ slices span items.now track) }
 {
-    let mut going = Going::begun(track, span.begin);
+    let mut going = Going::slice_begun(track, span.begin);
     for (k, item) in items.iter().enumerate() {
         let next = track.after(going.state, item);
         let clock = going.clock.max(track.since(item));

@@ -13,7 +13,7 @@ use Rattle.sa_lemmas.specs.Function.{put}
 use Rattle.sa_spaces.specs.Workload.{WorkloadView, IsWorkload}
 use Rattle.sa_abstract.specs.Setting.{Setting, IsSetting}
 use Rattle.sa_abstract.specs.Calls.{Calls, Contexts}
-use Rattle.sa_abstract.specs.Keeps.{Standing, IsHanded, told_contexts, GoesOn}
+use Rattle.sa_abstract.specs.Keeps.{Standing, IsHanded, told_contexts, StaysLocal}
 use Rattle.sa_laws.specs.declared.place.Place.TheVariants as place
 use Rattle.sa_laws.specs.Event.{Event}
 use Rattle.sa_laws.specs.Life.{Life}
@@ -60,7 +60,7 @@ pub record UserLaws {U C : Type 0} (calls : Calls U C) (stands : Standing U C) (
       (n : ℕ)
       → IsActing calls stands fits w s e r u cs p a life c
       → Sees s.space (event_begun_at w seen.event p r) p seen.event seen → line_of r p ≡ None → 1 ≤ n → e < seen.event → seen.event + n ≤ MAX_EVENTS + 1
-      → GoesOn s n (calls.local u c)
+      → StaysLocal s n (calls.local u c)
       → AreLegalIns rules w seen.event p r (calls.went u seen c n).says
       (λ last. fits w s last (calls.went u seen c n).user (put cs a.0 (Some (calls.went u seen c n).ctx)))
   -- A running life is stopped, by the first record of an event; r is read before the event. Its context is held from

@@ -24,7 +24,7 @@ use Rattle.sa_replay.proofs.IndexLemmas.{runner, index-finds, runs_within}
 use Rattle.sa_replay.proofs.ChangeLemmas.{is_there}
 use Rattle.sa_replay.proofs.ReplayLemmas.{leave_kept, owner_kept}
 use Rattle.sa_virtual.specs.Virtual.{space_of}
-use Rattle.sa_virtual.specs.Holding.{Parts, Holds, Fits, counts_of, threads_of, AllAgree, AreOnce, in_queue, on_processors, in_ios, is_one, is_virtual, holds, holds_for, one_if, one_where, IsOwn}
+use Rattle.sa_virtual.specs.Holding.{Parts, Holds, RunsForOwner, counts_of, threads_of, AllAgree, AreOnce, in_queue, on_processors, in_ios, is_one, is_virtual, holds, holds_for, one_if, one_where, IsOwn}
 use Rattle.sa_virtual.proofs.Agree.{if_at, Moves, moved}
 use Rattle.sa_virtual.proofs.Sums.{at_none, holds_some, holds_none, queued, placed_there, carried_other, blocked_other, one_or_none}
 use Rattle.sa_virtual.proofs.Kept.{sized_put, within_put, KeepsLife, lives_kept, threads_new, settled_moves}
@@ -32,9 +32,9 @@ use Rattle.sa_virtual.proofs.Pushed.{placed_within, placed_once, owned}
 
 -- nothing is on a processor that was left
 left_fits : (owners : List (Option SpaceNo)) (o : Option SpaceNo) (runners others : List (Option Runner)) (placed : List (Option ActNo)) (p : ProcNo)
-    → ((q : ProcNo) → Fits (get_or owners q.0 None) (runner_at runners q) (get_or placed q.0 None)) → p.0 < length placed
+    → ((q : ProcNo) → RunsForOwner (get_or owners q.0 None) (runner_at runners q) (get_or placed q.0 None)) → p.0 < length placed
     → runner_at others p ≡ None → ((q : ProcNo) → q.0 ≢ p.0 → runner_at others q ≡ runner_at runners q)
-    → (q : ProcNo) → Fits (get_or owners q.0 None) (runner_at others q) (get_or (set placed p.0 None) q.0 None)
+    → (q : ProcNo) → RunsForOwner (get_or owners q.0 None) (runner_at others q) (get_or (set placed p.0 None) q.0 None)
 left_fits owners o runners others placed p fits within none same q = elim (cases_eq q.0 p.0) [
   | inl e ↦
       let gone : get_or (set placed p.0 None) q.0 None ≡ None = ap (λ n. get_or (set placed p.0 None) n None) e ∙ get_or-set_same placed p.0 None None within in
@@ -101,7 +101,7 @@ module _ (w : WorkloadView) (v : Parts) (runners : List (Option Runner)) (h : Ho
     inside : s.0 < length v.state.spaces
     inside = is_there v.state.spaces s t (λ e. let both : places.Running p ≡ places.Done = sym place ∙ e in cc)
 
-    left_runners : (q : ProcNo) → Fits (owner_at v.state q) (runner_at (set runners p.0 None) q) (get_or (set v.placed p.0 None) q.0 None)
+    left_runners : (q : ProcNo) → RunsForOwner (owner_at v.state q) (runner_at (set runners p.0 None) q) (get_or (set v.placed p.0 None) q.0 None)
     left_runners = left_fits v.state.owners None runners (set runners p.0 None) v.placed p h.fits within
         (get_or-set_same runners p.0 None None (runs_within runners p (runner s t) runs))
         (λ q ne. get_or-set_other runners p.0 q.0 None None ne)

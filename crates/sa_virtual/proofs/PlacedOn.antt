@@ -20,7 +20,7 @@ use Rattle.sa_replay.proofs.IndexLemmas.{runner, index-finds}
 use Rattle.sa_replay.proofs.ChangeLemmas.{is_there}
 use Rattle.sa_replay.proofs.ReplayLemmas.{enter_kept, owner_kept}
 use Rattle.sa_virtual.specs.Virtual.{space_of}
-use Rattle.sa_virtual.specs.Holding.{Parts, Holds, Fits, counts_of, threads_of, AreOnce, in_queue, is_one, holds, carried, one_where, one_if}
+use Rattle.sa_virtual.specs.Holding.{Parts, Holds, RunsForOwner, counts_of, threads_of, AreOnce, in_queue, is_one, holds, carried, one_where, one_if}
 use Rattle.sa_virtual.proofs.Agree.{at_self, Moves, moved}
 use Rattle.sa_virtual.proofs.Sums.{at_none, holds_some, holds_none, unqueued, placed_there}
 use Rattle.sa_virtual.proofs.Kept.{sized_put, within_put, is_carried, settled_moves}
@@ -28,9 +28,9 @@ use Rattle.sa_virtual.proofs.Pushed.{entered}
 
 -- who is on each processor, once one is placed
 place_fits : (owners : List (Option SpaceNo)) (runners : List (Option Runner)) (placed : List (Option ActNo)) (p : ProcNo) (a : ActNo)
-    → ((q : ProcNo) → Fits (get_or owners q.0 None) (runner_at runners q) (get_or placed q.0 None)) → p.0 < length placed → p.0 < length owners
+    → ((q : ProcNo) → RunsForOwner (get_or owners q.0 None) (runner_at runners q) (get_or placed q.0 None)) → p.0 < length placed → p.0 < length owners
     → runner_at runners p ≡ None
-    → (q : ProcNo) → Fits (get_or (set owners p.0 (Some (space_of a))) q.0 None) (runner_at runners q) (get_or (set placed p.0 (Some a)) q.0 None)
+    → (q : ProcNo) → RunsForOwner (get_or (set owners p.0 (Some (space_of a))) q.0 None) (runner_at runners q) (get_or (set placed p.0 (Some a)) q.0 None)
 place_fits owners runners placed p a fits within inside none q = elim (cases_eq q.0 p.0) [
   | inl e ↦
       let here : get_or (set placed p.0 (Some a)) q.0 None ≡ Some a =
@@ -95,7 +95,7 @@ module _ (w : WorkloadView) (v : Parts) (runners : List (Option Runner)) (h : Ho
   replay : IsReplay w v.state.spaces (set v.state.owners p.0 (Some s)) runners
   replay = owner_kept w v.state.spaces v.state.owners runners h.replay p (Some s)
 
-  fits : (q : ProcNo) → Fits (owner_at owned' q) (runner_at runners q) (get_or (set v.placed p.0 (Some a)) q.0 None)
+  fits : (q : ProcNo) → RunsForOwner (owner_at owned' q) (runner_at runners q) (get_or (set v.placed p.0 (Some a)) q.0 None)
   fits = place_fits v.state.owners runners v.placed p a h.fits within in_owners none_runs
 
   -- with a thread

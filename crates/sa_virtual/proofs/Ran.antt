@@ -29,7 +29,7 @@ use Rattle.sa_replay.proofs.IndexLemmas.{runner, runs_within}
 use Rattle.sa_replay.proofs.ChangeLemmas.{is_there}
 use Rattle.sa_replay.proofs.ReplayLemmas.{go_kept, stop_kept}
 use Rattle.sa_virtual.specs.Virtual.{space_of, list_of}
-use Rattle.sa_virtual.specs.Holding.{Parts, Holds, Fits, IsSized, StandWithin, counts_of, threads_of, AllAgree, worked, numbers, at_no, one_where}
+use Rattle.sa_virtual.specs.Holding.{Parts, Holds, RunsForOwner, IsSized, StandWithin, counts_of, threads_of, AllAgree, worked, numbers, at_no, one_where}
 use Rattle.sa_virtual.proofs.Effects.{Tells, tells_of}
 use Rattle.sa_virtual.proofs.Agree.{Rouses, ran}
 use Rattle.sa_virtual.proofs.Sums.{work_past, work_here}
@@ -117,7 +117,7 @@ module _ (w : WorkloadView) (v : Parts) (runners : List (Option Runner)) (h : Ho
     agree = ran (counts_of w.processors threads v) (counts_of w.processors threads goes) v.state.spaces s inside run h.agree tells rouses
 
     holds_with : (others : List (Option Runner)) → IsReplay w (with_space_in v.state.spaces s run.space) v.state.owners others
-        → ((q : ProcNo) → Fits (owner_at v.state q) (runner_at others q) (get_or v.placed q.0 None)) → Holds w goes others
+        → ((q : ProcNo) → RunsForOwner (owner_at v.state q) (runner_at others q) (get_or v.placed q.0 None)) → Holds w goes others
     holds_with others replay fits = record {
       replay = replay;
       owners = h.owners;

@@ -150,7 +150,7 @@ counts_of processors threads v = record {
 }
 
 -- WHO RUNS: the thread of a processor is of the space of the one that is placed there, which owns it
-pub record Fits (owner : Option SpaceNo) (runner : Option Runner) (placed : Option ActNo) : Type 0 where
+pub record RunsForOwner (owner : Option SpaceNo) (runner : Option Runner) (placed : Option ActNo) : Type 0 where
   pub owned : (a : ActNo) → placed ≡ Some a → owner ≡ Some (space_of a)
   pub runs : (x : Runner) → runner ≡ Some x → (a : ActNo) × (placed ≡ Some a) × (x.space ≡ space_of a)
 
@@ -183,7 +183,7 @@ pub record Holds (w : WorkloadView) (v : Parts) (runners : List (Option Runner))
   pub processors : length v.placed ≡ w.processors
   pub spaces : length v.ready ≡ length w.spaces
   pub once : AreOnce w v.queue v.placed v.ios
-  pub fits : (p : ProcNo) → Fits (owner_at v.state p) (runner_at runners p) (slice_index_or v.placed p.0 None)
+  pub fits : (p : ProcNo) → RunsForOwner (owner_at v.state p) (runner_at runners p) (slice_index_or v.placed p.0 None)
   pub lives : HaveLives w v.lives
   pub ios : All (λ (io : Io). IsOwn io.kind) v.ios
   pub agree : AllAgree (counts_of w.processors (threads_of v.lives) v) v.state.spaces

@@ -74,15 +74,15 @@ pub record IsStuck (v : Virtuals) : Type 0 where
   pub due : NobodyIsDue v
   pub ios : v.base.under_way ≡ []
 
-pub record GoesOn (v : Virtuals) : Type 0 where
+pub record VirtualsGoOn (v : Virtuals) : Type 0 where
   pub done : IsAllDone v.base → ⊥
   pub stuck : IsStuck v → ⊥
 
 abbrev pub EndsWith : ℕ → Virtuals → ℕ → Option End → Type 0
 EndsWith budget v events (Some AllDone) = IsAllDone v.base
 EndsWith budget v events (Some Stuck) = IsStuck v
-EndsWith budget v events (Some Budget) = GoesOn v × (events ≡ budget)
-EndsWith budget v events None = GoesOn v × (events ≢ budget)
+EndsWith budget v events (Some Budget) = VirtualsGoOn v × (events ≡ budget)
+EndsWith budget v events None = VirtualsGoOn v × (events ≢ budget)
 
 abbrev pub EndOfVp : WorkloadView → ℕ → List Item → Option End → Type 0
 EndOfVp w budget items end = EndsWith budget (after_all w (opening w) (events_of items)) (length (events_of items)) end

@@ -17,7 +17,7 @@ use Rattle.sa_virtual.specs.Turning.{Good, HasRoom}
 use Rattle.sa_virtual.proofs.Main.{second}
 use Rattle.sa_vp_model.specs.Board.{Board, act_numbers}
 use Rattle.sa_vp_model.specs.Turn.{act, after_evictions, thread}
-use Rattle.sa_vp_model.specs.Mirror.{Own, board_of, Fits, IsBounded}
+use Rattle.sa_vp_model.specs.Mirror.{Own, board_of, Mirrors, IsBounded}
 use Rattle.sa_vp_model.specs.Needs.{CanAct, CanStep, CanRunOn, CanReady, CanComeBack, CanPlaceOn}
 use Rattle.sa_vp_model.specs.Run.{IsRead}
 use Rattle.sa_vp_model.proofs.Ios.{due_found}
@@ -25,7 +25,7 @@ use Rattle.sa_vp_model.proofs.Main as main
 use Rattle.sa_vp_model.proofs.Turns as turns
 use Rattle.sa_vp_model.proofs.Safe as safe
 
-module _ (w : WorkloadView) (valid : IsWorkload w) (v : Virtuals) (good : Good w v) (x : Own) (fits : Fits w v x) (p : ProcNo) (inside : p.0 < w.processors)
+module _ (w : WorkloadView) (valid : IsWorkload w) (v : Virtuals) (good : Good w v) (x : Own) (fits : Mirrors w v x) (p : ProcNo) (inside : p.0 < w.processors)
     (room : HasRoom v.base.state.spaces) (first : v.base.last ≡ None) (event : v.base.number ≤ MAX_EVENTS) (bounds : IsBounded v x) where
   -- an I/O that is due
   back : (o : Option Io) → due_of v.base.number v.base.under_way ≡ o → (n : IoNo) (reason : IoKind) → option_map io_no o ≡ Some n
@@ -56,7 +56,7 @@ module _ (w : WorkloadView) (valid : IsWorkload w) (v : Virtuals) (good : Good w
     abbrev good' : Good w now
     good' = main.good' w valid p inside v good x fits first room a at
 
-    fits' : Fits w now more
+    fits' : Mirrors w now more
     fits' = main.fits' w valid p inside v good x fits first room a at
 
     reads : (ts : List ThreadNo) → v.work a.0 ≡ ts → (u : ℕ) → slice_get (numbers ts) 0 ≡ Some u → CanReady p a (thread u) (board_of w now more)

@@ -16,7 +16,7 @@ use Rattle.sa_laws.specs.declared.place.Place.TheVariants as places
 use Rattle.sa_laws.specs.State.{is_due, is_waiting, no_threads}
 use Rattle.sa_laws.specs.Ends.{are_done, are_at_rest, IsAllDone}
 use Rattle.sa_virtual.specs.Virtual.{Virtuals}
-use Rattle.sa_virtual.specs.Legal.{NobodyIsDue, IsStuck, GoesOn, EndsWith}
+use Rattle.sa_virtual.specs.Legal.{NobodyIsDue, IsStuck, VirtualsGoOn, EndsWith}
 use Rattle.sa_virtual.specs.Holding.{worked, at_no, place_no, one_where}
 use Rattle.sa_vp_model.specs.Board.{Board}
 use Rattle.sa_vp_model.specs.Mirror.{Own, rows, total}
@@ -134,7 +134,7 @@ module _ (w : WorkloadView) (b : Board) (read : IsRead w b) where
 
   ends : (budget events : ℕ) → b.number ≡ events + 1 → EndsWith budget v events (end_of budget b)
   ends budget events number = go (is_done b) (is_stuck b) (b.number == budget + 1) refl refl refl where
-    goes : is_done b ≡ false → is_stuck b ≡ false → GoesOn v
+    goes : is_done b ≡ false → is_stuck b ≡ false → VirtualsGoOn v
     goes done stuck' = record {
       done = λ all. let both : true ≡ false = sym all ∙ done_is false done in cc;
       stuck = not_stuck (list_all are_at_rest b.state.spaces) (b.due == 0) (no_io b.devices.ios.under_way) refl refl refl stuck';

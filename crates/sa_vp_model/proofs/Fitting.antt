@@ -6,7 +6,7 @@ use Rattle.sa_virtual.specs.Virtual.{Virtuals}
 use Rattle.sa_virtual.specs.Legal.{blocked_in}
 use Rattle.sa_virtual.specs.Holding.{numbers, threads_of}
 use Rattle.sa_vp_model.specs.declared.limits.TheConstants.{VIRTUALS}
-use Rattle.sa_vp_model.specs.Mirror.{Own, Fits, AreLists, AreNumbered, newest_first, rows, total}
+use Rattle.sa_vp_model.specs.Mirror.{Own, Mirrors, AreLists, AreNumbered, newest_first, rows, total}
 
 abbrev pub ThreadsFit : Virtuals → Own → Type 0
 ThreadsFit v x = ((λ a. slice_index_or x.threads a None) ≡ threads_of v.base.lives) × (length x.threads ≡ VIRTUALS)
@@ -29,7 +29,7 @@ BlockedFits w v x =
     ((s : ℕ) → s < length w.spaces → slice_index_or x.blocked s 0 ≡ blocked_in v (record { 0 = s })) × (length x.blocked ≡ length w.spaces)
 
 pub fit : {w : WorkloadView} {v : Virtuals} {x : Own} → ThreadsFit v x → StepsFit v x → ReadyFits w v x → WorkFits w v x → BlockedFits w v x
-    → AreNumbered v.base.io_count v.base.under_way → length x.lost ≡ length w.spaces → length v.base.pages ≡ length w.spaces → Fits w v x
+    → AreNumbered v.base.io_count v.base.under_way → length x.lost ≡ length w.spaces → length v.base.pages ≡ length w.spaces → Mirrors w v x
 fit threads steps ready work blocked numbered lost pages = record {
   threads = threads.0;
   steps = steps.0;
@@ -47,17 +47,17 @@ fit threads steps ready work blocked numbered lost pages = record {
   many_pages = pages;
 }
 
-pub threads-of : {w : WorkloadView} {v : Virtuals} {x : Own} → Fits w v x → ThreadsFit v x
+pub threads-of : {w : WorkloadView} {v : Virtuals} {x : Own} → Mirrors w v x → ThreadsFit v x
 threads-of fits = (fits.threads, fits.many_threads)
 
-pub steps-of : {w : WorkloadView} {v : Virtuals} {x : Own} → Fits w v x → StepsFit v x
+pub steps-of : {w : WorkloadView} {v : Virtuals} {x : Own} → Mirrors w v x → StepsFit v x
 steps-of fits = (fits.steps, fits.many_steps)
 
-pub ready-of : {w : WorkloadView} {v : Virtuals} {x : Own} → Fits w v x → ReadyFits w v x
+pub ready-of : {w : WorkloadView} {v : Virtuals} {x : Own} → Mirrors w v x → ReadyFits w v x
 ready-of fits = (fits.ready, fits.many_ready)
 
-pub work-of : {w : WorkloadView} {v : Virtuals} {x : Own} → Fits w v x → WorkFits w v x
+pub work-of : {w : WorkloadView} {v : Virtuals} {x : Own} → Mirrors w v x → WorkFits w v x
 work-of fits = (fits.work, fits.due, fits.many_work)
 
-pub blocked-of : {w : WorkloadView} {v : Virtuals} {x : Own} → Fits w v x → BlockedFits w v x
+pub blocked-of : {w : WorkloadView} {v : Virtuals} {x : Own} → Mirrors w v x → BlockedFits w v x
 blocked-of fits = (fits.blocked, fits.many_blocked)

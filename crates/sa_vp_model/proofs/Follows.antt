@@ -8,7 +8,7 @@ use Rattle.sa_laws.specs.History.{after_records}
 use Rattle.sa_virtual.specs.Virtual.{Virtuals}
 use Rattle.sa_virtual.specs.Turn.{Turned}
 use Rattle.sa_vp_model.specs.Board.{Board}
-use Rattle.sa_vp_model.specs.Mirror.{Own, board_of, Fits}
+use Rattle.sa_vp_model.specs.Mirror.{Own, board_of, Mirrors}
 
 abbrev pub behind : WorkloadView → ProcNo → Virtuals → Turned → Virtuals
 behind w p v t = record t.after { base = after_records w v.base.number p v.base t.says }
@@ -16,7 +16,7 @@ behind w p v t = record t.after { base = after_records w v.base.number p v.base 
 pub record Follows (w : WorkloadView) (p : ProcNo) (v : Virtuals) (t : Turned) (x : Own) (b : Board) : Type 0 where
   pub own : Own
   pub is : b ≡ board_of w (behind w p v t) own
-  pub fits : Fits w (behind w p v t) own
+  pub fits : Mirrors w (behind w p v t) own
   pub lost : own.lost ≡ x.lost
   pub items : own.items ≡ x.items ++ items_at v.base.number p t.says
   pub io_count : (behind w p v t).base.io_count ≤ v.base.io_count + 1
@@ -28,7 +28,7 @@ pub record Follows (w : WorkloadView) (p : ProcNo) (v : Virtuals) (t : Turned) (
 pub record Goes (w : WorkloadView) (p : ProcNo) (v : Virtuals) (t : Turned) (x : Own) (b : Board) : Type 0 where
   pub own : Own
   pub is : b ≡ board_of w (behind w p v t) own
-  pub fits : Fits w (behind w p v t) own
+  pub fits : Mirrors w (behind w p v t) own
   pub lost : own.lost ≡ x.lost
   pub items : own.items ≡ x.items ++ items_at v.base.number p t.says
   pub io_count : (behind w p v t).base.io_count ≤ v.base.io_count + 1

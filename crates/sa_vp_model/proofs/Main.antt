@@ -23,7 +23,7 @@ use Rattle.sa_virtual.proofs.Turns.{carrier}
 use Rattle.sa_vp_model.specs.declared.limits.TheConstants.{VIRTUALS}
 use Rattle.sa_vp_model.specs.Board.{Board, act_numbers}
 use Rattle.sa_vp_model.specs.Turn.{acts, proceeds, has_had_its_turn, is_some_list, moves_on, steps, steps_on}
-use Rattle.sa_vp_model.specs.Mirror.{Own, board_of, Fits}
+use Rattle.sa_vp_model.specs.Mirror.{Own, board_of, Mirrors}
 use Rattle.sa_vp_model.proofs.Fitting.{fit, threads-of, ready-of, work-of, blocked-of}
 use Rattle.sa_vp_model.proofs.Tables.{table_put}
 use Rattle.sa_vp_model.proofs.Follows.{Follows, Goes}
@@ -68,7 +68,7 @@ waits_same : (q : List ActNo) → is_some_list (act_numbers q) ≡ rules.some_wa
 waits_same [] = refl
 waits_same (a ∷ q) = refl
 
-module _ (w : WorkloadView) (valid : IsWorkload w) (p : ProcNo) (inside : p.0 < w.processors) (v : Virtuals) (good : Good w v) (x : Own) (fits : Fits w v x)
+module _ (w : WorkloadView) (valid : IsWorkload w) (p : ProcNo) (inside : p.0 < w.processors) (v : Virtuals) (good : Good w v) (x : Own) (fits : Mirrors w v x)
     (first : v.base.last ≡ None) (room : HasRoom v.base.state.spaces) where
   -- A STEP
   module _ (a : ActNo) (at : placed_on v p ≡ Some a) where
@@ -89,7 +89,7 @@ module _ (w : WorkloadView) (valid : IsWorkload w) (p : ProcNo) (inside : p.0 < 
         table_put x.steps a.0 (get_or x.steps a.0 0 + 1) 0 (omega (arith, small, fits.many_steps))
         ∙ ap (λ f. put f a.0 (f a.0 + 1)) fits.steps
 
-    pub fits' : Fits w now more
+    pub fits' : Mirrors w now more
     fits' = fit (threads-of fits) (steps_are, length-set x.steps a.0 (get_or x.steps a.0 0 + 1) ∙ fits.many_steps) (ready-of fits)
         (work-of fits) (blocked-of fits) fits.numbered fits.many_lost fits.many_pages
 

@@ -14,7 +14,7 @@ use Rattle.sa_virtual.specs.Virtual.{opening}
 use Rattle.sa_virtual.proofs.Opening.{opening_good, opening_below}
 use Rattle.sa_vp_model.specs.declared.limits.TheConstants.{VIRTUALS}
 use Rattle.sa_vp_model.specs.Board.{opened, empty, first_ready, no_lists}
-use Rattle.sa_vp_model.specs.Mirror.{Own, Fits, IsBounded, AreLists, newest_first, rows, total}
+use Rattle.sa_vp_model.specs.Mirror.{Own, Mirrors, IsBounded, AreLists, newest_first, rows, total}
 use Rattle.sa_vp_model.specs.Run.{IsRead}
 
 -- a table of one value that is also what is read past its end
@@ -70,7 +70,7 @@ module _ (w : WorkloadView) (valid : IsWorkload w) where
       let zero' : sum_by length (empty w.processors).lists ≡ 0 = row ∙ omega arith in
       sym (all ∙ ap (λ n. length w.spaces * n) zero' ∙ omega arith)
 
-  fits : Fits w (opening w) own
+  fits : Mirrors w (opening w) own
   fits = record {
     threads = all_are VIRTUALS None;
     steps = all_are VIRTUALS 0;

@@ -23,7 +23,7 @@ use Rattle.sa_virtual.specs.Turning.{Good}
 use Rattle.sa_vp_model.specs.declared.limits.TheConstants.{VIRTUALS}
 use Rattle.sa_vp_model.specs.Board.{Board, act_numbers, said}
 use Rattle.sa_vp_model.specs.Turn.{continued, places, places_first}
-use Rattle.sa_vp_model.specs.Mirror.{Own, board_of, Fits}
+use Rattle.sa_vp_model.specs.Mirror.{Own, board_of, Mirrors}
 use Rattle.sa_vp_model.proofs.Fitting.{StepsFit, fit, threads-of, steps-of, ready-of, work-of, blocked-of}
 use Rattle.sa_vp_model.proofs.Tables.{table_put}
 use Rattle.sa_vp_model.proofs.Follows.{Follows}
@@ -42,7 +42,7 @@ abbrev pub item : Virtuals → ProcNo → Record → Item
 item v p what = record { event = v.base.number; proc = p; what = what }
 
 -- one that is placed begins to count its steps
-pub restarted : (w : WorkloadView) (v : Virtuals) (x : Own) → Fits w v x → (a : ActNo) → a.0 < VIRTUALS
+pub restarted : (w : WorkloadView) (v : Virtuals) (x : Own) → Mirrors w v x → (a : ActNo) → a.0 < VIRTUALS
     → StepsFit (record v { steps = put v.steps a.0 0 }) (record x { steps = set x.steps a.0 0 })
 restarted w v x fits a within = (
   table_put x.steps a.0 0 0 (omega (arith, within, fits.many_steps)) ∙ ap (λ f. put f a.0 0) fits.steps,
@@ -53,7 +53,7 @@ restarted w v x fits a within = (
 abbrev pub queue_of : WorkloadView → Virtuals → Own → List ℕ → Board
 queue_of w v x qs = record (board_of w v x) { queue = record { nodes = VIRTUALS; lists = qs ∷ [] } }
 
-module _ (w : WorkloadView) (p : ProcNo) (v : Virtuals) (good : Good w v) (x : Own) (fits : Fits w v x) where
+module _ (w : WorkloadView) (p : ProcNo) (v : Virtuals) (good : Good w v) (x : Own) (fits : Mirrors w v x) where
   held : (a : ActNo) → get_or x.threads a.0 None ≡ thread_of v a
   held a = ap (λ (f : ℕ → Option ThreadNo). f a.0) fits.threads
 

@@ -37,7 +37,7 @@ use Rattle.sa_virtual.proofs.RanTurns as turns
 use Rattle.sa_vp_model.specs.declared.limits.TheConstants.{VIRTUALS}
 use Rattle.sa_vp_model.specs.Board.{list_in, with_list_in}
 use Rattle.sa_vp_model.specs.Turn.{blocks, goes, ends_with, missed_page, runs_on, runs, one_more}
-use Rattle.sa_vp_model.specs.Mirror.{Own, board_of, Fits, AreLists, rows, total}
+use Rattle.sa_vp_model.specs.Mirror.{Own, board_of, Mirrors, AreLists, rows, total}
 use Rattle.sa_vp_model.proofs.Fitting.{fit, steps-of, ready-of, work-of, blocked-of}
 use Rattle.sa_vp_model.proofs.Ios.{numbered_more}
 use Rattle.sa_vp_model.proofs.Tables.{table_put, many_with, total_with}
@@ -78,7 +78,7 @@ missed_not w v x s (Touch page) is = ap (λ b. cond b None (Some page)) (yes (is
 missed_not w v x s i is = refl
 
 -- BLOCKED: of readings in the middle of an event, whose lives are those of its beginning
-module _ (w : WorkloadView) (v : Virtuals) (good : Good w v) (x : Own) (fits : Fits w v x) (a : ActNo) (inside' : (space_of a).0 < length w.spaces)
+module _ (w : WorkloadView) (v : Virtuals) (good : Good w v) (x : Own) (fits : Mirrors w v x) (a : ActNo) (inside' : (space_of a).0 < length w.spaces)
     (small : a.0 < VIRTUALS) (t : ThreadNo) where
   abbrev pub blocked_own : Own
   blocked_own = record x { spare = x.spare - 1; threads = set x.threads a.0 (Some t); blocked = one_more x.blocked (space_of a) }
@@ -110,7 +110,7 @@ module _ (w : WorkloadView) (v : Virtuals) (good : Good w v) (x : Own) (fits : F
             omega (arith, was, there, more, none, now, kind r)
       ]
 
-module _ (w : WorkloadView) (valid : IsWorkload w) (p : ProcNo) (v : Virtuals) (good : Good w v) (x : Own) (fits : Fits w v x) (a : ActNo)
+module _ (w : WorkloadView) (valid : IsWorkload w) (p : ProcNo) (v : Virtuals) (good : Good w v) (x : Own) (fits : Mirrors w v x) (a : ActNo)
     (at : placed_on v p ≡ Some a)
     (small : a.0 < VIRTUALS) (t : ThreadNo) (runs' : runner_at good.stands.runners p ≡ Some (runner (space_of a) t)) (room : HasRoom v.base.state.spaces)
     (first : v.base.last ≡ None) where

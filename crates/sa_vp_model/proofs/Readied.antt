@@ -20,7 +20,7 @@ use Rattle.sa_virtual.specs.Turning.{Good}
 use Rattle.sa_virtual.proofs.Pushed.{known, number_is, number_other}
 use Rattle.sa_vp_model.specs.Board.{list_in, with_list_in}
 use Rattle.sa_vp_model.specs.Turn.{readies}
-use Rattle.sa_vp_model.specs.Mirror.{Own, board_of, Fits, AreLists, newest_first, rows}
+use Rattle.sa_vp_model.specs.Mirror.{Own, board_of, Mirrors, AreLists, newest_first, rows}
 use Rattle.sa_vp_model.proofs.Fitting.{fit, steps-of, blocked-of}
 use Rattle.sa_vp_model.proofs.Tables.{lists_with, many_with, total_with, newest_own, newest_other}
 use Rattle.sa_vp_model.proofs.Follows.{Follows}
@@ -30,7 +30,7 @@ use Rattle.sa_vp_model.proofs.Placed.{item}
 pub number_else : (a : ActNo) (k : ℕ) → k ≢ (list_of a).0 → MAX_PROCESSORS * (space_of a).0 + k ≢ a.0
 number_else a k ne is = absurd (ne (omega (arith, is, number_is a)))
 
-module _ (w : WorkloadView) (p : ProcNo) (v : Virtuals) (good : Good w v) (x : Own) (fits : Fits w v x) (a : ActNo) (at : placed_on v p ≡ Some a)
+module _ (w : WorkloadView) (p : ProcNo) (v : Virtuals) (good : Good w v) (x : Own) (fits : Mirrors w v x) (a : ActNo) (at : placed_on v p ≡ Some a)
     (few : w.processors ≤ MAX_PROCESSORS) where
   abbrev s : SpaceNo
   s = space_of a

@@ -25,13 +25,13 @@ use Rattle.sa_virtual.proofs.MoreTurns.{same_owners, quiet_set, differs}
 use Rattle.sa_vp_model.specs.declared.limits.TheConstants.{VIRTUALS}
 use Rattle.sa_vp_model.specs.Board.{Board, act_numbers, said}
 use Rattle.sa_vp_model.specs.Turn.{continued, places, stops, gives_way}
-use Rattle.sa_vp_model.specs.Mirror.{Own, Fits}
+use Rattle.sa_vp_model.specs.Mirror.{Own, Mirrors}
 use Rattle.sa_vp_model.proofs.Fitting.{fit, ready-of, work-of, blocked-of}
 use Rattle.sa_vp_model.proofs.Tables.{table_put}
 use Rattle.sa_vp_model.proofs.Follows.{Follows}
 use Rattle.sa_vp_model.proofs.Placed.{zero_most, item, restarted, queue_of}
 
-module _ (w : WorkloadView) (p : ProcNo) (v : Virtuals) (good : Good w v) (x : Own) (fits : Fits w v x) (a : ActNo) (at : placed_on v p ≡ Some a)
+module _ (w : WorkloadView) (p : ProcNo) (v : Virtuals) (good : Good w v) (x : Own) (fits : Mirrors w v x) (a : ActNo) (at : placed_on v p ≡ Some a)
     (within : a.0 < VIRTUALS)
     (t : Option ThreadNo) where
   abbrev s : SpaceNo

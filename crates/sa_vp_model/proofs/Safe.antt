@@ -45,7 +45,7 @@ use Rattle.sa_virtual.proofs.RanTurns as ran
 use Rattle.sa_virtual.proofs.Ran as run
 use Rattle.sa_vp_model.specs.Board.{Board, act_numbers, of_space, list_in}
 use Rattle.sa_vp_model.specs.Turn.{act, thread, held_by, stops, missed_page, goes}
-use Rattle.sa_vp_model.specs.Mirror.{Own, board_of, Fits, rows}
+use Rattle.sa_vp_model.specs.Mirror.{Own, board_of, Mirrors, rows}
 use Rattle.sa_vp_model.specs.Needs.{IsTabled, IsVirtual, CanComeBack, CanPlaceOn, CanGiveWay, CanReady, CanBlockOn, CanGoOn, CanLook}
 use Rattle.sa_vp_model.proofs.Tables.{newest_few, many_with}
 use Rattle.sa_vp_model.proofs.Readied.{work_with}
@@ -68,7 +68,7 @@ queue_count (b ∷ q) a =
 all_queue : (q : List ActNo) (a : ℕ) → count_in_all a (act_numbers q ∷ []) ≡ in_queue q a
 all_queue q a = omega (arith, sum_by-cons (count_in a) (act_numbers q) [], queue_count q a)
 
-module _ (w : WorkloadView) (valid : IsWorkload w) (v : Virtuals) (good : Good w v) (x : Own) (fits : Fits w v x) where
+module _ (w : WorkloadView) (valid : IsWorkload w) (v : Virtuals) (good : Good w v) (x : Own) (fits : Mirrors w v x) where
   pub tabled : IsTabled (board_of w v x)
   tabled = record {
     threads = fits.many_threads;

@@ -28,7 +28,7 @@ use Rattle.sa_virtual.specs.Holding.{threads_of, one_if, one_where, kind, place_
 use Rattle.sa_virtual.specs.Turning.{Good}
 use Rattle.sa_vp_model.specs.Board.{list_in, with_list_in}
 use Rattle.sa_vp_model.specs.Turn.{looks, takes, takes_from, picked, left_of, is_some_list}
-use Rattle.sa_vp_model.specs.Mirror.{Own, board_of, Fits, AreLists, newest_first, rows}
+use Rattle.sa_vp_model.specs.Mirror.{Own, board_of, Mirrors, AreLists, newest_first, rows}
 use Rattle.sa_vp_model.proofs.Fitting.{fit, threads-of, steps-of, ready-of, work-of, blocked-of}
 use Rattle.sa_vp_model.proofs.Tables.{lists_with, many_with, picked_one, some_one, left_one, newest_few, newest_less, newest_stays}
 use Rattle.sa_vp_model.proofs.Follows.{Follows}
@@ -107,7 +107,7 @@ at_most_one place = go (eqb (kind place) 1) where
   go true = omega arith
   go false = omega arith
 
-module _ (w : WorkloadView) (p : ProcNo) (v : Virtuals) (good : Good w v) (x : Own) (fits : Fits w v x) (a : ActNo) (at' : placed_on v p ≡ Some a)
+module _ (w : WorkloadView) (p : ProcNo) (v : Virtuals) (good : Good w v) (x : Own) (fits : Mirrors w v x) (a : ActNo) (at' : placed_on v p ≡ Some a)
     (few : w.processors ≤ MAX_PROCESSORS) where
   abbrev s : SpaceNo
   s = space_of a

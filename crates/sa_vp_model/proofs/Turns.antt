@@ -27,7 +27,7 @@ use Rattle.sa_virtual.specs.Turning.{Good, HasRoom, IsBelow}
 use Rattle.sa_virtual.proofs.Main.{turn_is_legal}
 use Rattle.sa_vp_model.specs.Board.{Board}
 use Rattle.sa_vp_model.specs.Turn.{acts, after_evictions, counted, lost_now, loses, turned}
-use Rattle.sa_vp_model.specs.Mirror.{Own, board_of, Fits, IsBounded}
+use Rattle.sa_vp_model.specs.Mirror.{Own, board_of, Mirrors, IsBounded}
 use Rattle.sa_vp_model.specs.Needs.{CanLose}
 use Rattle.sa_vp_model.specs.Run.{IsRead, TurnIsRead, TurnsAreRead, lost_in}
 use Rattle.sa_vp_model.proofs.Fitting.{fit, threads-of, steps-of, ready-of, work-of, blocked-of}
@@ -63,7 +63,7 @@ module _ (w : WorkloadView) (p : ProcNo) (b : Board) (read : IsRead w b) (inside
   pub good : Good w now
   good = record { stands = read.good.stands; quiet = read.good.quiet }
 
-  pub fits : Fits w now x
+  pub fits : Mirrors w now x
   fits = fit (threads-of read.fits) (steps-of read.fits) (ready-of read.fits) (work-of read.fits) (blocked-of read.fits)
       read.fits.numbered read.fits.many_lost (length-evicted v.base.number w.evictions v.base.pages ∙ read.fits.many_pages)
 

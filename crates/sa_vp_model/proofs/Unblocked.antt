@@ -31,7 +31,7 @@ use Rattle.sa_virtual.proofs.Sums.{one_or_none}
 use Rattle.sa_vp_model.specs.declared.limits.TheConstants.{VIRTUALS}
 use Rattle.sa_vp_model.specs.Board.{Board, act_numbers}
 use Rattle.sa_vp_model.specs.Turn.{completes, completed_by, one_less}
-use Rattle.sa_vp_model.specs.Mirror.{Own, board_of, Fits}
+use Rattle.sa_vp_model.specs.Mirror.{Own, board_of, Mirrors}
 use Rattle.sa_vp_model.proofs.Fitting.{fit, steps-of, ready-of, work-of}
 use Rattle.sa_vp_model.proofs.Ios.{due_found, over, IsOver, numbered_over}
 use Rattle.sa_vp_model.proofs.Follows.{Follows, behind}
@@ -66,7 +66,7 @@ less_most xs i k = elim (cases_eq k i) [
   | inr ne ↦ let same : get_or (set xs i (get_or xs i 0 - 1)) k 0 ≡ get_or xs k 0 = get_or-set_other xs i k (get_or xs i 0 - 1) 0 ne in omega (arith, same)
 ]
 
-module _ (w : WorkloadView) (p : ProcNo) (v : Virtuals) (good : Good w v) (x : Own) (fits : Fits w v x) (io : Io)
+module _ (w : WorkloadView) (p : ProcNo) (v : Virtuals) (good : Good w v) (x : Own) (fits : Mirrors w v x) (io : Io)
     (due : due_of v.base.number v.base.under_way ≡ Some io) where
   abbrev a : ActNo
   a = of_io io.kind

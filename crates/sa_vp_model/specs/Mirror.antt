@@ -71,7 +71,7 @@ abbrev pub total : List Lists → ℕ
 total xs = sum_by (λ (c : Lists). sum_by length c.lists) xs
 
 -- it has what is read
-pub record Fits (w : WorkloadView) (v : Virtuals) (x : Own) : Type 0 where
+pub record Mirrors (w : WorkloadView) (v : Virtuals) (x : Own) : Type 0 where
   pub threads : (λ a. slice_index_or x.threads a None) ≡ threads_of v.base.lives
   pub steps : (λ a. slice_index_or x.steps a 0) ≡ v.steps
   pub ready : (s : ℕ) → s < length w.spaces → AreLists w.processors (newest_first (slice_index_or v.ready s [])) (rows x.ready s)

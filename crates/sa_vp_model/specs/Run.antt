@@ -11,7 +11,7 @@ use Rattle.sa_virtual.specs.Legal.{blocked_in, ready_in}
 use Rattle.sa_virtual.specs.Turning.{Good, IsBelow}
 use Rattle.sa_vp_model.specs.Board.{Board}
 use Rattle.sa_vp_model.specs.Turn.{turned}
-use Rattle.sa_vp_model.specs.Mirror.{Own, board_of, Fits, IsBounded}
+use Rattle.sa_vp_model.specs.Mirror.{Own, board_of, Mirrors, IsBounded}
 
 -- the board is one that turns lead to: it is read off some history, in which all holds
 pub record IsRead (w : WorkloadView) (b : Board) : Type 0 where
@@ -20,7 +20,7 @@ pub record IsRead (w : WorkloadView) (b : Board) : Type 0 where
   pub is : b ≡ board_of w virtuals own
   pub valid : IsWorkload w
   pub good : Good w virtuals
-  pub fits : Fits w virtuals own
+  pub fits : Mirrors w virtuals own
   pub bounded : IsBounded virtuals own
   pub below : IsBelow (MAX_START + virtuals.base.number) virtuals.base.state.spaces
 

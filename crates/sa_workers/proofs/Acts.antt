@@ -8,7 +8,7 @@ use Rattle.sa_seat.specs.declared.answer.BurstEnd.{BurstEnd}
 use Rattle.sa_seat.specs.declared.answer.Entered.{Entered}
 use Rattle.sa_seat.specs.declared.answer.Entered.TheVariants.{Turned, DroppedLine, DroppedStart, Ended}
 use Rattle.sa_seat.specs.Seat.{SeatView, IsBurst, renewed}
-use Rattle.sa_seat.specs.Enter.{Fits, HasEntered, credited_by}
+use Rattle.sa_seat.specs.Enter.{FitsAnswer, HasEntered, credited_by}
 use Rattle.sa_workers.specs.Worker.{Act, Acted, HasWorked, HasRunAhead, limit_of}
 use Rattle.sa_workers.specs.Worker.Act.{ahead, entry}
 
@@ -55,7 +55,7 @@ module _ (w : WorkloadView) (quota burst : ℕ) where
   counted : (old new : SeatView) (answer : Entered) → old.poller.account.count < quota → HasEntered old answer new → IsCounted old new
   counted old new answer left is = subst (λ (s : SeatView). IsCounted old s) (sym is.seat_is) (go answer is.fits)
     where
-      go : (answer : Entered) → Fits old answer → IsCounted old (renewed is.context (credited_by answer old))
+      go : (answer : Entered) → FitsAnswer old answer → IsCounted old (renewed is.context (credited_by answer old))
       go (Turned n) fits = record {
         table = refl;
         proc = refl;

@@ -8,7 +8,7 @@ use Rattle.sa_instr.specs.declared.instr.Instr.{Instr}
 use Rattle.sa_instr.specs.declared.instr.Instr.TheVariants.{Jnz}
 use Rattle.sa_instr.specs.Local.{instr_at, pc_after, regs_after}
 use Rattle.sa_abstract.specs.Walk.{Spot, after_many, ins_records, program_at}
-use Rattle.sa_abstract.specs.Keeps.{Keeps, IsAsked, IsOwn, IsSeat, GoesOn, is_away, state_after, records_of, moved_to}
+use Rattle.sa_abstract.specs.Keeps.{Keeps, IsAsked, IsOwn, IsSeat, StaysLocal, is_away, state_after, records_of, moved_to}
 use Rattle.sa_abstract.specs.Setting.{Setting}
 use Rattle.tests_machine.specs.declared.one_thread.OneThread.{OneThread}
 use Rattle.tests_machine.specs.OneThread.{one_thread_calls, one_thread_stands, first_instr, jumps_to_itself, the_thread, loop_regs, round_in, seat_in, said_in, carried, hints, asked_if}
@@ -56,7 +56,7 @@ module _ (s : Setting) (space : SpaceNo) (here : space ≡ s.space) where
   seats-in true is = ((here, has-program s.def.programs is, has-first (program_at s.def.programs 0) is), refl)
   seats-in false is = (tt, refl)
 
-  goes-says : (b : Bool) → b ≡ jumps_to_itself (first_instr s.def.programs) → (n : ℕ) → GoesOn s n (seat_in b space)
+  goes-says : (b : Bool) → b ≡ jumps_to_itself (first_instr s.def.programs) → (n : ℕ) → StaysLocal s n (seat_in b space)
       → replicate n (round_in space) ≡ records_of s n (seat_in b space)
   goes-says true is n goes = says-rounds (program_at s.def.programs 0) is space n
   goes-says false is n goes = absurd goes

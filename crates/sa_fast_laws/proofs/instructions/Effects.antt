@@ -24,8 +24,8 @@ use Rattle.sa_fast.specs.declared.instruction.Ran.{Ran}
 use Rattle.sa_fast.specs.declared.instruction.Ran.TheVariants.{Goes, Leaves, Blocks}
 use Rattle.sa_fast.specs.declared.shared.Shared.{Shared}
 use Rattle.sa_fast.specs.declared.threads.Block.{Block}
-use Rattle.sa_fast.specs.declared.threads.Place.{Place as KeptPlace}
-use Rattle.sa_fast.specs.declared.threads.Place.TheVariants as fast
+use Rattle.sa_fast.specs.declared.threads.KeptPlace.{KeptPlace}
+use Rattle.sa_fast.specs.declared.threads.KeptPlace.TheVariants as fast
 use Rattle.sa_laws.specs.Effect.{Effect, effect, next, next_with, answered, sync_effect, fork_effect, join_effect, effect_of}
 use Rattle.sa_laws.specs.History.{is_running_or_blocked}
 use Rattle.sa_laws.specs.State.{Thread, SpaceState, at_start, thread_in, with_thread as with_laws, is_active, active_threads}

@@ -21,8 +21,8 @@ use Rattle.sa_fast.specs.Threads.{unmade, block_at, with_block, is_loaded, load_
 use Rattle.sa_fast.specs.Work.{work_of, with_name}
 use Rattle.sa_fast.specs.declared.instruction.Ran.TheVariants.{Goes, Leaves}
 use Rattle.sa_fast.specs.declared.threads.Block.{Block}
-use Rattle.sa_fast.specs.declared.threads.Place.{Place as KeptPlace}
-use Rattle.sa_fast.specs.declared.threads.Place.TheVariants as fast
+use Rattle.sa_fast.specs.declared.threads.KeptPlace.{KeptPlace}
+use Rattle.sa_fast.specs.declared.threads.KeptPlace.TheVariants as fast
 use Rattle.sa_abstract.specs.Calls.{Contexts}
 use Rattle.sa_abstract.specs.Setting.{Setting}
 use Rattle.sa_package_model.proofs.Holding.{own_made, own_below, own_rest, own_work, rest_unlisted, rest_once}

@@ -13,7 +13,7 @@ use Rattle.sa_fast.proofs.WorkSteps.{one_same}
 use Rattle.sa_fast.specs.Rest.{one_of, place_at}
 use Rattle.sa_fast.specs.Threads.{is_loaded}
 use Rattle.sa_fast.specs.Work.{with_name}
-use Rattle.sa_fast.specs.declared.threads.Place.TheVariants as fast
+use Rattle.sa_fast.specs.declared.threads.KeptPlace.TheVariants as fast
 use Rattle.sa_abstract.specs.Calls.{Contexts}
 use Rattle.sa_abstract.specs.Setting.{Setting}
 use Rattle.sa_package_model.proofs.Holding.{own_work, thread_once}

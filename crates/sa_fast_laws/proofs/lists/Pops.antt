@@ -26,8 +26,8 @@ use Rattle.sa_fast.specs.Rest.{one_of, one_where, is_ready, place_at, threads_at
 use Rattle.sa_fast.specs.Threads.{is_loaded}
 use Rattle.sa_fast.specs.declared.shared.Shared.{Shared}
 use Rattle.sa_fast.specs.declared.threads.Block.{Block}
-use Rattle.sa_fast.specs.declared.threads.Place.{Place as KeptPlace}
-use Rattle.sa_fast.specs.declared.threads.Place.TheVariants as kept
+use Rattle.sa_fast.specs.declared.threads.KeptPlace.{KeptPlace}
+use Rattle.sa_fast.specs.declared.threads.KeptPlace.TheVariants as kept
 use Rattle.sa_abstract.specs.Calls.{Contexts}
 use Rattle.sa_abstract.specs.Setting.{Setting}
 use Rattle.sa_package_model.proofs.Holding.{rest_once}

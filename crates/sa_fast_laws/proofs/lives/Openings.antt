@@ -14,7 +14,7 @@ use Rattle.sa_lists.specs.declared.ranks.Ranks.{Ranks}
 use Rattle.sa_fast.specs.Rest.{one_where}
 use Rattle.sa_fast.specs.Threads.{block_at, unmade, at_start, is_loaded, load_of as loaded}
 use Rattle.sa_fast.specs.declared.threads.Block.{Block}
-use Rattle.sa_fast.specs.declared.threads.Place.TheVariants as kept
+use Rattle.sa_fast.specs.declared.threads.KeptPlace.TheVariants as kept
 use Rattle.sa_abstract.specs.Setting.{Setting}
 use Rattle.sa_package_model.specs.Step.{started_with}
 use Rattle.sa_laws.specs.Readings.{untold_of, ready_of, untold_thread, opening_readings, first_listed}

@@ -15,7 +15,7 @@ use Rattle.sa_fast.proofs.WorkSteps.{one_same}
 use Rattle.sa_fast.specs.Rest.{one_of, one_where, place_at}
 use Rattle.sa_fast.specs.Threads.{is_loaded, load_of as loaded}
 use Rattle.sa_fast.specs.declared.threads.Block.{Block as BlockOf}
-use Rattle.sa_fast.specs.declared.threads.Place.TheVariants as fast
+use Rattle.sa_fast.specs.declared.threads.KeptPlace.TheVariants as fast
 use Rattle.sa_abstract.specs.Calls.{Contexts}
 use Rattle.sa_abstract.specs.Setting.{Setting}
 use Rattle.sa_package_model.proofs.Holding.{own_made, own_below, thread_once}

@@ -22,7 +22,7 @@ use Rattle.sa_fast.specs.Rest.{one_of, one_where, place_at, threads_at_rest}
 use Rattle.sa_fast.specs.Threads.{block_at, moved_to, is_loaded, load_of as loaded}
 use Rattle.sa_fast.specs.declared.shared.Shared.{Shared}
 use Rattle.sa_fast.specs.declared.threads.Block.{Block}
-use Rattle.sa_fast.specs.declared.threads.Place.TheVariants as fast
+use Rattle.sa_fast.specs.declared.threads.KeptPlace.TheVariants as fast
 use Rattle.sa_abstract.specs.Calls.{Contexts}
 use Rattle.sa_abstract.specs.Setting.{Setting}
 use Rattle.sa_package_model.proofs.Changing.{IsJoin, other_hand, name_none, name_full}

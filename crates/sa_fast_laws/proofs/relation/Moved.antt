@@ -8,7 +8,7 @@ use Rattle.sa_links.specs.Lists.{list_at}
 use Rattle.sa_fast.specs.Rest.{one_where, empty_at, place_at}
 use Rattle.sa_fast.specs.Threads.{block_at, is_loaded, load_of as loaded}
 use Rattle.sa_fast.specs.declared.threads.Block.{Block}
-use Rattle.sa_fast.specs.declared.threads.Place.{Place as KeptPlace}
+use Rattle.sa_fast.specs.declared.threads.KeptPlace.{KeptPlace}
 use Rattle.sa_abstract.specs.Calls.{Contexts}
 use Rattle.sa_abstract.specs.Setting.{Setting}
 use Rattle.sa_package_model.proofs.Holding.{own_made, own_below}

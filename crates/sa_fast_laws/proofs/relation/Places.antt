@@ -15,7 +15,7 @@ use Rattle.sa_fast.specs.Rest.{place_at, one_where}
 use Rattle.sa_fast.specs.Threads.{unmade, block_at, moved_to, is_loaded, load_of as loaded}
 use Rattle.sa_fast.specs.declared.shared.Shared.{Shared}
 use Rattle.sa_fast.specs.declared.threads.Block.{Block}
-use Rattle.sa_fast.specs.declared.threads.Place.{Place as KeptPlace}
+use Rattle.sa_fast.specs.declared.threads.KeptPlace.{KeptPlace}
 use Rattle.sa_package_model.specs.Rules.{placed}
 use Rattle.sa_laws.specs.Life.{Life}
 use Rattle.sa_laws.specs.Readings.{Readings, running_of, life_of, untold_of, stopped_thread, untold_thread, load_of}

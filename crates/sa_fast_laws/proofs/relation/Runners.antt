@@ -12,8 +12,8 @@ use Rattle.sa_base.specs.declared.number.ThreadNo.{ThreadNo}
 use Rattle.sa_base.specs.declared.record.Note.TheVariants.{Preempted, Unblocked}
 use Rattle.sa_fast.proofs.WorkSteps.{one_other}
 use Rattle.sa_fast.specs.Rest.{one_of, one_where, is_unmade, unmade_at, is_carried, place_at}
-use Rattle.sa_fast.specs.declared.threads.Place.{Place as KeptPlace}
-use Rattle.sa_fast.specs.declared.threads.Place.TheVariants as fast
+use Rattle.sa_fast.specs.declared.threads.KeptPlace.{KeptPlace}
+use Rattle.sa_fast.specs.declared.threads.KeptPlace.TheVariants as fast
 use Rattle.sa_abstract.specs.Calls.{Contexts}
 use Rattle.sa_abstract.specs.Setting.{Setting}
 use Rattle.sa_package_model.specs.Context.{carried_by}

@@ -11,8 +11,8 @@ use Rattle.sa_sync.specs.Sync.{waits_of}
 use Rattle.sa_fast.specs.Rest.{one_where, is_ready, is_unmade, is_carried, place_at, threads_at_rest}
 use Rattle.sa_fast.specs.Threads.{is_done, is_loaded}
 use Rattle.sa_fast.specs.Work.{work_of}
-use Rattle.sa_fast.specs.declared.threads.Place.{Place as KeptPlace}
-use Rattle.sa_fast.specs.declared.threads.Place.TheVariants as kept
+use Rattle.sa_fast.specs.declared.threads.KeptPlace.{KeptPlace}
+use Rattle.sa_fast.specs.declared.threads.KeptPlace.TheVariants as kept
 use Rattle.sa_abstract.specs.Calls.{Contexts}
 use Rattle.sa_abstract.specs.Setting.{Setting}
 use Rattle.sa_package_model.proofs.Holding.{thread_once, own_rest, own_made, own_below}

@@ -24,14 +24,14 @@ use Rattle.sa_code.specs.declared.state.PackageState.{PackageState}
 use Rattle.sa_copies.proofs.Places.{next-push, next-pop}
 use Rattle.sa_copies.specs.Copies.{package_ops, copy_at}
 use Rattle.sa_copies.specs.Runs.{is_section_op}
-use Rattle.sa_fast.specs.declared.threads.Place.TheVariants as kept
+use Rattle.sa_fast.specs.declared.threads.KeptPlace.TheVariants as kept
 use Rattle.sa_abstract.specs.Calls.{Contexts}
 use Rattle.sa_abstract.specs.Setting.{Setting}
 use Rattle.sa_package_model.proofs.Able.{step_can}
 use Rattle.sa_package_model.proofs.Views.{settled_between, yields_between, section_fits, has_copy}
 use Rattle.sa_package_model.specs.Context.{at_copy, has_some, settled_to, has_bulk}
 use Rattle.sa_package_model.specs.Rules.{placed, pair, did, coded_by, with_shared, with_package, context_after, owed, settled, put_last}
-use Rattle.sa_package_model.specs.Stands.{Fits as FitsOp, StandsAt}
+use Rattle.sa_package_model.specs.Stands.{FitsOperation as FitsOp, StandsAt}
 use Rattle.sa_package_model.specs.Step.{stepped}
 use Rattle.sa_package_model.specs.declared.context.Context.{Context}
 use Rattle.sa_package_model.specs.declared.context.ContextState.TheVariants.{Code}

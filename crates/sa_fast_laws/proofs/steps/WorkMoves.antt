@@ -20,7 +20,7 @@ use Rattle.sa_copies.proofs.Places.{at_copies}
 use Rattle.sa_copies.specs.Copies.{package_ops, copy_at}
 use Rattle.sa_fast.specs.Instruction.{with_works}
 use Rattle.sa_fast.specs.Work.{without_first}
-use Rattle.sa_fast.specs.declared.threads.Place.TheVariants as kept
+use Rattle.sa_fast.specs.declared.threads.KeptPlace.TheVariants as kept
 use Rattle.sa_abstract.specs.Calls.{Contexts}
 use Rattle.sa_abstract.specs.Setting.{Setting}
 use Rattle.sa_package_model.specs.Rules.{placed, pair, did, with_shared, push_of, pushing_by, own_list}

@@ -12,7 +12,7 @@ use Rattle.sa_base.specs.declared.record.Record.TheVariants as records
 use Rattle.sa_lemmas.proofs.FunctionUpdates.{put-self, put-same, put-other}
 use Rattle.sa_lemmas.specs.Function.{put}
 use Rattle.sa_spaces.specs.Workload.{WorkloadView}
-use Rattle.sa_fast.specs.declared.threads.Place.TheVariants as kept
+use Rattle.sa_fast.specs.declared.threads.KeptPlace.TheVariants as kept
 use Rattle.sa_abstract.specs.Calls.{Contexts}
 use Rattle.sa_abstract.specs.Setting.{Setting}
 use Rattle.sa_package_model.specs.Context.{carried_by}

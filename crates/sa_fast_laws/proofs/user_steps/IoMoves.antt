@@ -23,7 +23,7 @@ use Rattle.sa_fast.specs.Instruction.{says_of, outcome_of, instr_of, next_of, wi
 use Rattle.sa_fast.specs.Rest.{place_at, one_where}
 use Rattle.sa_fast.specs.Threads.{unmade, block_at, moved_to}
 use Rattle.sa_fast.specs.declared.threads.Block.{Block}
-use Rattle.sa_fast.specs.declared.threads.Place.TheVariants as kept
+use Rattle.sa_fast.specs.declared.threads.KeptPlace.TheVariants as kept
 use Rattle.sa_abstract.specs.Calls.{Contexts, Stepped}
 use Rattle.sa_abstract.specs.Setting.{Setting}
 use Rattle.sa_abstract.specs.declared.answer.Step.TheVariants as asked

@@ -12,7 +12,7 @@ use Rattle.sa_instr.specs.declared.instr.Instr.TheVariants.{Io}
 use Rattle.sa_spaces.specs.Workload.{WorkloadView}
 use Rattle.sa_fast.specs.Instruction.{instr_of, next_of, with_thread}
 use Rattle.sa_fast.specs.Threads.{block_at, moved_to}
-use Rattle.sa_fast.specs.declared.threads.Place.TheVariants as kept
+use Rattle.sa_fast.specs.declared.threads.KeptPlace.TheVariants as kept
 use Rattle.sa_abstract.specs.Calls.{Contexts}
 use Rattle.sa_abstract.specs.Setting.{Setting}
 use Rattle.sa_package_model.specs.Rules.{with_shared}

@@ -35,7 +35,7 @@ use Rattle.sa_laws.specs.Readings.{Readings, is_resident, was_idle}
 use Rattle.sa_laws.specs.Record.{Blocking, blocking, after_record, with_note, same_note, stopped_with}
 use Rattle.sa_laws.specs.Shape.{BeginsWithUp, leave_run}
 use Rattle.sa_laws.specs.Turns.{IsPassage, IsInterrupt, IsBlock}
-use Rattle.sa_laws.specs.Upcalls.{GoesTo, GoesOn, StopsAndGoes, BeginsAsInterrupt, leave_records}
+use Rattle.sa_laws.specs.Upcalls.{GoesTo, UpOrLeave, StopsAndGoes, BeginsAsInterrupt, leave_records}
 use Rattle.sa_kernel_laws.specs.Overview.{Overview, overview, read_off, act_space}
 use Rattle.sa_kernel_laws.proofs.overview.Records.{stop-record, block-record}
 use Rattle.sa_kernel_laws.proofs.overview.Untold.{once_if, copies}
@@ -251,7 +251,7 @@ module _ {C : Type 0} where
 
   goes-behind : (b : Bool) (k : KernelState C) (r : Readings) (p : ProcNo) (s : SpaceNo) (all : List Record)
       → leave_records p (owner_of k p) s (is_fetching k s.0) ≡ leave_records p (Some s) s (list_any (fetches s.0) r.under_way) → Behind b k p s all
-      → GoesOn b p r s all
+      → UpOrLeave b p r s all
   goes-behind true k r p s all left behind = behind
   goes-behind false k r p s all left behind = behind ∙ left
 
@@ -293,7 +293,7 @@ module _ {C : Type 0} where
         adds = items-both e p x.items y.items _ (block ∷ []) walk.records refl walk.adds;
         reads = walk.reads;
         lawful = λ rest closes law.
-            let goes : GoesOn (can_upcall k s) p r s (walk.records ++ rest) =
+            let goes : UpOrLeave (can_upcall k s) p r s (walk.records ++ rest) =
             goes-behind (can_upcall k s) y.state r p s (walk.records ++ rest) left (walk.is rest closes) in (
               record {
                 once = tt;
@@ -301,7 +301,7 @@ module _ {C : Type 0} where
                 all = tt;
                 gives = record {
                   number = ap (λ (v : Overview). v.io_count) (sym can.reads);
-                  follows = subst (λ (v : Overview). GoesOn (has_page (slice_index v.pages s.0) 0) p r s (walk.records ++ rest)) (sym can.reads) goes;
+                  follows = subst (λ (v : Overview). UpOrLeave (has_page (slice_index v.pages s.0) 0) p r s (walk.records ++ rest)) (sym can.reads) goes;
                 };
                 raises = tt;
               },

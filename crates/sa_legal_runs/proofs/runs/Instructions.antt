@@ -12,7 +12,7 @@ use Rattle.sa_base.specs.Items.{items_at, items_from}
 use Rattle.sa_spaces.specs.Space.{SpaceView}
 use Rattle.sa_spaces.specs.Workload.{WorkloadView}
 use Rattle.sa_abstract.specs.Calls.{Calls, Gone}
-use Rattle.sa_abstract.specs.Keeps.{Standing, Keeps, IsSeat, GoesOn, records_of}
+use Rattle.sa_abstract.specs.Keeps.{Standing, Keeps, IsSeat, StaysLocal, records_of}
 use Rattle.sa_abstract.specs.Walk.{ins_records, program_at}
 use Rattle.sa_abstract.specs.declared.answer.SeatState.{SeatState}
 use Rattle.sa_abstract.specs.declared.answer.SeatState.TheVariants.{Local, Away}
@@ -131,9 +131,9 @@ module _ {U C : Type 0} (f : Calls U C) (stands : Standing U C) (keep : Keeps f 
       let set = setting m.workload s.0 here.def in
       let seat = f.local here.user here.ctx in
       let is : local_on f m p ≡ seat = local-is f stands keep x p s here in
-      let goes : GoesOn set (suc n) seat =
-      subst (λ (d : SpaceView). GoesOn (setting m.workload s.0 d) (suc n) seat) same
-      (subst (λ (z : SeatState). GoesOn (setting m.workload s.0 go.def) (suc n) z) is go.goes) in
+      let goes : StaysLocal set (suc n) seat =
+      subst (λ (d : SpaceView). StaysLocal (setting m.workload s.0 d) (suc n) seat) same
+      (subst (λ (z : SeatState). StaysLocal (setting m.workload s.0 go.def) (suc n) z) is go.goes) in
       let done : Gone U C = f.went here.user (seen_on x p s) here.ctx (suc n) in
       let law = gone-law f stands keep m.event (suc n) x p s rest.standing here (omega arith) (omega arith) (omega (arith, can.event)) goes in
       let sits = (keep.seats set m.event here.user (contexts_of x s.0) here.act.0 here.ctx

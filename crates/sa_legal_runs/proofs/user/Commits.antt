@@ -25,7 +25,7 @@ use Rattle.sa_spaces.specs.Workload.{WorkloadView}
 use Rattle.sa_abstract.specs.declared.answer.SeatState.{SeatState}
 use Rattle.sa_abstract.specs.declared.answer.SeatState.TheVariants.{Local, Away}
 use Rattle.sa_abstract.specs.Calls.{Contexts, Gone}
-use Rattle.sa_abstract.specs.Keeps.{Keeps, IsOwn, GoesOn, records_of}
+use Rattle.sa_abstract.specs.Keeps.{Keeps, IsOwn, StaysLocal, records_of}
 use Rattle.sa_abstract.specs.Setting.{Setting}
 use Rattle.sa_abstract.specs.Walk.{ins_records, Spot}
 use Rattle.sa_acts.specs.declared.acts.Act.{Act}
@@ -81,7 +81,7 @@ length-ins : (s : SpaceNo) (t : ThreadNo) (program : List Instr) (n : ℕ) (spot
 length-ins s t program zero spot = refl
 length-ins s t program (suc n) spot = ap suc (length-ins s t program n _)
 
-length-records : (s : Setting) (n : ℕ) (x : SeatState) → GoesOn s n x → length (records_of s n x) ≡ n
+length-records : (s : Setting) (n : ℕ) (x : SeatState) → StaysLocal s n x → length (records_of s n x) ≡ n
 length-records s n (Local space thread program pc regs) goes = length-ins space thread _ n _
 length-records s n Away goes = absurd goes
 
@@ -312,9 +312,9 @@ module _ {U C : Type 0} (level : UserLevel U C) where
       let at = acts-at level w events m p s c here in
       let k = x.kernel in
       let same_def : go.def ≡ here.def = same_Some go.def here.def (sym go.is_def ∙ here.is_def) in
-      let goes : GoesOn (setting m.workload s.0 here.def) (suc n) (level.calls.local here.user here.ctx) =
-      subst (λ (d : SpaceView). GoesOn (setting m.workload s.0 d) (suc n) (level.calls.local here.user here.ctx)) same_def
-      (subst (λ z. GoesOn (setting m.workload s.0 go.def) (suc n) z) (local-is level.calls level.stands level.keep x p s here) go.goes) in
+      let goes : StaysLocal (setting m.workload s.0 here.def) (suc n) (level.calls.local here.user here.ctx) =
+      subst (λ (d : SpaceView). StaysLocal (setting m.workload s.0 d) (suc n) (level.calls.local here.user here.ctx)) same_def
+      (subst (λ z. StaysLocal (setting m.workload s.0 go.def) (suc n) z) (local-is level.calls level.stands level.keep x p s here) go.goes) in
       let many : m.event + suc n ≤ MAX_EVENTS = can.event in
       let done : Gone U C = level.calls.went here.user (seen_on x p s) here.ctx (suc n) in
       let law = gone-law level.calls level.stands level.keep m.event (suc n) x p s b.rest.standing here (omega arith)
@@ -327,7 +327,7 @@ module _ {U C : Type 0} (level : UserLevel U C) where
       let Goal : Readings → Type 0 = λ last. level.fits w set last done.user (put (contexts_of m s.0) here.act.0 (Some done.ctx)) in
       let good = level.laws.goes w set m.event r here.user (contexts_of m s.0) p here.act at.life here.ctx (seen_on x p s) (suc n)
       at.acting (sees-now level w events m p s c can.low here.owner) (low-now level w events m p c can.low) (omega arith) (omega arith) (omega (arith, many))
-      (subst (λ (v : WorkloadView). GoesOn (setting v s.0 here.def) (suc n) (level.calls.local here.user here.ctx)) c.workload goes) in
+      (subst (λ (v : WorkloadView). StaysLocal (setting v s.0 here.def) (suc n) (level.calls.local here.user here.ctx)) c.workload goes) in
       let users : List U = slice_set m.users s.0 done.user in
       let contexts : List (Option C) = slice_set m.contexts p.0 (Some done.ctx) in
       let start : Machine U C = record m { users = users; contexts = contexts } in

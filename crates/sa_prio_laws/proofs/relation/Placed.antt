@@ -5,10 +5,10 @@ use Rattle.std.proofs.lemmas.List.{get_or-set_same, get_or-set_other, set_past}
 use Rattle.sa_base.specs.declared.number.ThreadNo.{ThreadNo}
 use Rattle.sa_fast.specs.Threads.{block_at, unmade, moved_to, with_block}
 use Rattle.sa_fast.specs.declared.threads.Block.{Block}
-use Rattle.sa_fast.specs.declared.threads.Place.{Place}
+use Rattle.sa_fast.specs.declared.threads.KeptPlace.{KeptPlace}
 use Rattle.sa_package_model.specs.Rules.{blocks_placed}
 
-pub placed-programs : (blocks : List Block) (t : Option ThreadNo) (place : Place) (n : ℕ)
+pub placed-programs : (blocks : List Block) (t : Option ThreadNo) (place : KeptPlace) (n : ℕ)
     → (block_at (blocks_placed blocks t place) n).program ≡ (block_at blocks n).program
 placed-programs blocks None place n = refl
 placed-programs blocks (Some t) place n =

@@ -12,8 +12,8 @@ use Rattle.sa_links.specs.Lists.{count_in, count_in_all}
 use Rattle.sa_lists.specs.Chains.{IsOrdered}
 use Rattle.sa_lists.specs.ReadyView.{thread, list_of}
 use Rattle.sa_fast.specs.Rest.{place_at, one_where, is_unmade, is_ready as is_kept_ready, is_carried}
-use Rattle.sa_fast.specs.declared.threads.Place.{Place as KeptPlace}
-use Rattle.sa_fast.specs.declared.threads.Place.TheVariants as kept
+use Rattle.sa_fast.specs.declared.threads.KeptPlace.{KeptPlace}
+use Rattle.sa_fast.specs.declared.threads.KeptPlace.TheVariants as kept
 use Rattle.sa_abstract.specs.Calls.{Contexts}
 use Rattle.sa_abstract.specs.Setting.{Setting}
 use Rattle.sa_package_model.specs.Stands.{IsStanding}

@@ -22,7 +22,7 @@ use Rattle.sa_user_laws.specs.Scene.{event_begun_at}
 use Rattle.sa_user_laws.specs.Steps.{IsLegalStep}
 use Rattle.sa_fast_laws.proofs.relation.EventEnds.{begun-holds}
 use Rattle.sa_fast_laws.proofs.lists.Continues.{cont-keeps}
-use Rattle.sa_fast.specs.declared.threads.Place.TheVariants as kept
+use Rattle.sa_fast.specs.declared.threads.KeptPlace.TheVariants as kept
 use Rattle.sa_prio_laws.proofs.relation.Placed.{placed-programs}
 use Rattle.sa_prio_laws.proofs.frames.Frames.{base-is}
 use Rattle.sa_fast_laws.proofs.lists.LockedLists.{locked-kept}

@@ -13,7 +13,7 @@ use Rattle.sa_fast.specs.Rest.{one_of}
 use Rattle.sa_fast.specs.Threads.{is_loaded, block_at}
 use Rattle.sa_fast.specs.Work.{with_name}
 use Rattle.sa_fast.specs.declared.threads.Block.{Block}
-use Rattle.sa_fast.specs.declared.threads.Place.TheVariants as fast
+use Rattle.sa_fast.specs.declared.threads.KeptPlace.TheVariants as fast
 use Rattle.sa_abstract.specs.Calls.{Contexts}
 use Rattle.sa_abstract.specs.Setting.{Setting}
 use Rattle.sa_package_model.proofs.Holding.{own_work, own_below, thread_once}

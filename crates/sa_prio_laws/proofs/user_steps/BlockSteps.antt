@@ -25,7 +25,7 @@ use Rattle.sa_code.specs.declared.state.MicroDone.TheVariants as micros
 use Rattle.sa_fast.specs.Instruction.{run, instr_of, next_of, with_thread}
 use Rattle.sa_fast.specs.Threads.{block_at, moved_to}
 use Rattle.sa_fast.specs.declared.instruction.Ran.TheVariants as rans
-use Rattle.sa_fast.specs.declared.threads.Place.TheVariants as kept
+use Rattle.sa_fast.specs.declared.threads.KeptPlace.TheVariants as kept
 use Rattle.sa_abstract.specs.Calls.{Contexts}
 use Rattle.sa_abstract.specs.Setting.{Setting}
 use Rattle.sa_abstract.specs.declared.answer.Step.TheVariants as asked

@@ -19,7 +19,7 @@ use Rattle.sa_fast.specs.Instruction.{told_by, forked, touched, outcome_of, valu
 use Rattle.sa_fast.specs.Threads.{at_start, block_at, unmade, with_block}
 use Rattle.sa_fast.specs.declared.shared.Shared.{Shared}
 use Rattle.sa_fast.specs.declared.threads.Block.{Block}
-use Rattle.sa_fast.specs.declared.threads.Place.TheVariants as kept
+use Rattle.sa_fast.specs.declared.threads.KeptPlace.TheVariants as kept
 use Rattle.sa_abstract.specs.Calls.{Contexts}
 use Rattle.sa_abstract.specs.Setting.{Setting}
 use Rattle.sa_package_model.specs.Rules.{with_shared}

@@ -20,7 +20,7 @@ use Rattle.sa_fast.specs.Instruction.{instr_of, with_thread}
 use Rattle.sa_fast.specs.Threads.{unmade, block_at, gone_to}
 use Rattle.sa_fast.specs.declared.threads.Block.{Block}
 use Rattle.sa_abstract.specs.Calls.{Contexts}
-use Rattle.sa_abstract.specs.Keeps.{GoesOn}
+use Rattle.sa_abstract.specs.Keeps.{StaysLocal}
 use Rattle.sa_abstract.specs.Setting.{Setting}
 use Rattle.sa_abstract.specs.Walk.{program_at, after_one, AreLocal, ins_records}
 use Rattle.sa_abstract.specs.declared.answer.SeatState.TheVariants.{Away}
@@ -199,13 +199,13 @@ pub prio-goes : (w : WorkloadView) (s : Setting) (e : ℕ) (r : Readings) (v : P
     (c : PrioContext) (seen : Seen) (n : ℕ)
     → IsActing prio_calls prio_stands prio_fits w s e r v cs p a life c
     → Sees s.space (event_begun_at w seen.event p r) p seen.event seen → line_of r p ≡ None → 1 ≤ n → e < seen.event → seen.event + n ≤ MAX_EVENTS + 1
-    → GoesOn s n (prio_calls.local v c)
+    → StaysLocal s n (prio_calls.local v c)
     → AreLegalIns prio_threads w seen.event p r (prio_calls.went v seen c n).says
     (λ last. prio_fits w s last (prio_calls.went v seen c n).user (put cs a.0 (Some (prio_calls.went v seen c n).ctx)))
 prio-goes w s e r v cs p a life c seen n acting sees low some later within local = by c.urge c.base.state c.base.sections c.base.work acting local where
   by : (urge : Bool) (state : ContextState) (fs : List Frame) (wk : Option ThreadNo)
       → IsActing prio_calls prio_stands prio_fits w s e r v cs p a life (record { base = record { state = state; sections = fs; work = wk }; urge = urge })
-      → GoesOn s n (if urge then Away else local_at v.base state)
+      → StaysLocal s n (if urge then Away else local_at v.base state)
       → AreLegalIns prio_threads w seen.event p r (gone_at v.base (record { state = state; sections = fs; work = wk }) n state).says
       (λ last. PrioFits s.space last (with_base v (gone_at v.base (record { state = state; sections = fs; work = wk }) n state).user)
       (put cs a.0 (Some (record { base = (gone_at v.base (record { state = state; sections = fs; work = wk }) n state).ctx; urge = urge }))))

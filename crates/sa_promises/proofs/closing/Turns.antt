@@ -24,7 +24,7 @@ use Rattle.sa_laws.specs.Record.{after_record}
 use Rattle.sa_laws.specs.Shape.{is_own, is_of_leave, BeginsWithUp}
 use Rattle.sa_laws.specs.Turns.{AreTold, IsFetchOrNothing, IsPassage, IsInterrupt, IsOver, IsOut, IsBlock, IsInsOf, IsTickOrStep, IsTurnWhileDue, IsTurn}
 use Rattle.sa_promises.specs.Needs.{FormedBy, FormedIn, IsFormed}
-use Rattle.sa_laws.specs.Upcalls.{EachRecord, GivesUpcallThen, GoesOn, GoesTo, GoesToAim, StopsAndGoes}
+use Rattle.sa_laws.specs.Upcalls.{EachRecord, GivesUpcallThen, UpOrLeave, GoesTo, GoesToAim, StopsAndGoes}
 use Rattle.sa_promises.proofs.read.Spaces.{head-of, while-more}
 
 -- records that change no owner, aim or line
@@ -176,7 +176,7 @@ aim-heads : (p : ProcNo) (r : Readings) (owner aim : Option SpaceNo) (xs : List 
 aim-heads p r owner None xs goes = absurd goes
 aim-heads p r owner (Some b) xs goes = goes-heads (is_resident r b UPCALL_PAGE) (is_aim b.0 owner) p r owner b xs refl goes
 
-block-heads : (here : Bool) (p : ProcNo) (r : Readings) (s : SpaceNo) (owner aim : Option SpaceNo) (xs : List Record) → aim ≡ owner → GoesOn here p r s xs
+block-heads : (here : Bool) (p : ProcNo) (r : Readings) (s : SpaceNo) (owner aim : Option SpaceNo) (xs : List Record) → aim ≡ owner → UpOrLeave here p r s xs
     → Heads p owner aim xs
 block-heads true p r s owner aim xs same goes = record {
   up = λ of a ys is. same;

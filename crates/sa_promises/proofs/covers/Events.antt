@@ -212,8 +212,8 @@ Final test w r e xs = with_up test w r e (After w r e xs) (with_step test w r e 
 abbrev FineAfter : (test : Test) → WorkloadView → Readings → Event → List Record → SpaceNo → Type 0
 FineAfter test w r e xs s = Fine w (After w r e xs) (Final test w r e xs) s
 
-abbrev pub GoesOn : WorkloadView → Readings → Event → List Record → Type 0
-GoesOn w r e xs = Goes w e.number e.proc (event_begun w e r) xs
+abbrev pub GoesThrough : WorkloadView → Readings → Event → List Record → Type 0
+GoesThrough w r e xs = Goes w e.number e.proc (event_begun w e r) xs
 
 abbrev PassesAll : WorkloadView → Readings → Event → List Record → SpaceNo → Type 0
 PassesAll w r e xs s = EachRecord (Passes s) w e.number e.proc (event_begun w e r) xs
@@ -222,7 +222,7 @@ kept-begun : (w : WorkloadView) (r : Readings) (e : Event) (c : Readings) (s : S
 kept-begun w r e c s kept = record { active = kept.active; demand = kept.demand; lives = kept.lives; noted = kept.noted }
 
 held-fine : (rules : UserRules) → AnnouncesDemand rules → (w : WorkloadView) (r : Readings) (e : Event) (s : SpaceNo) (xs : List Record) → IsCovered w r
-    → Fine w r r.lives s → GoesOn w r e xs
+    → Fine w r r.lives s → GoesThrough w r e xs
     → PassesAll w r e xs s
     → ((a : ℕ) (life : Life) (b : ActNo) → r.lives a ≡ Some life → life.space ≡ s → life.inside ≡ true → running_of r e.proc ≡ Some b → IsStepOf xs → a ≢ b.0)
     → FineAfter rules.inside w r e xs s
@@ -234,7 +234,7 @@ held-fine rules meets w r e s xs known fine goes passes spared =
 turning-fine : (rules : UserRules) → AnnouncesDemand rules → (w : WorkloadView) (r : Readings) (e : Event) (s : SpaceNo) (x : Record) (ys cs : List Record)
     → IsCovered w r → e.proc.0 < w.processors
     → s.0 < length w.spaces → Fine w r r.lives s
-    → GoesOn w r e (x ∷ (ys ++ cs)) → IsClosing cs → PassesAll w r e (x ∷ (ys ++ cs)) s → BlocksFirst x ys → FineAfter rules.inside w r e (x ∷ (ys ++ cs)) s
+    → GoesThrough w r e (x ∷ (ys ++ cs)) → IsClosing cs → PassesAll w r e (x ∷ (ys ++ cs)) s → BlocksFirst x ys → FineAfter rules.inside w r e (x ∷ (ys ++ cs)) s
 turning-fine rules meets w r e s x ys cs known proc within fine goes closes passes blocks = one (is_step x) refl (running_of r e.proc) refl where
   one : (b : Bool) → is_step x ≡ b → (o : Option ActNo) → running_of r e.proc ≡ o → FineAfter rules.inside w r e (x ∷ (ys ++ cs)) s
   one false none o runs =
@@ -259,7 +259,7 @@ turning-fine rules meets w r e s x ys cs known proc within fine goes closes pass
 up-turn-fine : (rules : UserRules) → AnnouncesDemand rules → (w : WorkloadView) (r : Readings) (e : Event) (s : SpaceNo) (x : Record) (ys cs : List Record)
     → IsCovered w r → e.proc.0 < w.processors
     → s.0 < length w.spaces → Fine w r r.lives s
-    → e.records ≡ x ∷ (ys ++ cs) → GoesOn w r e (x ∷ (ys ++ cs)) → IsClosing cs → EachRecord (Passes s) w e.number e.proc (After w r e (x ∷ ys)) cs
+    → e.records ≡ x ∷ (ys ++ cs) → GoesThrough w r e (x ∷ (ys ++ cs)) → IsClosing cs → EachRecord (Passes s) w e.number e.proc (After w r e (x ∷ ys)) cs
     → Turning (x ∷ ys) → BlocksFirst x ys
     → FineAfter rules.inside w r e (x ∷ (ys ++ cs)) s
 up-turn-fine rules meets w r e s x ys cs known proc within fine is goes closes closing turning blocks = elim (turning-cases w e.number e.proc s (x ∷ ys) turning) [
@@ -279,7 +279,7 @@ up-turn-fine rules meets w r e s x ys cs known proc within fine is goes closes c
 -- a completion or a tick
 calm-fine : (rules : UserRules) → AnnouncesDemand rules → (w : WorkloadView) (r : Readings) (e : Event) (s : SpaceNo) (x : Record) (ys cs : List Record)
     → IsCovered w r → Fine w r r.lives s
-    → GoesOn w r e (x ∷ (ys ++ cs))
+    → GoesThrough w r e (x ∷ (ys ++ cs))
     → EachRecord (Passes s) w e.number e.proc (After w r e (x ∷ ys)) cs → Calm x ys → FineAfter rules.inside w r e (x ∷ (ys ++ cs)) s
 calm-fine rules meets w r e s x ys cs known fine goes closing calm =
     let own : EachRecord (Passes s) w e.number e.proc (event_begun w e r) (x ∷ ys) = (
@@ -333,7 +333,7 @@ step-passes By L w st r e s x ys gives_all agrees owned needs step of apart firs
 
 other-fine : (rules : UserRules) → AnnouncesDemand rules → (w : WorkloadView) (r : Readings) (e : Event) (s : SpaceNo) (x : Record) (ys cs : List Record)
     → IsCovered w r → Fine w r r.lives s
-    → GoesOn w r e (x ∷ (ys ++ cs))
+    → GoesThrough w r e (x ∷ (ys ++ cs))
     → EachRecord (Passes s) w e.number e.proc (After w r e (x ∷ ys)) cs → (step : StepOf FormedBy w (event_begun w e r) e.proc x ys)
     → space_of_life r (Some step.act) ≡ Some step.life.space → step.life.space.0 ≢ s.0
     → FineAfter rules.inside w r e (x ∷ (ys ++ cs)) s
@@ -355,7 +355,7 @@ other-fine rules meets w r e s x ys cs known fine goes closing step of apart =
 -- a lowering hint stays above the load
 lower-covers : (w : WorkloadView) (r : Readings) (e : Event) (s u : SpaceNo) (n : ℕ) (cs : List Record) (life : Life) → IsCovered w r → s.0 < length w.spaces
     → u ≡ s → life.space ≡ s
-    → Lowers (event_begun w e r) life n → GoesOn w r e (Want u n ∷ cs) → EachRecord (Passes s) w e.number e.proc (After w r e (Want u n ∷ [])) cs
+    → Lowers (event_begun w e r) life n → GoesThrough w r e (Want u n ∷ cs) → EachRecord (Passes s) w e.number e.proc (After w r e (Want u n ∷ [])) cs
     → Covers w (After w r e (Want u n ∷ cs)) s
 lower-covers w r e s u n cs life known within same of lower goes closing =
     let apart = apart-begun w known.st r e (Want u n ∷ cs) known.apart in
@@ -377,7 +377,7 @@ lower-covers w r e s u n cs life known within same of lower goes closing =
 same-fine : (rules : UserRules) → AnnouncesDemand rules → (w : WorkloadView) (r : Readings) (e : Event) (s : SpaceNo) (x : Record) (ys cs : List Record)
     → IsCovered w r → s.0 < length w.spaces
     → Fine w r r.lives s
-    → BeginsFreely w r e.proc (x ∷ (ys ++ cs)) → GoesOn w r e (x ∷ (ys ++ cs)) → IsClosing cs
+    → BeginsFreely w r e.proc (x ∷ (ys ++ cs)) → GoesThrough w r e (x ∷ (ys ++ cs)) → IsClosing cs
     → EachRecord (Passes s) w e.number e.proc (After w r e (x ∷ ys)) cs
     → (step : StepOf FormedBy w (event_begun w e r) e.proc x ys) → r.lives step.act.0 ≡ Some step.life → step.life.space ≡ s
     → FineAfter rules.inside w r e (x ∷ (ys ++ cs)) s
@@ -433,7 +433,7 @@ same-fine rules meets w r e s x ys cs known within fine freely goes closes closi
     where
       Lowered : Record → List Record → Type 0
       Lowered y zs =
-          GoesOn w r e (y ∷ (zs ++ cs)) → EachRecord (Passes s) w e.number e.proc (After w r e (y ∷ zs)) cs → Covers w (After w r e (y ∷ (zs ++ cs))) s
+          GoesThrough w r e (y ∷ (zs ++ cs)) → EachRecord (Passes s) w e.number e.proc (After w r e (y ∷ zs)) cs → Covers w (After w r e (y ∷ (zs ++ cs))) s
 
   one : (b : Bool) → settles r (After w r e (x ∷ (ys ++ cs))) x ≡ b → FineAfter rules.inside w r e (x ∷ (ys ++ cs)) s
   one true at = settled at
@@ -448,7 +448,7 @@ pub event-fine : (rules : UserRules) → AnnouncesDemand rules → (w : Workload
     → s.0 < length w.spaces → Fine w r r.lives s
     → Fine w (after_event rules.inside w r e) (after_event rules.inside w r e).lives s
 event-fine rules meets w r e known law from s within fine = whole (in-form rules meets w r e law from) where
-  goes-at : (xs : List Record) → e.records ≡ xs → GoesOn w r e xs
+  goes-at : (xs : List Record) → e.records ≡ xs → GoesThrough w r e xs
   goes-at xs is = record {
     moves = subst (EachRecord (Moves w e.proc) w e.number e.proc (event_begun w e r)) is (lawful-moves rules meets.forms.tells w r e law);
     tells = subst (EachRecord (TellsAllThen e.proc) w e.number e.proc (event_begun w e r)) is law.all_told.told;

@@ -40,7 +40,7 @@ use Rattle.sa_laws.proofs.Records.{records-append}
 use Rattle.sa_promises.proofs.read.OwnEvents.{OwnedByLives}
 use Rattle.sa_promises.proofs.covers.Passed.{Passing, passing, passing-each, passing-more, Goes}
 use Rattle.sa_promises.proofs.covers.Fine.{arise-fine, settle-fine, step-space, note-has, noted-end, blocks-untold}
-use Rattle.sa_promises.proofs.covers.Events.{After, GoesOn, other-life, calm-pass, step-passes}
+use Rattle.sa_promises.proofs.covers.Events.{After, GoesThrough, other-life, calm-pass, step-passes}
 use Rattle.sa_ranks.specs.Locks.{BeginsUnurged, IsUnurged, IsUnurgedIf}
 use Rattle.sa_promises.proofs.ranked.Fine.{Free, Fine, Settles, Lowly, urged, keep-fine, held-none}
 
@@ -133,7 +133,7 @@ pub record At (w : WorkloadView) (st : ℕ → Standing) (r : Readings) (e : Eve
   pub proc : e.proc.0 < w.processors
   pub is : e.records ≡ x ∷ (ys ++ cs)
   pub part : own_part e.records ≡ x ∷ ys
-  pub goes : GoesOn w r e (x ∷ (ys ++ cs))
+  pub goes : GoesThrough w r e (x ∷ (ys ++ cs))
   pub closes : IsClosing cs
 
 module _ (w : WorkloadView) (st : ℕ → Standing) (r : Readings) (e : Event) (x : Record) (ys cs : List Record) (at : At w st r e x ys cs) (s : SpaceNo) where

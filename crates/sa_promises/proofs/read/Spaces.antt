@@ -29,7 +29,7 @@ use Rattle.sa_laws.specs.Record.{after_record}
 use Rattle.sa_laws.specs.History.{event_begun, after_records}
 use Rattle.sa_laws.specs.Shape.{own_part, closing_part, is_own, aims_in, is_of_leave, BeginsWithUp}
 use Rattle.sa_laws.specs.Turns.{AreRaising, IsClosing, AreTold, IsFetchOrNothing, IsPassage, IsInterrupt, IsOver, IsOut, IsBlock, IsInsOf, IsTickOrStep, IsTurnWhileDue, IsTurn}
-use Rattle.sa_laws.specs.Upcalls.{EachRecord, TellsAll, TellsAllThen, GivesUpcallThen, GoesOn, GoesTo, GoesToAim, StopsAndGoes, is_moved_to}
+use Rattle.sa_laws.specs.Upcalls.{EachRecord, TellsAll, TellsAllThen, GivesUpcallThen, UpOrLeave, GoesTo, GoesToAim, StopsAndGoes, is_moved_to}
 use Rattle.sa_laws.specs.Closing.{want_one, spaces_of, aims_due}
 use Rattle.sa_laws.specs.Opening.{first_wants}
 use Rattle.sa_laws.specs.Rules.{UserRules, IsLawful}
@@ -159,11 +159,11 @@ interrupt-moves n p r None aim (Move old new) xs goes below is =
 interrupt-moves n p r owner aim x xs goes below is = absurd (is)
 
 -- after a block nothing moves to a space
-block-moves : (n : ℕ) (there : Bool) (p : ProcNo) (r : Readings) (s : SpaceNo) (xs : List Record) → GoesOn there p r s xs → IsPassage (take_while is_own xs)
+block-moves : (n : ℕ) (there : Bool) (p : ProcNo) (r : Readings) (s : SpaceNo) (xs : List Record) → UpOrLeave there p r s xs → IsPassage (take_while is_own xs)
     → EachMove n (take_while is_own xs)
 block-moves n there p r s xs goes is = move-passage n (take_while is_own xs) is
     (λ old new ys same. let whole = head-of is_own xs (Move old (Some new)) ys same in absurd (one there goes old new whole.0 whole.1)) where
-      one : (b : Bool) → GoesOn b p r s xs → (old : Option SpaceNo) (new : SpaceNo) (ys : List Record) → xs ≡ Move old (Some new) ∷ ys → ⊥
+      one : (b : Bool) → UpOrLeave b p r s xs → (old : Option SpaceNo) (new : SpaceNo) (ys : List Record) → xs ≡ Move old (Some new) ∷ ys → ⊥
       one true up old new ys same = subst (BeginsWithUp s) same up
       one false leaves old new ys same =
           let head = head-of is_of_leave xs (Move (Some s) None) _ leaves in

@@ -3,7 +3,7 @@ use Rattle.sa_spaces.specs.Workload.{WorkloadView}
 use Rattle.sa_lemmas.proofs.Results.{on_err}
 use Rattle.sa_script.specs.declared.command.DebugCommand.{DebugCommand}
 use Rattle.sa_script.specs.declared.command.DebugCommand.TheVariants.{Break}
-use Rattle.sa_script.specs.Text.{Fits}
+use Rattle.sa_script.specs.Text.{FitsCommand}
 use Rattle.sa_debug.specs.OverMachines.{session}
 use Rattle.sa_debug_run.proofs.Doing.{done-more, came-at, came-behind}
 use Rattle.sa_debug_run.proofs.replies.do_all.Goals as goal
@@ -11,7 +11,7 @@ use Rattle.sa_debug_run.proofs.replies.do_all.Goals as goal
 pub command-requires-after_bounds : goal.command-requires-after_bounds
 command-requires-after_bounds c = λ κs.
     let d : DebugCommand = Break (record { space = record { 0 = 0 }; thread = record { 0 = 0 }; place = 0 }) in
-    subst (λ (w : WorkloadView). Fits w (get_or c.args.commands.now c.loop-command.command-index d)) (sym c.loop-command.invariant.workload)
+    subst (λ (w : WorkloadView). FitsCommand w (get_or c.args.commands.now c.loop-command.command-index d)) (sym c.loop-command.invariant.workload)
     (c.requires c.loop-command.command-index d c.loop-command-test.true)
 
 pub loop-command-preserved : goal.loop-command-preserved

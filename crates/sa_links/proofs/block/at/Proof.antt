@@ -44,7 +44,7 @@ use Rattle.std.proofs.RcSteps.{word, word-Good}
 use Rattle.std.proofs.VecSteps.El.{El, el_x, el_d, R, P, Vr, sz, args, owning}
 use Rattle.std.proofs.VecSteps.Shapes.{after}
 use Rattle.std.proofs.lemmas.List.{get_or_default}
-use Rattle.sa_links.specs.Place.{IsPlace, index_of}
+use Rattle.sa_links.specs.Slot.{IsSlot, index_of}
 use Rattle.sa_links.proofs.Memory.{Pl, word_had, one_seen, some_of}
 use Rattle.sa_links.specs.contracts.block.at.Key.{name as #self}
 use Rattle.sa_links.proofs.block.at.Statement as stated
@@ -76,13 +76,13 @@ module _ (E : El) where
   stayed = (stay_dropped (RefOf (0 ∷ []) tt (plain (λ _. Vr E)) (λ _. tt)) yes, (stay_dropped (plain (λ _. Pl E)) no, tt))
 
   abbrev Asks : el_d E → (Pl E).Denot → Type 0
-  Asks d place = IsPlace (R E) d.ptr (length d.items) place.ptr
+  Asks d slot = IsSlot (R E) d.ptr (length d.items) slot.ptr
 
   abbrev at : el_d E → (Pl E).Denot → ℕ
-  at d place = index_of (R E) d.ptr place.ptr
+  at d slot = index_of (R E) d.ptr slot.ptr
 
   abbrev Gives : el_d E → (Pl E).Denot → Bor (el_x E) → Type 0
-  Gives d place r = r.now ≡ get_or d.items (at d place) r.now
+  Gives d slot r = r.now ≡ get_or d.items (at d slot) r.now
 
   abbrev spec : {M : Type 1} {𝓤 : Ura M} (𝓛 : Logic 𝓤) → Clauses 𝓤 ended
   spec {𝓤 = 𝓤} 𝓛 κs a = record { ghost = Unit {0}; requires = λ _. fact 𝓤 (Asks a.0.now a.1.0); ensures = λ _ r w. fact 𝓤 (Gives a.0.now a.1.0 r) }

@@ -45,7 +45,7 @@ use Rattle.std.proofs.VecSteps.Facts.{last_fact, and_fact, Says-All}
 use Rattle.std.proofs.VecSteps.Opens.{vec_opens, vec_closes}
 use Rattle.std.proofs.VecSteps.Rows.{el_out, el_in}
 use Rattle.std.proofs.VecSteps.Shapes.{after}
-use Rattle.sa_links.specs.Place.{IsPlace, index_of}
+use Rattle.sa_links.specs.Slot.{IsSlot, index_of}
 use Rattle.sa_links.proofs.Memory.{Pl, word_had, tells, Beside, one_out, one_in}
 use Rattle.sa_links.specs.contracts.block.put.Key.{name as #self}
 use Rattle.sa_links.proofs.block.put.Statement as stated
@@ -71,10 +71,10 @@ module _ (E : El) where
   stayed = (stay_ref (0 ∷ []) tt (plain (λ _. Vr E)), (stay_dropped (plain (λ _. Pl E)) no, (stay_dropped (plain (λ _. R E)) no, tt)))
 
   abbrev Asks : el_d E → (Pl E).Denot → Type 0
-  Asks d place = IsPlace (R E) d.ptr (length d.items) place.ptr
+  Asks d slot = IsSlot (R E) d.ptr (length d.items) slot.ptr
 
   abbrev at : el_d E → (Pl E).Denot → ℕ
-  at d place = index_of (R E) d.ptr place.ptr
+  at d slot = index_of (R E) d.ptr slot.ptr
 
   abbrev spec : {M : Type 1} {𝓤 : Ura M} (𝓛 : Logic 𝓤) → Clauses 𝓤 ended
   spec {𝓤 = 𝓤} 𝓛 κs a = record {

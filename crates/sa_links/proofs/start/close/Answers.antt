@@ -8,7 +8,7 @@ use Rattle.sa_links.proofs.start.close.Goals as goal
 pub loop-index-preserved : goal.loop-index-preserved
 loop-index-preserved c =
     let base = vec_ptr c.loop-index.nodes in let nodes = c.loop-index.nodes.items in
-    let inside = c.place_of-place.ensures.place.inside in let index = c.place_of-place.ensures.index in
+    let inside = c.slot_of-slot.ensures.slot.inside in let index = c.slot_of-slot.ensures.index in
     let lens = wires_size base nodes in
     let low : c.loop-index.index < length nodes = omega (arith, inside, index) in
     record {

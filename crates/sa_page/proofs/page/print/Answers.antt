@@ -5,7 +5,7 @@ use Rattle.sa_check_moment.specs.Seen.{Seen, seen, opened}
 use Rattle.sa_cells.specs.Change.{opening_lines}
 use Rattle.sa_page.specs.Page.{page_text, items_text}
 use Rattle.sa_page.specs.Shown.{Shows, WritesShown}
-use Rattle.sa_page.proofs.PageLemmas.{behind, begun}
+use Rattle.sa_page.proofs.PageLemmas.{behind, begins-with}
 use Rattle.sa_page.proofs.page.print.Goals as goal
 
 pub returns : goal.returns
@@ -27,6 +27,6 @@ returns c =
           (behind _ _ _ _ _ c.in_ok-push_items.ensures
           (behind _ _ _ _ _ c.in_ok-extend_from_slice-3.ensures.items
           (behind _ _ _ _ _ c.in_ok-push_end.ensures
-          (behind _ _ _ _ _ c.in_ok-extend_from_slice-2.ensures.items (begun _ _ _ c.in_ok-extend_from_slice.ensures.items c.new-out.ensures.items)
+          (behind _ _ _ _ _ c.in_ok-extend_from_slice-2.ensures.items (begins-with _ _ _ c.in_ok-extend_from_slice.ensures.items c.new-out.ensures.items)
           (c.deref.ensures.value ∙ c.in_ok-verdict_line.ensures)) refl) refl) (ap items_text c.items.ensures)) refl) (ap opening_lines start)) refl) refl;
     }

@@ -13,8 +13,8 @@ use Rattle.sa_links.proofs.links.Links.append.Goals as goal
 pub returns-then-is_none-clause-lists : goal.returns-then-is_none-clause-lists
 returns-then-is_none-clause-lists c =
     let read = front_read (vec_ptr c.self.inside.nodes) c.self.inside.nodes.items c.self.inside.count c.args.self.now c.self.view_is c.self.invariant
-    c.args.from c.requires.from _ c.place_of-emptied.ensures.index
-    c.at.result.now c.at-2.result.now c.place_of-emptied.ensures.place.inside c.at.ensures c.at-2.ensures in
+    c.args.from c.requires.from _ c.slot_of-emptied.ensures.index
+    c.at.result.now c.at-2.result.now c.slot_of-emptied.ensures.slot.inside c.at.ensures c.at-2.ensures in
     moved_none c.args.self.now c.args.list c.args.from (sym (ap is_some read) ∙ c.is_none.ensures ∙ ap not c.if-is_none.true)
 
 pub returns-then-is_none-clause-counts : goal.returns-then-is_none-clause-counts
@@ -28,29 +28,29 @@ changed : (c : goal.After-join-3) → IsRings (wires_of (vec_ptr c.join-3.new.no
 changed c =
     let base = vec_ptr c.self.inside.nodes in let nodes = c.self.inside.nodes.items in let v = c.args.self.now in
     let read = front_read (vec_ptr c.self.inside.nodes) c.self.inside.nodes.items c.self.inside.count c.args.self.now c.self.view_is c.self.invariant
-    c.args.from c.requires.from _ c.place_of-emptied.ensures.index
-    c.at.result.now c.at-2.result.now c.place_of-emptied.ensures.place.inside c.at.ensures c.at-2.ensures in
+    c.args.from c.requires.from _ c.slot_of-emptied.ensures.index
+    c.at.result.now c.at-2.result.now c.slot_of-emptied.ensures.slot.inside c.at.ensures c.at-2.ensures in
     let block₁ = c.join.ensures.relinked.block in let block₂ = c.join-2.ensures.relinked.block ∙ block₁ in
     moved (wires_of base nodes) _ _ _ v c.args.list c.args.from _ _ _ _ _
     (rings_are (vec_ptr c.self.inside.nodes) c.self.inside.nodes.items c.self.inside.count c.args.self.now c.self.view_is c.self.invariant) c.requires.differ
     c.requires.list c.requires.from
     (sym (ap is_some read) ∙ c.is_none.ensures ∙ ap not c.if-is_none.false)
-    (prev_read base nodes _ c.at-4.result.now c.place_of-head.ensures.place.inside c.at-4.ensures
+    (prev_read base nodes _ c.at-4.result.now c.slot_of-head.ensures.slot.inside c.at-4.ensures
     ∙ last_led (vec_ptr c.self.inside.nodes) c.self.inside.nodes.items c.self.inside.count c.args.self.now c.self.view_is c.self.invariant c.args.list
-    c.requires.list _ c.place_of-head.ensures.index)
-    (next_read base nodes _ c.at.result.now c.place_of-emptied.ensures.place.inside c.at.ensures
+    c.requires.list _ c.slot_of-head.ensures.index)
+    (next_read base nodes _ c.at.result.now c.slot_of-emptied.ensures.slot.inside c.at.ensures
     ∙ first_led (vec_ptr c.self.inside.nodes) c.self.inside.nodes.items c.self.inside.count c.args.self.now c.self.view_is c.self.invariant c.args.from
-    c.requires.from _ c.place_of-emptied.ensures.index)
+    c.requires.from _ c.slot_of-emptied.ensures.index)
     (ap (λ z. node_index z (out-Node c.at-3.result.now).prev.ptr) block₁
-    ∙ prev_read base nodes _ c.at-3.result.now c.place_of-emptied.ensures.place.inside c.at-3.ensures
+    ∙ prev_read base nodes _ c.at-3.result.now c.slot_of-emptied.ensures.slot.inside c.at-3.ensures
     ∙ last_led (vec_ptr c.self.inside.nodes) c.self.inside.nodes.items c.self.inside.count c.args.self.now c.self.view_is c.self.invariant c.args.from
-    c.requires.from _ c.place_of-emptied.ensures.index)
-    (ap (λ z. node_index z c.place_of-head.result.ptr) block₁
+    c.requires.from _ c.slot_of-emptied.ensures.index)
+    (ap (λ z. node_index z c.slot_of-head.result.ptr) block₁
     ∙ head_is (vec_ptr c.self.inside.nodes) c.self.inside.nodes.items c.self.inside.count c.args.self.now c.self.view_is c.self.invariant c.args.list
-    c.requires.list _ c.place_of-head.ensures.index)
-    (ap (λ z. node_index z c.place_of-emptied.result.ptr) block₂
+    c.requires.list _ c.slot_of-head.ensures.index)
+    (ap (λ z. node_index z c.slot_of-emptied.result.ptr) block₂
     ∙ head_is (vec_ptr c.self.inside.nodes) c.self.inside.nodes.items c.self.inside.count c.args.self.now c.self.view_is c.self.invariant c.args.from
-    c.requires.from _ c.place_of-emptied.ensures.index)
+    c.requires.from _ c.slot_of-emptied.ensures.index)
     c.join.ensures.wires c.join-2.ensures.wires c.join-3.ensures.wires
 
 pub invariant_of-self : goal.invariant_of-self

@@ -9,8 +9,8 @@ use Rattle.sa_links.proofs.links.Links.back.Goals as goal
 pub returns-clause-last : goal.returns-clause-last
 returns-clause-last c =
     back_read (vec_ptr c.self.inside.nodes) c.self.inside.nodes.items c.self.inside.count c.args.self.now c.self.view_is c.self.invariant c.args.list
-    c.requires _ c.place_of-head.ensures.index
-    c.at.result.now c.at-2.result.now c.place_of-head.ensures.place.inside c.at.ensures c.at-2.ensures
+    c.requires _ c.slot_of-head.ensures.index
+    c.at.result.now c.at-2.result.now c.slot_of-head.ensures.slot.inside c.at.ensures c.at-2.ensures
 
 pub returns-clause-stands : goal.returns-clause-stands
 returns-clause-stands c =

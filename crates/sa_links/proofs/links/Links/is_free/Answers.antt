@@ -10,12 +10,12 @@ pub returns : goal.returns
 returns c =
     let base = vec_ptr c.self.inside.nodes in let nodes = c.self.inside.nodes.items in let count = c.self.inside.count in let v = c.args.self.now in
     let i = node_index base (out-Node c.at.result.now).next.ptr in
-    let place = next_inside base nodes _ c.at.result.now c.self.invariant.linked c.place_of-place.ensures.place.inside c.at.ensures in
-    let number = number_read count nodes i c.at-2.result.now c.self.invariant.numbered place.inside c.at-2.ensures
+    let slot = next_inside base nodes _ c.at.result.now c.self.invariant.linked c.slot_of-slot.ensures.slot.inside c.at.ensures in
+    let number = number_read count nodes i c.at-2.result.now c.self.invariant.numbered slot.inside c.at-2.ensures
     ∙ ap (λ k. number_at k i) (count_is
     (vec_ptr c.self.inside.nodes) c.self.inside.nodes.items c.self.inside.count c.args.self.now c.self.view_is c.self.invariant) in
     free_is (wires_of base nodes) v c.args.node i c.eq.result
     (rings_are (vec_ptr c.self.inside.nodes) c.self.inside.nodes.items c.self.inside.count c.args.self.now c.self.view_is c.self.invariant) c.requires
-    (next_read base nodes _ c.at.result.now c.place_of-place.ensures.place.inside c.at.ensures
-    ∙ ap (λ k. get_or (wires_of base nodes).next k 0) c.place_of-place.ensures.index)
+    (next_read base nodes _ c.at.result.now c.slot_of-slot.ensures.slot.inside c.at.ensures
+    ∙ ap (λ k. get_or (wires_of base nodes).next k 0) c.slot_of-slot.ensures.index)
     (c.eq.ensures ∙ ap (λ o. option_eq eqb o (Some c.args.node)) number)

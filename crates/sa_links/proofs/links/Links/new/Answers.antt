@@ -15,7 +15,7 @@ made c =
     (subst (λ ns. length ns.items ≡ c.args.nodes + c.args.lists) same c.in_ok-nodes.ensures.size)
     (subst (λ ns. AreNumbered c.args.nodes ns.items) same c.in_ok-nodes.ensures.numbered)
     (subst (λ ns. AreLinked (vec_ptr ns) ns.items) same c.in_ok-nodes.ensures.linked)
-    (c.begin_of-begin.ensures.place ∙ ap (λ ns. vec_ptr ns) same) c.close.ensures.relinked c.close.ensures.closed
+    (c.begin_of-begin.ensures.slot ∙ ap (λ ns. vec_ptr ns) same) c.close.ensures.relinked c.close.ensures.closed
 
 pub invariant_of-result : goal.invariant_of-result
 invariant_of-result c = (made c).1

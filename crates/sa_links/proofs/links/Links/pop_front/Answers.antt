@@ -10,8 +10,8 @@ pub returns-in_err-number-clause-first : goal.returns-in_err-number-clause-first
 returns-in_err-number-clause-first c =
     c.from_residual.ensures ∙ sym c.in_err-number.was
     ∙ front_read (vec_ptr c.self.inside.nodes) c.self.inside.nodes.items c.self.inside.count c.args.self.now c.self.view_is c.self.invariant c.args.list
-    c.requires _ c.place_of-head.ensures.index
-    c.at.result.now c.at-2.result.now c.place_of-head.ensures.place.inside c.at.ensures c.at-2.ensures
+    c.requires _ c.slot_of-head.ensures.index
+    c.at.result.now c.at-2.result.now c.slot_of-head.ensures.slot.inside c.at.ensures c.at-2.ensures
 
 pub returns-in_err-number-clause-lists : goal.returns-in_err-number-clause-lists
 returns-in_err-number-clause-lists c =
@@ -19,23 +19,23 @@ returns-in_err-number-clause-lists c =
     sym (with_same c.args.self.now c.args.list _
     (none_first xs (sym c.in_err-number.was
     ∙ front_read (vec_ptr c.self.inside.nodes) c.self.inside.nodes.items c.self.inside.count c.args.self.now c.self.view_is c.self.invariant c.args.list
-    c.requires _ c.place_of-head.ensures.index
-    c.at.result.now c.at-2.result.now c.place_of-head.ensures.place.inside c.at.ensures c.at-2.ensures)))
+    c.requires _ c.slot_of-head.ensures.index
+    c.at.result.now c.at-2.result.now c.slot_of-head.ensures.slot.inside c.at.ensures c.at-2.ensures)))
 
 got : (c : goal.After-remove) → let xs = list_at c.args.self.now.lists c.args.list in slice_get xs 0 ≡ Some c.in_ok-number.number
 got c =
     sym (sym c.in_ok-number.was ∙ front_read
     (vec_ptr c.self.inside.nodes) c.self.inside.nodes.items c.self.inside.count c.args.self.now c.self.view_is c.self.invariant c.args.list c.requires
-    _ c.place_of-head.ensures.index
-    c.at.result.now c.at-2.result.now c.place_of-head.ensures.place.inside c.at.ensures c.at-2.ensures)
+    _ c.slot_of-head.ensures.index
+    c.at.result.now c.at-2.result.now c.slot_of-head.ensures.slot.inside c.at.ensures c.at-2.ensures)
 
 changed : (c : goal.After-remove) → let xs = list_at c.args.self.now.lists c.args.list in
     IsRings (wires_of (vec_ptr c.remove.new.nodes) c.remove.new.nodes.items) (with_list c.args.self.now c.args.list (drop 1 xs))
 changed c =
     let base = vec_ptr c.self.inside.nodes in let nodes = c.self.inside.nodes.items in let count = c.self.inside.count in let v = c.args.self.now in
     popped_front (wires_of base nodes) _ v c.args.list c.in_ok-number.number _ (rings_are base nodes count v c.self.view_is c.self.invariant) c.requires (got c)
-    (next_read base nodes _ c.at.result.now c.place_of-head.ensures.place.inside c.at.ensures
-    ∙ first_led base nodes count v c.self.view_is c.self.invariant c.args.list c.requires _ c.place_of-head.ensures.index)
+    (next_read base nodes _ c.at.result.now c.slot_of-head.ensures.slot.inside c.at.ensures
+    ∙ first_led base nodes count v c.self.view_is c.self.invariant c.args.list c.requires _ c.slot_of-head.ensures.index)
     c.remove.ensures.wires
 
 pub invariant_of-self : goal.invariant_of-self

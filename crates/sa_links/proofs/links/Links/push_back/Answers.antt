@@ -13,9 +13,9 @@ changed c =
     let base = vec_ptr c.self.inside.nodes in let nodes = c.self.inside.nodes.items in let count = c.self.inside.count in let v = c.args.self.now in
     pushed_back (wires_of base nodes) _ v c.args.list c.args.node _ _
     (rings_are base nodes count v c.self.view_is c.self.invariant) c.requires.list c.requires.node c.requires.free
-    (prev_read base nodes _ c.at.result.now c.place_of-head.ensures.place.inside c.at.ensures
-    ∙ last_led base nodes count v c.self.view_is c.self.invariant c.args.list c.requires.list _ c.place_of-head.ensures.index)
-    c.place_of-place.ensures.index c.insert.ensures.wires
+    (prev_read base nodes _ c.at.result.now c.slot_of-head.ensures.slot.inside c.at.ensures
+    ∙ last_led base nodes count v c.self.view_is c.self.invariant c.args.list c.requires.list _ c.slot_of-head.ensures.index)
+    c.slot_of-slot.ensures.index c.insert.ensures.wires
 
 pub invariant_of-self : goal.invariant_of-self
 invariant_of-self c =

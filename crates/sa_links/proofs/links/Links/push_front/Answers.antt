@@ -13,7 +13,7 @@ changed c =
     let base = vec_ptr c.self.inside.nodes in let nodes = c.self.inside.nodes.items in let count = c.self.inside.count in let v = c.args.self.now in
     pushed_front (wires_of base nodes) _ v c.args.list c.args.node _ _
     (rings_are base nodes count v c.self.view_is c.self.invariant) c.requires.list c.requires.node c.requires.free
-    (head_is base nodes count v c.self.view_is c.self.invariant c.args.list c.requires.list _ c.place_of-head.ensures.index) c.place_of-place.ensures.index
+    (head_is base nodes count v c.self.view_is c.self.invariant c.args.list c.requires.list _ c.slot_of-head.ensures.index) c.slot_of-slot.ensures.index
     c.insert.ensures.wires
 
 pub invariant_of-self : goal.invariant_of-self

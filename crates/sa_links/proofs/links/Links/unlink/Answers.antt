@@ -6,8 +6,8 @@ use Rattle.sa_links.specs.Wiring.{wires_of}
 use Rattle.sa_links.proofs.LinksSteps.{links_after, rings_are, size_is, stands_below, unlinked, unlinked_freed, view_after}
 use Rattle.sa_links.proofs.links.Links.unlink.Goals as goal
 
-pub place_of-place-requires-clause-inside : goal.place_of-place-requires-clause-inside
-place_of-place-requires-clause-inside c =
+pub slot_of-slot-requires-clause-inside : goal.slot_of-slot-requires-clause-inside
+slot_of-slot-requires-clause-inside c =
     let base = vec_ptr c.self.inside.nodes in let nodes = c.self.inside.nodes.items in let count = c.self.inside.count in let v = c.args.self.now in
     let below = stands_below (wires_of base nodes) (wires_of base nodes) v c.args.list c.args.node 0
     (rings_are base nodes count v c.self.view_is c.self.invariant) c.requires.list c.requires.stands in
@@ -20,7 +20,7 @@ changed : (c : goal.After-remove)
 changed c =
     let base = vec_ptr c.self.inside.nodes in let nodes = c.self.inside.nodes.items in let count = c.self.inside.count in let v = c.args.self.now in
     unlinked (wires_of base nodes) _ v c.args.list c.args.node _
-    (rings_are base nodes count v c.self.view_is c.self.invariant) c.requires.list c.requires.stands c.place_of-place.ensures.index c.remove.ensures.wires
+    (rings_are base nodes count v c.self.view_is c.self.invariant) c.requires.list c.requires.stands c.slot_of-slot.ensures.index c.remove.ensures.wires
 
 pub invariant_of-self : goal.invariant_of-self
 invariant_of-self c =

@@ -9,7 +9,7 @@ use Rattle.sa_code.specs.declared.code.Op.{Op}
 use Rattle.sa_code.specs.Changes.{opening_package}
 use Rattle.sa_copies.specs.Copies.{with_copies, package_ops}
 use Rattle.sa_fast.specs.declared.threads.Block.{Block}
-use Rattle.sa_fast.specs.declared.threads.Place.TheVariants.{Ready}
+use Rattle.sa_fast.specs.declared.threads.KeptPlace.TheVariants.{Ready}
 use Rattle.sa_fast.specs.Threads.{unmade, at_start, with_block, gone_to}
 use Rattle.sa_package_model.specs.declared.package.Package.{Package}
 use Rattle.sa_package_model.specs.Step.{opened}

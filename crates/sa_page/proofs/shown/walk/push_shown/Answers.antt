@@ -6,7 +6,7 @@ use Rattle.sa_check_moment.specs.Seen.{seen, event}
 use Rattle.sa_page.specs.declared.event.Gathered.{Gathered}
 use Rattle.sa_page.specs.declared.shown.Pair.{Pair}
 use Rattle.sa_page.specs.Gathered.{Gathers, IsFirst}
-use Rattle.sa_page.specs.Shown.{WritesShown, ShowsOne, GoesOn}
+use Rattle.sa_page.specs.Shown.{WritesShown, ShowsOne, WritesOne}
 use Rattle.sa_page.proofs.ShownLemmas.{goes-on, shown-all}
 use Rattle.sa_page.proofs.shown.walk.push_shown.Goals as goal
 
@@ -20,7 +20,7 @@ loop-pair-preserved c =
     let first : IsFirst c.loop-pair.rest.now g = subst (λ (o : Option Gathered). Gathers c.loop-pair.rest.now o) c.in-Some.is c.in_ok-next.ensures in
     let shows : ShowsOne now (event g.first.event g.first.proc g.records.items) out new c.in_ok-after.field-0 =
     subst (λ (rs : List Record). ShowsOne now (event g.first.event g.first.proc rs) out new c.in_ok-after.field-0) c.deref.ensures.value c.in_ok-after.ensures in
-    let goes : GoesOn now (event g.first.event g.first.proc g.records.items) out new next =
+    let goes : WritesOne now (event g.first.event g.first.proc g.records.items) out new next =
     subst (λ (o : Option Pair). ShowsOne now (event g.first.event g.first.proc g.records.items) out new o) c.in-Some-2.is shows in
     goes-on (seen c.args.pair.now.moment) now next (events_of c.args.items.now) (events_of c.loop-pair.rest.now) (events_of g.rest.now) c.args.out.now.items out new
     (event g.first.event g.first.proc g.records.items) first.events goes c.loop-pair.invariant

@@ -10,6 +10,6 @@ abbrev pub index_of : RattleType → Ptr → Ptr → ℕ
 index_of R base p = (count_of p - count_of base) / type_size R
 
 -- p points to one of the n values of the block that begins at base
-pub record IsPlace (R : RattleType) (base : Ptr) (n : ℕ) (p : Ptr) : Type 0 where
+pub record IsSlot (R : RattleType) (base : Ptr) (n : ℕ) (p : Ptr) : Type 0 where
   pub inside : index_of R base p < n
   pub there : p ≡ ptr_add R (index_of R base p) base

@@ -1,4 +1,4 @@
--- `place_at` meets its contract: a walk of its MIR by hand.
+-- `slot_at` meets its contract: a walk of its MIR by hand.
 use mathlib.Core.Path.{◌≡◌, refl, sym, ap, subst, ◌∙◌}
 use Prim.Native.Nat.{ℕ, ◌+◌, ◌*◌, ◌<◌, ◌^◌}
 use native.Mathlib.Omega.{arith}
@@ -44,13 +44,13 @@ use Rattle.std.specs.contracts.vec.Vec as vec-type
 use Rattle.std.proofs.RcSteps.{word, word-Good}
 use Rattle.std.proofs.VecSteps.El.{El, el_x, el_d, R, P, Vr, sz, args, owning}
 use Rattle.std.proofs.VecSteps.Shapes.{after}
-use Rattle.sa_links.specs.Place.{IsPlace, index_of}
+use Rattle.sa_links.specs.Slot.{IsSlot, index_of}
 use Rattle.std.proofs.VecSteps.Facts.{last_fact, and_fact, Says-All}
 use Rattle.std.specs.Mem.{type_size}
 use Rattle.sa_links.proofs.Memory.{Pl, word_had, word_made, quotient, needs_three, fits_here}
-use Rattle.sa_links.specs.contracts.block.place_at.Key.{name as #self}
-use Rattle.sa_links.proofs.block.place_at.Statement as stated
-use Rattle.sa_links.proofs.block.place_at.Code as code
+use Rattle.sa_links.specs.contracts.block.slot_at.Key.{name as #self}
+use Rattle.sa_links.proofs.block.slot_at.Statement as stated
+use Rattle.sa_links.proofs.block.slot_at.Code as code
 
 module _ (E : El) where
   abbrev function : Fn
@@ -82,7 +82,7 @@ module _ (E : El) where
   Begins d begin = begin.ptr ≡ d.ptr
 
   abbrev Lies : el_d E → (Pl E).Denot → Type 0
-  Lies d r = IsPlace (R E) d.ptr (length d.items) r.ptr
+  Lies d r = IsSlot (R E) d.ptr (length d.items) r.ptr
 
   abbrev Is : el_d E → ℕ → (Pl E).Denot → Type 0
   Is d i r = index_of (R E) d.ptr r.ptr ≡ i
@@ -178,9 +178,9 @@ meets E {𝓤 = 𝓤} 𝓛 𝓣 =
     (λ z. needs_three 𝓤 (Begins E z.0.3.0.now z.0.3.1.0) (z.0.3.1.1.0 < length z.0.3.0.now.items) (0 < type_size (R E)) _
     (entry E 𝓛 𝓣.C 𝓣.Λ z.0.0.0 z.0.1.0 z.0.3.0.ref_ptr.0 z.0.3.0.ref_ptr.1 z.0.3.0.now z.0.3.1.0 z.0.3.1.1.0 z.0.4.0 z.0.4.1.0 z.0.4.1.1.0))
 
-pub place_at_spec : {M : Type 1} → stated.statement M
+pub slot_at_spec : {M : Type 1} → stated.statement M
 unfolding tables_of
-place_at_spec 𝓤 𝓛 𝓜 𝓡 wired X Z L LZ g d dd met md y =
+slot_at_spec 𝓤 𝓛 𝓜 𝓡 wired X Z L LZ g d dd met md y =
     let E : El = record { row = X; laws = L; al = record { row = Z; laws = LZ; g = g; d = d; drops = dd } } in
     let 𝓣 : Tables 𝓤 𝓛.H = tables_of 𝓤 𝓛.H 𝓜 (tables 𝓤 𝓛.H 𝓜 𝓡 𝓡.env) in
     spared 𝓛 (ended E).signature (𝓡.run (𝓡.env (#self (args E)))) (run_framed 𝓤 𝓛.H 𝓜 𝓡 (𝓡.env (#self (args E)))) 2 (X.lives, (Z.lives, tt))
