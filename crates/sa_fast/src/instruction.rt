@@ -7,7 +7,7 @@ ghost use Rattle.sa_sync.specs.Sync.{WaitsNowhere, Waits, with_joiners, joiners_
 ghost use Rattle.sa_code.specs.Micro.{is_resident};
 ghost use Rattle.sa_fast.specs.Threads.{block_at, moved_to};
 ghost use Rattle.sa_fast.specs.Work.{with_name, added_all, IsUnlisted, IsWork};
-ghost use Rattle.sa_fast.specs.Instruction.{outcome, outcome_of, went, told_by, forked, joins, blocks, touched, ended, next_of, value_in, says_of, instr_of, run, run_says, IsAt, CanRun};
+ghost use Rattle.sa_fast.specs.Instruction.{outcome, outcome_of, told_by, forked, joins, blocks, touched, ended, next_of, value_in, says_of, instr_of, run, run_says, IsAt, CanRun};
 
 use crate::shared::Shared;
 use crate::threads::{Block, KeptPlace, Threads};

@@ -1,5 +1,5 @@
 // What a line of a trace text says after the items before it.
-ghost use Rattle.std.specs.Prelude.{◌≡◌, MatchResult};
+ghost use Rattle.std.specs.Prelude.{◌≡◌};
 ghost use Rattle.sa_text.specs.Line.{IsWithin, text_of_line};
 ghost use Rattle.sa_trace.specs.Pieces.{number_in};
 ghost use Rattle.sa_trace.specs.Line.{least_event, processor_in, record_in, item_at, counts_at, end_at, said_by, line_in};
