@@ -16,7 +16,7 @@ use Rattle.sa_states.specs.declared.TheConstants.{MAX_STATES}
 use Rattle.sa_command.specs.declared.options.Settings.{Settings}
 use Rattle.sa_text.specs.Number.{number_of}
 use Rattle.sa_command.specs.Values.{within, number_within, schedule_of, package_of, give_of}
-use Rattle.sa_command.specs.Commands.{with_option, settings_of, nothing_set, set_by, run_options, threads_options, turn_options, budget_option, package_option, explore_options, run_of, threads_of, load_of, migrate_of, check_of, vp_of, debug_of, explore_of, named, command_of}
+use Rattle.sa_command.specs.Commands.{with_schedule, with_budget, with_burst, with_package, with_states, with_give, with_option, settings_of, nothing_set, set_by, run_options, threads_options, turn_options, budget_option, package_option, explore_options, run_of, threads_of, load_of, migrate_of, check_of, vp_of, debug_of, explore_of, named, command_of}
 use Rattle.sa_command.specs.Ranges.{IsFrom, IsInRange, CommandsAreInRange}
 
 -- what holds of the value, if there is one, holds after a step that keeps it

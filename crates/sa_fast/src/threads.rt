@@ -40,7 +40,10 @@ impl KeptPlace {
     fn is_active(self) -> bool
         ensures { result ≡ is_active self }
     {
-        matches!(self, KeptPlace::Ready | KeptPlace::Running | KeptPlace::Carried)
+        matches!(
+            self,
+            KeptPlace::Ready | KeptPlace::Running | KeptPlace::Carried
+        )
     }
 
     // Whether a thread there is at its end.

@@ -46,11 +46,7 @@ pub(crate) fn begin_of<T, A: Allocator>(block: &mut Vec<T, A>) -> Slot<T>
 }
 
 // The slot of the value at `index`, from where the block begins.
-pub(crate) fn slot_at<T, A: Allocator>(
-    block: &Vec<T, A>,
-    begin: Slot<T>,
-    index: usize,
-) -> Slot<T>
+pub(crate) fn slot_at<T, A: Allocator>(block: &Vec<T, A>, begin: Slot<T>, index: usize) -> Slot<T>
     requires begin { begin.ptr ≡ vec_ptr block.now }
     requires inside { index < length block.now.items }
     requires sized { 0 < type_size T.row }

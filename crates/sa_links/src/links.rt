@@ -3,7 +3,7 @@ ghost use Rattle.std.specs.Prelude.{◌≡◌, ◌≢◌, ◌-◌, ◌<◌, ◌�
 ghost use Rattle.sa_links.specs.Lists.{HasSameCounts, IsApart, IsFree, IsIn, IsListed, IsNext, list_at, with_list, without};
 
 use crate::block::{Slot, at, begin_of};
-use crate::node::{Node, insert, join, slot_of, remove};
+use crate::node::{Node, insert, join, remove, slot_of};
 use crate::start::{close, numbered};
 use std::alloc::{AllocError, Global};
 use std::marker::Model;

@@ -4,7 +4,7 @@ ghost use Rattle.std.specs.Vec.{vec_ptr};
 ghost use Rattle.sa_links.specs.Rings.{joined};
 ghost use Rattle.sa_links.specs.Wiring.{AreLinked, IsNodeSlot, IsRelinked, node_index, wires_of};
 
-use crate::block::{Slot, at, slot_at, put};
+use crate::block::{Slot, at, put, slot_at};
 
 // A node is in a ring of nodes. A ring of one node is closed in itself.
 #[derive(Clone, Copy, Debug)]

@@ -3,7 +3,7 @@ use Rattle.std.specs.Option.{option_map}
 use Rattle.std.specs.Prelude.{ℕ, ◌^◌, ◌-◌, Bool, true, not, is_none, ◌&&◌, ◌||◌, List, [], ◌∷◌, codes, Option, Some, None, option_and_then, unwrap_or, is_some, nat_le, if◌then◌else◌}
 use Rattle.std.specs.Str.{bytes_eq}
 use Rattle.sa_text.specs.Number.{number_of}
-use Rattle.sa_svg.specs.declared.layout.TheConstants.{DEFAULT_WIDTH}
+use Rattle.sa_svg.specs.declared.layout.TheConstants.{DEFAULT_WIDTH, MAX_WIDTH, MIN_WIDTH}
 use Rattle.sa_check_moment.specs.declared.rules.Rules.{Rules}
 use Rattle.sa_check_moment.specs.declared.rules.Rules.TheVariants.{FastThreads, Priorities}
 use Rattle.sa_picture.specs.declared.request.Form.{Form}

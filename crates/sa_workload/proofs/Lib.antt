@@ -3,4 +3,4 @@ pub mod forward
 pub mod causes
 pub mod whole
 pub mod calls
-mod Texts
+mod Splitting

@@ -1,4 +1,4 @@
-use Rattle.sa_workload.proofs.Texts.{first-part, second-part}
+use Rattle.sa_workload.proofs.Splitting.{first-part, second-part}
 use Rattle.sa_workload.proofs.texts.two_texts.Goals as goal
 
 pub returns-clause-first : goal.returns-clause-first

@@ -1,7 +1,7 @@
 use Rattle.std.proofs.Common.{◌≡◌, ◌+◌, ℕ, length, drop, arith, sym, subst, ◌∙◌}
 use Rattle.std.specs.List.{slice_range}
 use Rattle.sa_workload.specs.Texts.{through_close, workload_part}
-use Rattle.sa_workload.proofs.Texts.{line-more, byte-more}
+use Rattle.sa_workload.proofs.Splitting.{line-more, byte-more}
 use Rattle.sa_workload.proofs.texts.workload_len.Goals as goal
 use Rattle.sa_workload.proofs.texts.workload_len.Goals.{then-byte-eq10+else-is_close, else-byte-eq10}
 
