@@ -1,5 +1,5 @@
 -- One event is judged.
-use Rattle.std.proofs.Common.{◌≡◌, ◌↔◌, sym, ◌∙◌, ap, subst, Bool, true, false, Option}
+use Rattle.std.proofs.Common.{◌≡◌, ◌↔◌, sym, ◌∙◌, ap, subst, Bool, false, [], Option}
 use Rattle.std.specs.Prelude.{not, find, IsTrue, MatchOption}
 use Rattle.sa_spaces.specs.Workload.{WorkloadView}
 use Rattle.sa_laws.specs.declared.rule.Rule.{Rule}
@@ -7,6 +7,7 @@ use Rattle.sa_laws.specs.declared.rule.Rule.TheVariants.{Numbered, Stepwise}
 use Rattle.sa_laws.specs.Event.{Event}
 use Rattle.sa_laws.specs.Readings.{Readings}
 use Rattle.sa_laws.specs.Opening.{IsNumbered}
+use Rattle.sa_laws.specs.Closing.{lines_due}
 use Rattle.sa_laws.specs.Step.{AreSteps}
 use Rattle.sa_laws.specs.Ends.{LastLine}
 use Rattle.sa_laws.specs.Rules.{UserRules, HoldEach, Breaks, rules}
@@ -19,11 +20,13 @@ use Rattle.sa_check.specs.declared.findings.Findings.{Findings}
 use Rattle.sa_check.specs.declared.records.ReadThrough.{ReadThrough}
 use Rattle.sa_check.specs.Findings.{found_of}
 use Rattle.sa_check.specs.Judged.{findings_of, after}
-use Rattle.sa_check.specs.Quiet.{is_quiet, IsQuietFrom, IsSettled, WasSettled}
+use Rattle.sa_check.specs.Quiet.{IsQuietAt, IsQuietFrom, IsSettled, WasSettled}
+use Rattle.sa_check.specs.Places.{HasShares}
 use Rattle.sa_check.specs.Records.{behind_some, IsReadThrough}
 use Rattle.sa_check.specs.Sides.{IsBeginning, IsEnding}
 use Rattle.sa_check.proofs.FindLemmas.{first-is}
 use Rattle.sa_check.proofs.QuietLemmas.{quiet-records, quiet-settled, quiet-wants-due, quiet-aims-due}
+use Rattle.sa_check.proofs.QuietLines.{quiet-lines-due, still-calm}
 use Rattle.sa_check.proofs.FoundLemmas.{beginning_of, each}
 
 pub numbering-breaks : (u : UserRules) (w : WorkloadView) (r : Readings) (e : Event) (last : Option LastLine) (found : Bool) → (IsTrue found ↔ IsNumbered w r e) → found ≡ false
@@ -69,17 +72,30 @@ judged-so m start next e last b running through ending numbered begins starts re
 
 -- a quiet event, after an event that left all as it must be
 pub quiet-from : (m start : Seen) (e : Event) → IsNumbered m.workload m.readings e → WasSettled m.workload m.readings → start ≡ at_event e.number e.proc m
-    → is_quiet m.workload m.readings e ≡ true → IsQuietFrom start e
-quiet-from m start e numbered settled begins quiet =
+    → IsQuietAt m e → IsQuietFrom start e
+quiet-from m start e numbered settled begins at =
     subst (λ (s : Seen). IsQuietFrom s e) (sym begins) (record {
-      quiet = quiet-records m.workload m.readings e quiet;
+      quiet = quiet-records m.workload m.readings e at.quiet;
       none = record {
-        wants = record { due = quiet-wants-due m.workload m.readings e numbered.number settled quiet };
-        aims = record { due = quiet-aims-due m.workload m.readings e numbered.number settled quiet };
+        wants = record { due = quiet-wants-due m.workload m.readings e numbered.number settled at.quiet };
+        aims = record { due = quiet-aims-due m.workload m.readings e numbered.number settled at.quiet };
+        lines = record { due = quiet-lines-due m.workload m.readings e at.quiet at.calm };
       };
     })
 
 pub settled-behind : (m next : Seen) (e : Event) → IsNumbered m.workload m.readings e → WasSettled m.workload m.readings
-    → is_quiet m.workload m.readings e ≡ true → next ≡ after m e → IsSettled next.workload e.number next.readings
-settled-behind m next e numbered settled quiet ends =
-    subst (λ (s : Seen). IsSettled s.workload e.number s.readings) (sym ends) (quiet-settled m.workload m.readings e numbered.number settled quiet (rules_of m.rules).inside)
+    → IsQuietAt m e → next ≡ after m e → IsSettled next.workload e.number next.readings
+settled-behind m next e numbered settled at ends =
+    subst (λ (s : Seen). IsSettled s.workload e.number s.readings) (sym ends) (quiet-settled m.workload m.readings e numbered.number settled at.quiet (rules_of m.rules).inside)
+
+-- where the shares are covered after the records, they are after the event
+pub covered-behind : (m start through next : Seen) (e : Event) → start ≡ at_event e.number e.proc m → through ≡ behind_some start e e.records
+    → next ≡ after m e → HasShares through e.number → HasShares next e.number
+covered-behind m start through next e begins reads ends covered =
+    let all : HasShares (behind_some (beginning_of m e) e e.records) e.number =
+    subst (λ (s : Seen). HasShares s e.number) (reads ∙ ap (λ (s : Seen). behind_some s e e.records) begins) covered in
+    subst (λ (s : Seen). HasShares s e.number) (sym ends) all
+
+pub calm-behind : (m next : Seen) (e : Event) → IsQuietAt m e → next ≡ after m e → lines_due next.workload next.readings ≡ []
+calm-behind m next e at ends =
+    subst (λ (s : Seen). lines_due s.workload s.readings ≡ []) (sym ends) (still-calm m.workload m.readings e at.quiet (rules_of m.rules).inside at.calm)

@@ -30,7 +30,7 @@ use Rattle.sa_laws.specs.Ends.{LastLine}
 use Rattle.sa_laws.specs.Rules.{UserRules, HoldEach, rules}
 use Rattle.sa_laws.specs.Record.{after_record, with_life}
 use Rattle.sa_laws.specs.History.{Test, event_begun, after_records, behind_all, is_step, is_up, with_step, with_up, stepped, arisen, after_event}
-use Rattle.sa_laws.specs.Shape.{is_no_aim, is_no_want, is_other_line, aims_in, wants_in, others_of, before_aims, before_wants, before_lines, front_part, is_own, closing_part}
+use Rattle.sa_laws.specs.Shape.{is_no_aim, is_no_want, is_other_line, aims_in, wants_in, others_of, before_aims, before_wants, before_lines, front_part, is_own, own_part, closing_part}
 use Rattle.sa_laws.specs.Closing.{claims_of, spaces_of, must_want, want_one, wants_due, first_space, shares_at, aims_due}
 use Rattle.sa_laws.specs.Upcalls.{RecordLaw, EachRecord, TellsOnce, NamesTheLife, TellsAllThen, GivesUpcallThen, RaisesLine, IsPrompt}
 use Rattle.sa_laws.proofs.Records.{number-kept}
@@ -40,7 +40,7 @@ use Rattle.sa_check_moment.specs.Urged.{is_closed, asks_last}
 use Rattle.sa_check.specs.Quiet.{is_quiet_record, keeps_first, is_quiet, IsSettled, WasSettled}
 
 -- what holds of each quiet kind holds of each quiet record
-quiet-cases : (P : Record → Type 0)
+pub quiet-cases : (P : Record → Type 0)
     → ((s : SpaceNo) (t : ThreadNo) (i : ℕ) → P (Ins s t i))
     → ((s : SpaceNo) (t : ThreadNo) (value : ℕ) → P (Out s t value))
     → ((s : SpaceNo) (t : ThreadNo) → P (Run s t))
@@ -102,7 +102,7 @@ same-itself r = record {
   idles = λ a. refl;
 }
 
-same-both : (r q s : Readings) → IsSame r q → IsSame q s → IsSame r s
+pub same-both : (r q s : Readings) → IsSame r q → IsSame q s → IsSame r s
 same-both r q s a b = record {
   demands = b.demands ∙ a.demands;
   under_way = b.under_way ∙ a.under_way;
@@ -183,7 +183,7 @@ module _ (w : WorkloadView) (e : ℕ) (p : ProcNo) (r : Readings) where
   same-record (Fetched s) h = absurd cc
   same-record (GiveBack a) h = absurd cc
 
-same-records : (w : WorkloadView) (e : ℕ) (p : ProcNo) (r : Readings) (xs : List Record) → list_all is_quiet_record xs ≡ true
+pub same-records : (w : WorkloadView) (e : ℕ) (p : ProcNo) (r : Readings) (xs : List Record) → list_all is_quiet_record xs ≡ true
     → IsSame r (after_records w e p r xs)
 same-records w e p r [] h = same-itself r
 same-records w e p r (x ∷ xs) h =
@@ -192,7 +192,7 @@ same-records w e p r (x ∷ xs) h =
     (same-records w e p (after_record w e p r x) xs each.1)
 
 -- the beginning of an event on a processor with a low line, and its end
-same-begun : (w : WorkloadView) (e : Event) (r : Readings) → line_of r e.proc ≡ None → IsSame r (event_begun w e r)
+pub same-begun : (w : WorkloadView) (e : Event) (r : Readings) → line_of r e.proc ≡ None → IsSame r (event_begun w e r)
 same-begun w e r low = record {
   demands = refl;
   under_way = refl;
@@ -225,7 +225,7 @@ module _ {A : Type 0} (g : Life → A) (test : Test) (w : WorkloadView) (r : Rea
   end-kept : (a : ActNo) → option_map g (with_up test w r e q (with_step test w r e q e.records q.lives) a.0) ≡ option_map g (q.lives a.0)
   end-kept a = up-kept (with_step test w r e q e.records q.lives) a ∙ step-kept e.records q.lives a
 
-same-event : (test : Test) (w : WorkloadView) (r : Readings) (e : Event) → line_of r e.proc ≡ None → list_all is_quiet_record e.records ≡ true
+pub same-event : (test : Test) (w : WorkloadView) (r : Readings) (e : Event) → line_of r e.proc ≡ None → list_all is_quiet_record e.records ≡ true
     → IsSame r (after_event test w r e)
 same-event test w r e low h =
     let q = behind_all w e r in
@@ -317,7 +317,7 @@ settled-same w n m r q first same settled = record {
 
 -- no aim is among the records, and no want
 
-quiet-aims : (xs : List Record) → list_all is_quiet_record xs ≡ true → aims_in xs ≡ []
+pub quiet-aims : (xs : List Record) → list_all is_quiet_record xs ≡ true → aims_in xs ≡ []
 quiet-aims [] h = refl
 quiet-aims (x ∷ xs) h =
     let each = and_parts (is_quiet_record x) (list_all is_quiet_record xs) h in
@@ -359,9 +359,13 @@ pub quiet-records : (w : WorkloadView) (r : Readings) (e : Event) → is_quiet w
 quiet-records w r e quiet = (and_parts (keeps_first w e.number) (list_all is_quiet_record e.records)
     (and_parts (is_none (line_of r e.proc)) (keeps_first w e.number && list_all is_quiet_record e.records) quiet).1).1
 
+pub quiet-low : (w : WorkloadView) (r : Readings) (e : Event) → is_quiet w r e ≡ true → line_of r e.proc ≡ None
+quiet-low w r e quiet =
+    none-is (line_of r e.proc) (and_parts (is_none (line_of r e.proc)) (keeps_first w e.number && list_all is_quiet_record e.records) quiet).0
+
 module _ (w : WorkloadView) (r : Readings) (e : Event) (numbered : e.number ≡ r.number) (was : WasSettled w r) (quiet : is_quiet w r e ≡ true) where
   low : line_of r e.proc ≡ None
-  low = none-is (line_of r e.proc) (and_parts (is_none (line_of r e.proc)) (keeps_first w e.number && list_all is_quiet_record e.records) quiet).0
+  low = quiet-low w r e quiet
 
   first : (1 ≤ e.number) × (first_space w e.number ≡ first_space w (e.number - 1))
   first =
@@ -477,13 +481,16 @@ own-count (x ∷ xs) h =
     ∙ (let one : 1 + prefix_len is_own xs ≡ suc (prefix_len is_own xs) = omega arith in ap (λ n. take n (x ∷ xs)) one)
     ∙ ap (λ ys. x ∷ ys) (own-count xs each.1)
 
+own-whole : (xs : List Record) → list_all is_quiet_record xs ≡ true → own_part xs ≡ xs
+own-whole [] h = refl
+own-whole (x ∷ xs) h =
+    ap (λ ys. x ∷ ys) (own-count xs (and_parts (is_quiet_record x) (list_all is_quiet_record xs) h).1)
+
+closing-none : (xs : List Record) → list_all is_quiet_record xs ≡ true → closing_part xs ≡ []
+closing-none xs h = ap (λ (own : List Record). drop (length own) xs) (own-whole xs h) ∙ drop_all (length xs) xs (omega arith)
+
 pub quiet-asks : (xs : List Record) → list_all is_quiet_record xs ≡ true → asks_last xs ≡ true
-quiet-asks [] h = refl
-quiet-asks (x ∷ xs) h =
-    let own = own-count xs (and_parts (is_quiet_record x) (list_all is_quiet_record xs) h).1 in
-    let all : closing_part (x ∷ xs) ≡ [] = ap (λ (ys : List Record). drop (length (x ∷ ys)) (x ∷ xs)) own ∙ drop_all (length (x ∷ xs)) (x ∷ xs) (omega arith) in
-    or-true (has_entry (x ∷ xs)) (is_closed (closing_part (x ∷ xs))) (ap is_closed all)
-  where
-    or-true : (a b : Bool) → b ≡ true → (a || b) ≡ true
-    or-true true b is = refl
-    or-true false b is = is
+quiet-asks xs h = or-true (has_entry xs) (is_closed (closing_part xs)) (ap is_closed (closing-none xs h)) where
+  or-true : (a b : Bool) → b ≡ true → (a || b) ≡ true
+  or-true true b is = refl
+  or-true false b is = is

@@ -1,24 +1,60 @@
--- The lines of a quiet event are due where all its records were read.
-use Rattle.std.proofs.Common.{◌≡◌, ◌↔◌, sym, subst, Bool, true, List, length, drop}
-use Rattle.std.specs.Prelude.{IsTrue}
+-- Where no line is due before a quiet event, none is due at it and after it; and it has no line and no aim.
+use Rattle.std.proofs.Common.{◌≡◌, ◌∙◌, sym, ap, arith, ℕ, true, List, [], ◌∷◌, length, drop, Option}
 use Rattle.std.specs.List.{list_all}
+use Rattle.std.proofs.lemmas.Bool.{and_parts}
+use Rattle.std.proofs.lemmas.List.{drop_all}
+use Rattle.sa_base.specs.declared.number.SpaceNo.{SpaceNo}
+use Rattle.sa_base.specs.declared.record.Note.{Note}
 use Rattle.sa_base.specs.declared.record.Record.{Record}
+use Rattle.sa_spaces.specs.Workload.{WorkloadView}
 use Rattle.sa_laws.specs.Event.{Event}
-use Rattle.sa_laws.specs.Shape.{lines_in, front_part}
+use Rattle.sa_laws.specs.Readings.{Readings}
+use Rattle.sa_laws.specs.History.{Test, event_begun, after_records, after_event}
+use Rattle.sa_laws.specs.Shape.{aims_in, lines_in, front_part, last_lines}
 use Rattle.sa_laws.specs.Closing.{lines_due}
-use Rattle.sa_check_moment.specs.Seen.{Seen}
-use Rattle.sa_check.specs.Places.{LinesAreDue}
-use Rattle.sa_check.specs.Records.{behind_some}
-use Rattle.sa_check.specs.Quiet.{is_quiet_record}
-use Rattle.sa_check.proofs.QuietLemmas.{front-whole}
+use Rattle.sa_laws.specs.Upcalls.{OwnLines, FirstLineIsAsked}
+use Rattle.sa_check.specs.Quiet.{is_quiet_record, is_quiet}
+use Rattle.sa_check.specs.Sides.{LinesAreInPlace}
+use Rattle.sa_check.proofs.QuietLemmas.{IsSame, same-both, same-begun, same-records, same-event, quiet-cases, quiet-records, quiet-low, front-whole}
 
-pub quiet-lines : (now m : Seen) (e : Event) (held : Bool) → list_all is_quiet_record e.records ≡ true → now ≡ behind_some m e e.records
-    → (IsTrue held ↔ (lines_in (drop (length e.records) e.records) ≡ lines_due now.workload now.readings))
-    → IsTrue held ↔ LinesAreDue (behind_some m e (front_part e.records)) e
-quiet-lines now m e held quiet here found =
-    let all = subst (λ (s : Seen). IsTrue held ↔ (lines_in (drop (length e.records) e.records) ≡ lines_due s.workload s.readings)) here found in
-    let front =
-    subst (λ (part : List Record). IsTrue held ↔ (lines_in (drop (length part) e.records)
-    ≡ lines_due (behind_some m e part).workload (behind_some m e part).readings))
-    (sym (front-whole e.records quiet)) all in
-    (λ is. record { due = front.0 is }, λ lines. front.1 lines.due)
+-- where nothing changed that the lines depend on, they are the same
+same-lines : (w : WorkloadView) (r q : Readings) → IsSame r q → lines_due w q ≡ lines_due w r
+same-lines w r q same =
+    ap (λ (owners : List (Option SpaceNo)). lines_due w (record r {
+      state = record r.state { owners = owners };
+      under_way = q.under_way;
+      aims = q.aims;
+      lines = q.lines;
+      untold = q.untold;
+    })) same.owners
+    ∙ ap (λ ios. lines_due w (record r { under_way = ios; aims = q.aims; lines = q.lines; untold = q.untold })) same.under_way
+    ∙ ap (λ (aims : List (Option SpaceNo)). lines_due w (record r { aims = aims; lines = q.lines; untold = q.untold })) same.aims
+    ∙ ap (λ (lines : List (Option ℕ)). lines_due w (record r { lines = lines; untold = q.untold })) same.lines
+    ∙ ap (λ (untold : List (List Note)). lines_due w (record r { untold = untold })) same.untold
+
+-- the last lines of quiet records are none
+last-none : (xs : List Record) → list_all is_quiet_record xs ≡ true → last_lines xs ≡ []
+last-none xs h = ap (λ (part : List Record). drop (length part) xs) (front-whole xs h) ∙ drop_all (length xs) xs (omega arith)
+
+module _ (w : WorkloadView) (r : Readings) (e : Event) (quiet : is_quiet w r e ≡ true) where
+  records : list_all is_quiet_record e.records ≡ true
+  records = quiet-records w r e quiet
+
+  pub still-calm : (test : Test) → lines_due w r ≡ [] → lines_due w (after_event test w r e) ≡ []
+  still-calm test calm = same-lines w r (after_event test w r e) (same-event test w r e (quiet-low w r e quiet) records) ∙ calm
+
+  pub quiet-lines-due : lines_due w r ≡ []
+      → lines_in (last_lines e.records) ≡ lines_due w (after_records w e.number e.proc (event_begun w e r) (front_part e.records))
+  quiet-lines-due calm =
+      let q = after_records w e.number e.proc (event_begun w e r) (front_part e.records) in
+      let front : list_all is_quiet_record (front_part e.records) ≡ true = ap (list_all is_quiet_record) (front-whole e.records records) ∙ records in
+      let same = same-both r (event_begun w e r) q (same-begun w e r (quiet-low w r e quiet)) (same-records w e.number e.proc (event_begun w e r) (front_part e.records) front) in
+      ap lines_in (last-none e.records records) ∙ sym (same-lines w r q same ∙ calm)
+
+  pub quiet-in-place : (Asked : OwnLines) → LinesAreInPlace Asked w r e.proc e.records
+  quiet-in-place Asked = record { first = first e.records records; order = ap aims_in (last-none e.records records) } where
+    first : (xs : List Record) → list_all is_quiet_record xs ≡ true → FirstLineIsAsked Asked w r e.proc xs
+    first [] h = tt
+    first (x ∷ xs) h =
+        quiet-cases (λ y. FirstLineIsAsked Asked w r e.proc (y ∷ xs)) (λ s t i. tt) (λ s t value. tt) (λ s t. tt) (λ s t. tt) (λ s t. tt) (λ s t. tt)
+        (λ s l t. tt) (λ s l t. tt) tt (λ l. tt) tt x (and_parts (is_quiet_record x) (list_all is_quiet_record xs) h).0

@@ -9,10 +9,12 @@ use Rattle.sa_check_moment.specs.Seen.{Seen, seen}
 use Rattle.sa_check.specs.declared.begin.Beginning.{Beginning}
 use Rattle.sa_check.specs.declared.end.Ending.{Ending}
 use Rattle.sa_check.specs.declared.findings.Findings.{Findings}
+use Rattle.sa_check.specs.declared.judge.Between.{Between}
 use Rattle.sa_check.specs.declared.judge.Judged.{Judged}
 use Rattle.sa_check.specs.declared.judge.Judged.TheVariants.{Right, Broken}
 use Rattle.sa_check.specs.declared.places.DueFound.{DueFound}
 use Rattle.sa_check.specs.declared.records.RecordsFound.{RecordsFound}
+use Rattle.sa_check.specs.Quiet.{IsCalmIf}
 
 -- the rules that hold, by what was found
 abbrev pub findings_of : ℕ → Beginning → RecordsFound → DueFound → Ending → Findings
@@ -42,6 +44,11 @@ pub record IsRightAt (m : Seen) (e : Event) (last : Option LastLine) (moment : S
   pub holds : HoldEach (rules_of m.rules) m.workload rules m.readings e last
   pub next : moment ≡ after m e
 
+-- what comes after an event that is right
+pub record IsRightThen (m : Seen) (e : Event) (last : Option LastLine) (now : Between) : Type 0 where
+  pub right : IsRightAt m e last (seen now.moment)
+  pub calm : IsCalmIf now.calm (seen now.moment).workload (seen now.moment).readings
+
 abbrev pub Judges : Seen → Event → Option LastLine → Judged → Type 0
-Judges m e last (Right moment) = IsRightAt m e last (seen moment)
+Judges m e last (Right now) = IsRightThen m e last now
 Judges m e last (Broken rule) = Breaks (rules_of m.rules) m.workload m.readings e last rule

@@ -1,5 +1,5 @@
 -- Events that change nothing of which owners, shares, wants and what is told in time are.
-use Rattle.std.specs.Prelude.{◌≡◌, ℕ, ◌+◌, ◌-◌, ◌==◌, ◌≤◌, nat_lt, Bool, true, false, ◌&&◌, is_none, map}
+use Rattle.std.specs.Prelude.{◌≡◌, ℕ, ◌+◌, ◌-◌, ◌==◌, ◌≤◌, nat_lt, Bool, true, false, ◌&&◌, is_none, map, [], IsTrue}
 use Rattle.std.specs.List.{list_all}
 use Rattle.sa_base.specs.declared.number.SpaceNo.{SpaceNo}
 use Rattle.sa_base.specs.declared.record.Record.{Record}
@@ -9,11 +9,11 @@ use Rattle.sa_assign.specs.Aims.{aimed}
 use Rattle.sa_spaces.specs.Workload.{WorkloadView}
 use Rattle.sa_laws.specs.Event.{Event}
 use Rattle.sa_laws.specs.Readings.{Readings, space_of_life, line_of}
-use Rattle.sa_laws.specs.Closing.{first_space, shares_at, must_want}
+use Rattle.sa_laws.specs.Closing.{first_space, shares_at, must_want, lines_due}
 use Rattle.sa_laws.specs.Upcalls.{IsPrompt}
-use Rattle.sa_laws.specs.Shape.{before_aims, before_wants}
+use Rattle.sa_laws.specs.Shape.{before_aims, before_wants, front_part}
 use Rattle.sa_check_moment.specs.Seen.{Seen}
-use Rattle.sa_check.specs.Places.{WantsAreDue, AimsAreDue}
+use Rattle.sa_check.specs.Places.{WantsAreDue, AimsAreDue, LinesAreDue}
 use Rattle.sa_check.specs.Records.{behind_some}
 
 -- a record that changes no demand, no aim, no line, no I/O under way, no owner, nothing untold, and neither which lives
@@ -52,10 +52,20 @@ pub record IsSettled (w : WorkloadView) (n : ℕ) (r : Readings) : Type 0 where
 abbrev pub WasSettled : WorkloadView → Readings → Type 0
 WasSettled w r = (n : ℕ) → r.number ≡ n + 1 → IsSettled w n r
 
--- at an event that begins with this moment, wants and aims are those that are due
+-- where it is known to be calm, no line is due
+abbrev pub IsCalmIf : Bool → WorkloadView → Readings → Type 0
+IsCalmIf calm w r = IsTrue calm → lines_due w r ≡ []
+
+-- at an event that begins with this moment, wants, aims and lines are those that are due
 pub record NothingIsDue (m : Seen) (e : Event) : Type 0 where
   pub wants : WantsAreDue (behind_some m e (before_wants e.records)) e
   pub aims : AimsAreDue (behind_some m e (before_aims e.records)) e
+  pub lines : LinesAreDue (behind_some m e (front_part e.records)) e
+
+-- an event that is quiet, where no line was due before it
+pub record IsQuietAt (m : Seen) (e : Event) : Type 0 where
+  pub quiet : is_quiet m.workload m.readings e ≡ true
+  pub calm : lines_due m.workload m.readings ≡ []
 
 pub record IsQuietFrom (m : Seen) (e : Event) : Type 0 where
   pub quiet : list_all is_quiet_record e.records ≡ true

@@ -14,7 +14,7 @@ use Rattle.sa_check_moment.specs.Urged.{asks_last}
 use Rattle.sa_check.specs.declared.places.DueFound.{DueFound}
 use Rattle.sa_check.specs.declared.records.RecordsFound.{RecordsFound}
 use Rattle.sa_check.specs.declared.records.ReadThrough.{ReadThrough}
-use Rattle.sa_check.specs.Places.{WantsAreDue, AimsAreDue, LinesAreDue, urged_at}
+use Rattle.sa_check.specs.Places.{WantsAreDue, AimsAreDue, LinesAreDue, HasShares, urged_at}
 
 -- one record more
 pub record FoundMore (r : Readings) (p : ProcNo) (what : Record) (rest : List Record) (before now : RecordsFound) : Type 0 where
@@ -43,6 +43,7 @@ behind_some m e records = record m { readings = after_records m.workload e.numbe
 pub record IsDueFound (m : Seen) (e : Event) (running : Option ActNo) (found : DueFound) : Type 0 where
   pub wants : IsTrue found.wants ↔ WantsAreDue (behind_some m e (before_wants e.records)) e
   pub aims : IsTrue found.aims ↔ AimsAreDue (behind_some m e (before_aims e.records)) e
+  pub covered : IsTrue found.covered → HasShares (behind_some m e e.records) e.number
   pub lines : IsTrue found.lines ↔ LinesAreDue (behind_some m e (front_part e.records)) e
   pub urged : asks_last e.records ≡ false → (IsTrue found.urged ↔ IsTrue (urged_at (behind_some m e (own_part e.records)) running))
 

@@ -18,6 +18,7 @@ use Rattle.sa_check_moment.specs.Seen.{Seen}
 use Rattle.sa_check.specs.declared.begin.Beginning.{Beginning}
 use Rattle.sa_check.specs.declared.end.LastTold.{LastTold}
 use Rattle.sa_check.specs.declared.end.Ending.{Ending}
+use Rattle.sa_check.specs.Quiet.{IsCalmIf}
 
 -- no line is asked for that is not, and no aim comes after the first of the last lines
 pub record LinesAreInPlace (Asked : OwnLines) (w : WorkloadView) (r : Readings) (p : ProcNo) (records : List Record) : Type 0 where
@@ -53,3 +54,4 @@ pub record IsEnding (m : Seen) (number : ℕ) (last : Option LastLine) (found : 
   pub wants : IsTrue found.wants ↔ ((s : SpaceNo) → must_want m.readings s ≡ false)
   pub shares : IsTrue found.shares ↔ ((s : ℕ) → share_at (shares_at m.workload number m.readings) s ≤ aimed s m.readings.aims)
   pub end_told : IsTrue found.end_told ↔ EndIsTold m.readings number last
+  pub calm : IsCalmIf found.calm m.workload m.readings

@@ -1,9 +1,10 @@
 // What is found as an event begins.
-ghost use Rattle.std.specs.Prelude.{◌≡◌, ◌↔◌, IsTrue};
+ghost use Rattle.std.specs.Prelude.{◌≡◌, ◌↔◌, true, IsTrue};
 ghost use Rattle.sa_laws.specs.Readings.{running_of};
 ghost use Rattle.sa_check_moment.specs.Rules.{rules_of};
 ghost use Rattle.sa_check_moment.specs.Seen.{seen, at_event, lowers};
 ghost use Rattle.sa_check.specs.Items.{told_event};
+ghost use Rattle.sa_check.specs.Quiet.{is_quiet};
 ghost use Rattle.sa_check.specs.Sides.{IsBeginning, LinesAreInPlace};
 
 use crate::event::TraceEvent;
@@ -27,8 +28,9 @@ pub(crate) struct Beginning {
     pub(crate) lines: bool,
 }
 
-/// The event begins.
-pub(crate) fn begin(moment: &mut Moment, event: &TraceEvent) -> Beginning
+/// The event begins. A quiet one has no line and no aim.
+pub(crate) fn begin(moment: &mut Moment, event: &TraceEvent, quiet: bool) -> Beginning
+    requires { quiet ≡ true → is_quiet (seen moment.old).workload (seen moment.old).readings (told_event event.now) ≡ true }
     ensures event_begun { seen moment.new ≡ at_event event.now.number event.now.proc (seen moment.old) }
     ensures running { result.start.running ≡ running_of (seen moment.old).readings event.now.proc }
     ensures lowers { result.start.lowers ≡ lowers (seen moment.old).readings event.now.records.now }
@@ -40,7 +42,7 @@ pub(crate) fn begin(moment: &mut Moment, event: &TraceEvent) -> Beginning
     let start = moment.before(p, records);
     let demand_announced = demand_is_announced(moment, number, p, records);
     let order_kept = order_is_kept(moment, p, records);
-    let lines = lines_are_in_place(moment, p, records);
+    let lines = are_lines_in_place(moment, event, quiet);
     let raised = moment.line(p).is_some();
     moment.begin(number, p);
     Beginning {
@@ -52,6 +54,15 @@ pub(crate) fn begin(moment: &mut Moment, event: &TraceEvent) -> Beginning
         locks_kept: locks_are_kept(moment, number, p, records),
         lines,
     }
+}
+
+// The same as below, of an event that is quiet or is not known to be.
+fn are_lines_in_place(moment: &Moment, event: &TraceEvent, quiet: bool) -> bool
+    requires { quiet ≡ true → is_quiet (seen moment.now).workload (seen moment.now).readings (told_event event.now) ≡ true }
+    ensures { let m = seen moment.now in let e = told_event event.now in
+        IsTrue result ↔ LinesAreInPlace (rules_of m.rules).Lines m.workload m.readings e.proc e.records }
+{
+    quiet || lines_are_in_place(moment, event.proc, event.records)
 }
 
 // A line with which the event begins is asked for, and no aim comes after the first of the last lines.

@@ -1,14 +1,16 @@
 // What is found after an event.
-ghost use Rattle.std.specs.Prelude.{◌≡◌, ◌↔◌, true, IsTrue};
+ghost use Rattle.std.specs.Prelude.{◌≡◌, ◌↔◌, true, IfOk, IsTrue};
 ghost use Rattle.sa_laws.specs.Ends.{EndIsTold};
 ghost use Rattle.sa_check_moment.specs.Seen.{seen};
-ghost use Rattle.sa_check.specs.Quiet.{IsSettled};
+ghost use Rattle.sa_check.specs.Places.{HasShares};
+ghost use Rattle.sa_check.specs.Quiet.{IsCalmIf, IsSettled};
 ghost use Rattle.sa_check.specs.Sides.{IsEnding, line_told};
 
 use sa_base::End;
-use sa_check_closing::{covers_shares, is_told_in_time, wants_nothing};
+use sa_check_closing::{are_lines_due, covers_shares, is_told_in_time, wants_nothing};
 use sa_check_moment::Moment;
 use sa_check_rules::{each_runs_for_its_owner, is_told_end, run_goes_on};
+use std::alloc::{AllocError, Global};
 
 /// What the last line of a trace tells: how the run ended, and its number of events.
 #[derive(Clone, Copy, Debug)]
@@ -25,26 +27,45 @@ pub(crate) struct Ending {
     pub(crate) wants: bool,
     pub(crate) shares: bool,
     pub(crate) end_told: bool,
+    pub(crate) calm: bool,
 }
 
 /// What is found on the moment after an event of this number; the last line, if it is the trace's last event. After a
-/// quiet event owners, shares, wants and what is told in time are as they must be.
+/// quiet event owners, shares, wants and what is told in time are as they must be, and no line is due; where the shares
+/// are covered, they are not looked at.
 pub(crate) fn look_after(
+    alloc: Global,
     moment: &Moment,
     number: u64,
     last: Option<LastTold>,
     quiet: bool,
-) -> Ending
-    requires { quiet ≡ true → IsSettled (seen moment.now).workload number (seen moment.now).readings }
-    ensures { IsEnding (seen moment.now) number (line_told last) result }
+    covered: bool,
+) -> Result<Ending, AllocError>
+    requires covered { covered ≡ true → HasShares (seen moment.now) number }
+    requires settled { quiet ≡ true → IsSettled (seen moment.now).workload number (seen moment.now).readings }
+    requires calm { IsCalmIf quiet (seen moment.now).workload (seen moment.now).readings }
+    ensures { IfOk result (IsEnding (seen moment.now) number (line_told last)) }
 {
-    Ending {
+    Ok(Ending {
         told_in_time: quiet || is_told_in_time(moment),
         owned: quiet || each_runs_for_its_owner(moment),
         wants: quiet || wants_nothing(moment),
-        shares: quiet || covers_shares(moment, number),
+        shares: quiet || covered || covers_shares(moment, number),
         end_told: end_is_told(moment, number, last),
+        calm: is_calm(alloc, moment, quiet)?,
+    })
+}
+
+// No line is due; after a quiet event this is so.
+fn is_calm(alloc: Global, moment: &Moment, quiet: bool) -> Result<bool, AllocError>
+    requires { IsCalmIf quiet (seen moment.now).workload (seen moment.now).readings }
+    ensures { IfOk result (λ calm. IsCalmIf calm (seen moment.now).workload (seen moment.now).readings) }
+{
+    if quiet {
+        return Ok(true);
     }
+    let calm = are_lines_due(alloc, moment, &[])?;
+    Ok(calm)
 }
 
 // The run goes on, or the last line tells how it ended.

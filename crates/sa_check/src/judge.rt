@@ -3,7 +3,7 @@ ghost use Rattle.std.specs.Prelude.{◌≡◌, true, IfOk};
 ghost use Rattle.sa_laws.specs.Opening.{IsNumbered};
 ghost use Rattle.sa_check_moment.specs.Seen.{seen};
 ghost use Rattle.sa_check.specs.Items.{told_event};
-ghost use Rattle.sa_check.specs.Quiet.{IsQuietFrom, WasSettled};
+ghost use Rattle.sa_check.specs.Quiet.{IsCalmIf, IsQuietAt, IsQuietFrom, WasSettled};
 ghost use Rattle.sa_check.specs.Records.{ReadsRecords};
 ghost use Rattle.sa_check.specs.Sides.{line_told};
 ghost use Rattle.sa_check.specs.Judged.{Judges, findings_of};
@@ -13,7 +13,7 @@ use crate::end::{Ending, LastTold, look_after};
 use crate::event::TraceEvent;
 use crate::findings::Findings;
 use crate::places::DueFound;
-use crate::quiet::{is_quiet, read_quiet};
+use crate::quiet::{is_known_quiet, read_quiet};
 use crate::records::{ReadThrough, RecordsFound, read_records};
 use sa_base::ActNo;
 use sa_check_closing::is_numbered;
@@ -21,46 +21,58 @@ use sa_check_moment::Moment;
 use sa_laws::Rule;
 use std::alloc::{AllocError, Global};
 
+/// The moment between two events, and whether it is calm: no line is due.
+#[derive(Debug, Drop)]
+pub(crate) struct Between {
+    pub(crate) moment: Moment,
+    /// It is calm; where this is not known it is not set.
+    pub(crate) calm: bool,
+}
+
 /// How an event was judged.
 #[derive(Debug, Drop)]
 pub(crate) enum Judged {
-    /// Each rule holds; the moment after it.
-    Right(Moment),
+    /// Each rule holds; what comes after it.
+    Right(Between),
     /// The first rule that does not hold.
     Broken(Rule),
 }
 
-/// Judges an event on the moment before it, which the event before has left as it must be; the last line, if it is the
+/// Judges an event on what comes before it, which the event before has left as it must be; the last line, if it is the
 /// trace's last event.
 pub(crate) fn judge(
     alloc: Global,
-    moment: Moment,
+    before: Between,
     event: &TraceEvent,
     last: Option<LastTold>,
 ) -> Result<Judged, AllocError>
-    requires { WasSettled (seen moment).workload (seen moment).readings }
-    ensures { IfOk result (Judges (seen moment) (told_event event.now) (line_told last)) }
+    requires settled { WasSettled (seen before.moment).workload (seen before.moment).readings }
+    requires calm { IsCalmIf before.calm (seen before.moment).workload (seen before.moment).readings }
+    ensures { IfOk result (Judges (seen before.moment) (told_event event.now) (line_told last)) }
 {
+    let Between { moment, calm } = before;
     if !is_numbered(alloc, &moment, event.number, event.proc, event.records)? {
         return Ok(Judged::Broken(Rule::Numbered));
     }
-    judge_numbered(alloc, moment, event, last)
+    let quiet = is_known_quiet(&moment, event, calm);
+    judge_numbered(alloc, moment, event, last, quiet)
 }
 
-// Judges an event with the number and processor that it should have.
+// Judges an event with the number and processor that it should have, which is quiet or is not known to be.
 fn judge_numbered(
     alloc: Global,
     moment: Moment,
     event: &TraceEvent,
     last: Option<LastTold>,
+    quiet: bool,
 ) -> Result<Judged, AllocError>
     requires numbered { IsNumbered (seen moment).workload (seen moment).readings (told_event event.now) }
     requires settled { WasSettled (seen moment).workload (seen moment).readings }
+    requires quiet { quiet ≡ true → IsQuietAt (seen moment) (told_event event.now) }
     ensures { IfOk result (Judges (seen moment) (told_event event.now) (line_told last)) }
 {
-    let quiet = is_quiet(&moment, event);
     let mut now = moment;
-    let beginning = begin(&mut now, event);
+    let beginning = begin(&mut now, event, quiet);
     let Some(through) = read_event(alloc, now, event, beginning.start.running, quiet)? else {
         return Ok(Judged::Broken(Rule::Stepwise));
     };
@@ -71,10 +83,14 @@ fn judge_numbered(
         beginning.start,
         through.due.urged,
     )?;
-    let ending = look_after(&after, event.number, last, quiet);
+    let covered = through.due.covered;
+    let ending = look_after(alloc, &after, event.number, last, quiet, covered)?;
     let findings = findings_of(event.number, beginning, through.laws, through.due, ending);
     match findings.first_broken() {
-        None => Ok(Judged::Right(after)),
+        None => Ok(Judged::Right(Between {
+            moment: after,
+            calm: ending.calm,
+        })),
         Some(rule) => Ok(Judged::Broken(rule)),
     }
 }
@@ -92,7 +108,7 @@ fn read_event(
     ensures { IfOk result (ReadsRecords (seen moment) (told_event event.now) running) }
 {
     if quiet {
-        read_quiet(alloc, moment, event, running)
+        read_quiet(moment, event, running)
     } else {
         read_records(alloc, moment, event, running)
     }

@@ -1,15 +1,17 @@
 // The places in an event at which wants, aims and lines are due.
-ghost use Rattle.std.specs.Prelude.{◌≡◌, ◌≤◌, length, IfOk};
+ghost use Rattle.std.specs.Prelude.{◌≡◌, ◌↔◌, ◌≤◌, true, false, length, IfOk, IsTrue};
 ghost use Rattle.sa_laws.specs.Shape.{before_wants, before_aims, front_part, own_part};
 ghost use Rattle.sa_check_moment.specs.Seen.{seen};
 ghost use Rattle.sa_check.specs.Items.{told_event};
-ghost use Rattle.sa_check.specs.Places.{DueMore};
+ghost use Rattle.sa_check.specs.Places.{AimsAreDue, HasShares, DueMore};
 
 use crate::event::TraceEvent;
 use sa_base::{ActNo, Record};
-use sa_check_closing::{are_aims_due, are_lines_due, are_wants_due};
+use sa_check_closing::{are_aims_due, are_lines_due, are_wants_due, covers_shares};
 use sa_check_moment::Moment;
-use sa_check_shapes::{before_aims, before_wants, front_part, last_lines, others_of, own_part};
+use sa_check_shapes::{
+    before_aims, before_wants, front_part, has_aims, last_lines, others_of, own_part,
+};
 use std::alloc::{AllocError, Global};
 
 /// Behind how many records of an event wants, aims and lines are due, and its own part ends.
@@ -38,22 +40,30 @@ impl Places {
     }
 }
 
-/// The wants, aims and lines of an event are those that are due at their places; and behind its own part, by rules of
-/// ranks, a pair existed of the space of the life that ran before it.
+/// The wants, aims and lines of an event are those that are due at their places; at the last place that was looked at
+/// each space is known to have its share of aims; and behind its own part, by rules of ranks, a pair existed of the
+/// space of the life that ran before it.
 #[derive(Clone, Copy, Debug)]
 pub(crate) struct DueFound {
     pub(crate) wants: bool,
     pub(crate) aims: bool,
+    pub(crate) covered: bool,
     pub(crate) lines: bool,
     pub(crate) urged: bool,
 }
 
 impl DueFound {
     /// Before any place.
-    pub(crate) fn new() -> Self {
+    pub(crate) fn new() -> Self
+        ensures wants { result.wants ≡ true }
+        ensures aims { result.aims ≡ true }
+        ensures covered { result.covered ≡ false }
+        ensures lines { result.lines ≡ true }
+    {
         DueFound {
             wants: true,
             aims: true,
+            covered: false,
             lines: true,
             urged: false,
         }
@@ -79,9 +89,12 @@ impl DueFound {
             self.wants
         };
         let aims = if place == places.aims {
-            are_aims_due(alloc, moment, event.number, records)?
+            find_aims(alloc, moment, event)?
         } else {
-            self.aims
+            AimsFound {
+                due: self.aims,
+                covered: false,
+            }
         };
         let lines = if place == places.lines {
             are_lines_due(alloc, moment, last_lines(records))?
@@ -95,9 +108,35 @@ impl DueFound {
         };
         Ok(DueFound {
             wants,
-            aims,
+            aims: aims.due,
+            covered: aims.covered,
             lines,
             urged,
         })
     }
+}
+
+// The aims of an event are those that are due, and whether each space has its share of aims without them.
+#[derive(Clone, Copy, Debug)]
+struct AimsFound {
+    due: bool,
+    covered: bool,
+}
+
+// This is found of the event, on the moment at the place of its aims. Where each space has its share none is due.
+fn find_aims(alloc: Global, moment: &Moment, event: &TraceEvent) -> Result<AimsFound, AllocError>
+    ensures due { IfOk result (λ found. IsTrue found.due ↔ AimsAreDue (seen moment.now) (told_event event.now)) }
+    ensures covered { IfOk result (λ found. IsTrue found.covered → HasShares (seen moment.now) event.now.number) }
+{
+    if covers_shares(moment, event.number) {
+        return Ok(AimsFound {
+            due: !has_aims(event.records),
+            covered: true,
+        });
+    }
+    let due = are_aims_due(alloc, moment, event.number, event.records)?;
+    Ok(AimsFound {
+        due,
+        covered: false,
+    })
 }

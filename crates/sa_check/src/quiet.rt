@@ -3,21 +3,29 @@ ghost use Rattle.std.specs.Prelude.{◌≡◌, true, IfOk};
 ghost use Rattle.std.specs.List.{list_all};
 ghost use Rattle.sa_check_moment.specs.Seen.{seen};
 ghost use Rattle.sa_check.specs.Items.{told_event};
-ghost use Rattle.sa_check.specs.Quiet.{is_quiet_record, keeps_first, is_quiet, NothingIsDue};
+ghost use Rattle.sa_check.specs.Quiet.{is_quiet_record, keeps_first, is_quiet, IsCalmIf, IsQuietAt, NothingIsDue};
 ghost use Rattle.sa_check.specs.Records.{ReadsRecords};
 
 use crate::event::TraceEvent;
 use crate::places::DueFound;
 use crate::records::{ReadThrough, RecordsFound};
 use sa_base::{ActNo, Record};
-use sa_check_closing::{are_lines_due, first_space};
+use sa_check_closing::first_space;
 use sa_check_moment::Moment;
 use sa_spaces::Workload;
-use std::alloc::{AllocError, Global};
+use std::alloc::AllocError;
 
-/// The event changes nothing of these, its processor's line is low, and the space that is served first is that of the
-/// event before.
-pub(crate) fn is_quiet(moment: &Moment, event: &TraceEvent) -> bool
+/// The event is quiet, and no line is due before it. Where it is not known that none is due, this is not said of it.
+pub(crate) fn is_known_quiet(moment: &Moment, event: &TraceEvent, calm: bool) -> bool
+    requires { IsCalmIf calm (seen moment.now).workload (seen moment.now).readings }
+    ensures { result ≡ true → IsQuietAt (seen moment.now) (told_event event.now) }
+{
+    calm && is_quiet(moment, event)
+}
+
+// The event changes nothing of these, its processor's line is low, and the space that is served first is that of the
+// event before.
+fn is_quiet(moment: &Moment, event: &TraceEvent) -> bool
     ensures { let m = seen moment.now in result ≡ is_quiet m.workload m.readings (told_event event.now) }
 {
     moment.line(event.proc).is_none()
@@ -60,10 +68,9 @@ fn is_quiet_record(what: &Record) -> bool
     )
 }
 
-/// Reads the records of a quiet event, on the moment as it begins, at which no want and no aim is due. `None` exactly
-/// where one of them is no step of the abstract machine.
+/// Reads the records of a quiet event, on the moment as it begins, at which no want, no aim and no line is due. `None`
+/// exactly where one of them is no step of the abstract machine.
 pub(crate) fn read_quiet(
-    alloc: Global,
     moment: Moment,
     event: &TraceEvent,
     running: Option<ActNo>,
@@ -80,15 +87,9 @@ pub(crate) fn read_quiet(
         }
         now = now.read(event.number, event.proc, what)?;
     }
-    let lines = are_lines_due(alloc, &now, &records[records.len()..])?;
     Ok(Some(ReadThrough {
         moment: now,
         laws: RecordsFound::new(),
-        due: DueFound {
-            wants: true,
-            aims: true,
-            lines,
-            urged: false,
-        },
+        due: DueFound::new(),
     }))
 }

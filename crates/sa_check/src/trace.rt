@@ -6,12 +6,12 @@ ghost use Rattle.sa_check_moment.specs.Rules.{rules_of};
 ghost use Rattle.sa_check.specs.Sides.{line_told};
 ghost use Rattle.sa_check.specs.Gathered.{line_said};
 ghost use Rattle.sa_check.specs.Judged.{Judges};
-ghost use Rattle.sa_check.specs.Quiet.{WasSettled};
+ghost use Rattle.sa_check.specs.Quiet.{IsCalmIf, WasSettled};
 ghost use Rattle.sa_check.specs.Verdict.{IsChecked, unless_bad};
 
 use crate::end::LastTold;
 use crate::event::{TraceEvent, gather};
-use crate::judge::{Judged, judge};
+use crate::judge::{Between, Judged, judge};
 use crate::verdict::Verdict;
 use sa_base::{Item, Record, Unread};
 use sa_check_moment::{Moment, Rules};
@@ -54,13 +54,16 @@ fn judge_events(
 ) -> Result<Verdict, Unread>
     ensures { IsChecked (rules_of rules) workload.now (in_front (first ∷ []) (left reader.old)) result }
 {
-    let mut moment = Moment::start(alloc, rules, workload)?;
+    let mut now = Between {
+        moment: Moment::start(alloc, rules, workload)?,
+        calm: false,
+    };
     let mut records = Vec::new(alloc);
     let mut said = Said::Next(first);
     while let Said::Next(item) = said {
         said = gather(reader, &item, &mut records)?;
-        match judge_records(alloc, moment, &item, &records, last_told(&said)) {
-            Ok(Judged::Right(after)) => moment = after,
+        match judge_records(alloc, now, &item, &records, last_told(&said)) {
+            Ok(Judged::Right(after)) => now = after,
             Ok(Judged::Broken(rule)) => {
                 let event = item.event;
                 return unless_bad(reader, said, Ok(Verdict::Broken { event, rule }));
@@ -71,17 +74,18 @@ fn judge_events(
     Ok(Verdict::Legal)
 }
 
-// Judges the event with these records, of which this is the first item, on the moment before it, which the event before
+// Judges the event with these records, of which this is the first item, on what comes before it, which the event before
 // has left as it must be; the last line, if it is the trace's last event.
 fn judge_records(
     alloc: Global,
-    moment: Moment,
+    before: Between,
     first: &Item,
     records: &[Record],
     last: Option<LastTold>,
 ) -> Result<Judged, AllocError>
-    requires { WasSettled (seen moment).workload (seen moment).readings }
-    ensures { IfOk result (Judges (seen moment)
+    requires settled { WasSettled (seen before.moment).workload (seen before.moment).readings }
+    requires calm { IsCalmIf before.calm (seen before.moment).workload (seen before.moment).readings }
+    ensures { IfOk result (Judges (seen before.moment)
         (event first.now.event first.now.proc records.now) (line_told last)) }
 {
     let event = TraceEvent {
@@ -89,7 +93,7 @@ fn judge_records(
         proc: first.proc,
         records,
     };
-    judge(alloc, moment, &event, last)
+    judge(alloc, before, &event, last)
 }
 
 // What the last line tells, if this is said by it.

@@ -19,7 +19,9 @@ returns-clause-found c =
       demand_announced = c.demand_is_announced-demand_announced.ensures;
       order_kept = c.order_is_kept-order_kept.ensures e.number;
       interrupt_next = at-beginning (λ level. InterruptIsNext) m next e _ c.begin.ensures (λ begins. c.interrupt_is_next.ensures m.readings begins raised);
-      turns_taken = at-beginning (λ level. TurnsAreTaken (rules_of level).Steps) m next e _ c.begin.ensures (λ begins. c.turns_are_taken.ensures m.readings begins raised);
-      locks_kept = at-beginning (λ level. (rules_of level).Locks) m next e _ c.begin.ensures (λ begins. c.locks_are_kept.ensures m.readings begins);
-      lines = c.lines_are_in_place-lines.ensures;
+      turns_taken = at-beginning (λ level. TurnsAreTaken (rules_of level).Steps) m next e _ c.begin.ensures
+          (λ begins. c.turns_are_taken.ensures m.readings begins raised);
+      locks_kept = at-beginning (λ level. (rules_of level).Locks) m next e _ c.begin.ensures
+          (λ begins. c.locks_are_kept.ensures m.readings begins);
+      lines = c.are_lines_in_place-lines.ensures;
     }

@@ -1,18 +1,14 @@
-use Rattle.std.proofs.Common.{◌≡◌, ◌↔◌, ◌+◌, List, [], ◌∷◌, length, true, false, take, drop, get_or, refl, sym, ◌∙◌, ap, subst, arith}
+use Rattle.std.proofs.Common.{◌≡◌, ◌+◌, List, [], ◌∷◌, length, true, false, take, drop, get_or, refl, sym, ◌∙◌, ap, subst, arith}
 use Rattle.std.proofs.Math.Seq.{take-length}
 use Rattle.std.proofs.lemmas.List.{drop_more, drop_all}
 use Rattle.sa_base.specs.declared.record.Record.{Record}
-use Rattle.std.specs.Prelude.{IsTrue}
 use Rattle.sa_laws.specs.Step.{AreSteps}
-use Rattle.sa_laws.specs.Shape.{lines_in}
-use Rattle.sa_laws.specs.Closing.{lines_due}
 use Rattle.sa_laws.specs.Upcalls.{TellsOnce, NamesTheLife, TellsAllThen, GivesUpcallThen, RaisesLine}
 use Rattle.sa_check_moment.specs.Seen.{seen}
 use Rattle.sa_check.specs.Items.{told_event}
 use Rattle.sa_check.specs.Records.{behind_some}
-use Rattle.sa_check.proofs.RecordLemmas.{steps-more, no-step, moment-more, tail-whole, no_record}
+use Rattle.sa_check.proofs.RecordLemmas.{steps-more, no-step, moment-more, no_record}
 use Rattle.sa_check.proofs.QuietLemmas.{each-quiet, once-holds, named-holds, all-holds, upcall-holds, heard-holds, quiet-asks}
-use Rattle.sa_check.proofs.QuietLines.{quiet-lines}
 use Rattle.sa_check.proofs.quiet.read_quiet.Goals as goal
 
 pub loop-what-init : goal.loop-what-init
@@ -73,10 +69,9 @@ returns c =
       };
       due = record {
         urged = λ early. absurd (let clash : true ≡ false = sym (quiet-asks e.records quiet) ∙ early in cc);
-        wants = (λ _. c.requires.none.wants, λ _. refl);
-        aims = (λ _. c.requires.none.aims, λ _. refl);
-        lines = quiet-lines now m e c.in_ok-lines.lines quiet here
-            (subst (λ (ys : List Record). IsTrue c.in_ok-lines.lines ↔ (lines_in ys ≡ lines_due now.workload now.readings))
-            (tail-whole e.records n) c.in_ok-lines.ensures);
+        wants = (λ _. c.requires.none.wants, λ _. c.new-2.ensures.wants);
+        aims = (λ _. c.requires.none.aims, λ _. c.new-2.ensures.aims);
+        covered = λ yes. absurd (let clash : false ≡ true = sym c.new-2.ensures.covered ∙ yes in cc);
+        lines = (λ _. c.requires.none.lines, λ _. c.new-2.ensures.lines);
       };
     }

@@ -7,9 +7,9 @@ use Rattle.sa_laws.specs.Step.{AreSteps}
 use Rattle.sa_laws.specs.Shape.{before_aims, before_wants, front_part, own_part}
 use Rattle.sa_laws.specs.Upcalls.{TellsOnce, NamesTheLife, TellsAllThen, GivesUpcallThen, RaisesLine}
 use Rattle.sa_check_shapes.proofs.PartLemmas.{take-front}
-use Rattle.sa_check_moment.specs.Seen.{seen}
+use Rattle.sa_check_moment.specs.Seen.{Seen, seen}
 use Rattle.sa_check.specs.Items.{told_event}
-use Rattle.sa_check.specs.Places.{WantsAreDue, AimsAreDue, LinesAreDue, urged_at}
+use Rattle.sa_check.specs.Places.{WantsAreDue, AimsAreDue, LinesAreDue, HasShares, urged_at}
 use Rattle.sa_check.specs.Records.{FoundMore, behind_some}
 use Rattle.sa_check.proofs.PlaceLemmas.{take-before-wants, take-before-aims, take-own, found-behind}
 use Rattle.sa_check.proofs.RecordLemmas.{rest-first, rest-more, rest-all, steps-more, no-step, moment-more, at-place, part-within, tail-whole, no_record}
@@ -115,6 +115,7 @@ returns c =
         aims = found-behind places.result.aims n _ _ _ _ due.aims
             (at-place (λ s. AimsAreDue s e) now m e n _ (before_aims e.records) here places.ensures.aims (take-before-aims e.records))
             (λ past. old.aims (omega arith)) (omega arith);
+        covered = subst (λ (s : Seen). IsTrue c.in_ok-due-2.due.covered → HasShares s e.number) (here ∙ ap (behind_some m e) (take-length e.records)) due.covered;
         lines = found-behind places.result.lines n _ _ _ _ due.lines
             (at-place (λ s. LinesAreDue s e) now m e n _ (front_part e.records) here places.ensures.lines (take-front e.records))
             (λ past. old.lines (omega arith)) (omega arith);

@@ -22,7 +22,7 @@ use Rattle.sa_check.proofs.trace.judge_events.Goals as goal
 pub returns-in_err-said : goal.returns-in_err-said
 returns-in_err-said c =
     let w = c.args.workload.now in
-    let r = (seen c.loop-said.moment).readings in
+    let r = (seen c.loop-said.now.moment).readings in
     let item = c.in-Next.item in
     let before = left c.loop-said.reader in
     let whole = in_front (c.args.first ∷ []) (left c.args.reader.now) in
@@ -34,8 +34,8 @@ returns-in_err-said c =
 pub loop-said-preserved : goal.loop-said-preserved
 loop-said-preserved c =
     let w = c.args.workload.now in
-    let m = seen c.loop-said.moment in
-    let next = seen c.in-Ok-Right.after in
+    let m = seen c.loop-said.now.moment in
+    let next = seen c.in-Ok-Right.after.moment in
     let item = c.in-Next.item in
     let records = c.gather.new.records.items in
     let e = event item.event item.proc records in
@@ -44,11 +44,13 @@ loop-said-preserved c =
     let after = left c.gather.new.reader in
     let here : Judges m (event item.event item.proc c.deref.result.now) last (judged_as.Right c.in-Ok-Right.after) =
     subst (λ (j : Judged). Judges m (event item.event item.proc c.deref.result.now) last j) c.in-Ok-Right.field-0-is c.in-Ok-Right.ensures in
-    let right = subst (λ (rs : List Record). Judges m (event item.event item.proc rs) last (judged_as.Right c.in-Ok-Right.after)) c.deref.ensures.value here in
+    let stands = subst (λ (rs : List Record). Judges m (event item.event item.proc rs) last (judged_as.Right c.in-Ok-Right.after)) c.deref.ensures.value here in
+    let right = stands.right in
     record {
       rules = ap (λ (s : Seen). s.rules) right.next ∙ c.loop-said.invariant.rules;
       workload = ap (λ (s : Seen). s.workload) right.next ∙ c.loop-said.invariant.workload;
       settled = subst (λ (s : Seen). WasSettled s.workload s.readings) (sym right.next) (settled-next (rules_of m.rules) m.workload m.readings e last right.holds);
+      calm = stands.calm;
       rest = λ a comes. c.loop-said.invariant.rest a
           (subst (λ (s : Said). Comes c.args.rules w m.readings (with_said s before) a) (sym c.in-Next.is)
           (right-event c.args.rules w m next item before after records c.in_ok-said.said last a c.in_ok-said.ensures.gathers
@@ -58,7 +60,7 @@ loop-said-preserved c =
 pub returns-in-Ok-Broken : goal.returns-in-Ok-Broken
 returns-in-Ok-Broken c =
     let w = c.args.workload.now in
-    let m = seen c.loop-said.moment in
+    let m = seen c.loop-said.now.moment in
     let item = c.in-Next.item in
     let records = c.gather.new.records.items in
     let rule = c.in-Ok-Broken.rule in
@@ -79,7 +81,7 @@ returns-in-Ok-Broken c =
 pub returns-in-Err : goal.returns-in-Err
 returns-in-Err c =
     let w = c.args.workload.now in
-    let r = (seen c.loop-said.moment).readings in
+    let r = (seen c.loop-said.now.moment).readings in
     let item = c.in-Next.item in
     let before = left c.loop-said.reader in
     let after = left c.gather.new.reader in
@@ -92,7 +94,7 @@ returns-in-Err c =
 pub returns : goal.returns
 returns c =
     let w = c.args.workload.now in
-    let r = (seen c.loop-said.moment).readings in
+    let r = (seen c.loop-said.now.moment).readings in
     judged c.args.rules w c.args.first (left c.args.reader.now) Legal
     (c.loop-said.invariant.rest (Ok Legal)
     (subst (λ (s : Said). Comes c.args.rules w r (with_said s (left c.loop-said.reader)) (Ok Legal)) (sym c.in_default.is) (Legal, refl, refl)))
