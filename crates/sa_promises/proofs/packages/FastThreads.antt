@@ -20,7 +20,7 @@ use Rattle.sa_promises.proofs.lives.Shapes.{Guards, FirstOf}
 use Rattle.sa_promises.proofs.packages.Formed.{StepsAreFormed, formed-tells, formed-apart, formed-knows, formed-has, stands-alone, with-first}
 
 -- the forms of its steps
-pub hints : (b : Bool) (w : WorkloadView) (r : Readings) (life : Life) (n : ℕ) → CanHint b w r life n → Hints b w r life n
+hints : (b : Bool) (w : WorkloadView) (r : Readings) (life : Life) (n : ℕ) → CanHint b w r life n → Hints b w r life n
 hints true w r life n can = record { above = can.above; number = can.number }
 hints false w r life n can = can.below
 

@@ -1,5 +1,5 @@
 -- The package with thread priorities meets what is needed of a user level.
-use Rattle.std.proofs.Common.{◌≡◌, refl, sym, ◌∙◌, subst, Some, None, List, [], ◌∷◌, true, false}
+use Rattle.std.proofs.Common.{◌≡◌, ℕ, refl, sym, ◌∙◌, subst, Some, None, List, [], ◌∷◌, true, false}
 use Rattle.std.specs.Prelude.{Option, Bool, nat_lt}
 use Rattle.std.proofs.lemmas.Bool.{or_left}
 use Rattle.sa_base.specs.declared.number.ProcNo.{ProcNo}
@@ -13,14 +13,18 @@ use Rattle.sa_laws.specs.Readings.{Readings, IsLocked, running_of, life_on, dema
 use Rattle.sa_laws.specs.History.{event_begun, is_inside}
 use Rattle.sa_laws.specs.Shape.{own_part}
 use Rattle.sa_ranks.specs.Rules.{prio_threads}
-use Rattle.sa_ranks.specs.Steps.{RankedStepBy, RankedStepIn}
+use Rattle.sa_ranks.specs.Steps.{RankedStepBy, RankedStepIn, CanHint}
 use Rattle.sa_ranks.specs.Locks.{TakesFor, KeepsTheLock, KeepsTheLockIf, KeepsTheLockIn}
-use Rattle.sa_promises.specs.Needs.{TellsBehindUps, KeepsListsApart, KnowsHolders, FormedBy, FormedIn, HasForms, AnnouncesDemand}
+use Rattle.sa_promises.specs.Needs.{TellsBehindUps, KeepsListsApart, KnowsHolders, Hints, FormedBy, FormedIn, HasForms, AnnouncesDemand}
 use Rattle.sa_promises.proofs.lives.Shapes.{Guards, FirstOf}
 use Rattle.sa_promises.proofs.packages.Formed.{StepsAreFormed, formed-tells, formed-apart, formed-knows, formed-has, stands-alone}
-use Rattle.sa_promises.proofs.packages.FastThreads.{keeps-guards, hints}
+use Rattle.sa_promises.proofs.packages.FastThreads.{keeps-guards}
 
 -- the forms of its steps
+hints : (b : Bool) (w : WorkloadView) (r : Readings) (life : Life) (n : ℕ) → CanHint b w r life n → Hints b w r life n
+hints true w r life n can = record { above = can.above; number = can.number }
+hints false w r life n can = can.below
+
 by-ranks : (w : WorkloadView) (r : Readings) (p : ProcNo) (a : ActNo) (life : Life) (x : Record) (xs : List Record) → RankedStepBy w r p a life x xs
     → KeepsTheLockIn w r p (x ∷ xs) → FormedBy w r p a life x xs
 by-ranks w r p a life (Ins s t i) xs is keeps = is
