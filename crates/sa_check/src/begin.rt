@@ -28,9 +28,8 @@ pub(crate) struct Beginning {
     pub(crate) lines: bool,
 }
 
-/// The event begins. A quiet one has no line and no aim.
-pub(crate) fn begin(moment: &mut Moment, event: &TraceEvent, quiet: bool) -> Beginning
-    requires { quiet ≡ true → is_quiet (seen moment.old).workload (seen moment.old).readings (told_event event.now) ≡ true }
+/// An event begins.
+pub(crate) fn begin(moment: &mut Moment, event: &TraceEvent) -> Beginning
     ensures event_begun { seen moment.new ≡ at_event event.now.number event.now.proc (seen moment.old) }
     ensures running { result.start.running ≡ running_of (seen moment.old).readings event.now.proc }
     ensures lowers { result.start.lowers ≡ lowers (seen moment.old).readings event.now.records.now }
@@ -42,7 +41,7 @@ pub(crate) fn begin(moment: &mut Moment, event: &TraceEvent, quiet: bool) -> Beg
     let start = moment.before(p, records);
     let demand_announced = demand_is_announced(moment, number, p, records);
     let order_kept = order_is_kept(moment, p, records);
-    let lines = are_lines_in_place(moment, event, quiet);
+    let lines = lines_are_in_place(moment, p, records);
     let raised = moment.line(p).is_some();
     moment.begin(number, p);
     Beginning {
@@ -56,13 +55,31 @@ pub(crate) fn begin(moment: &mut Moment, event: &TraceEvent, quiet: bool) -> Beg
     }
 }
 
-// The same as below, of an event that is quiet or is not known to be.
-fn are_lines_in_place(moment: &Moment, event: &TraceEvent, quiet: bool) -> bool
-    requires { quiet ≡ true → is_quiet (seen moment.now).workload (seen moment.now).readings (told_event event.now) ≡ true }
-    ensures { let m = seen moment.now in let e = told_event event.now in
-        IsTrue result ↔ LinesAreInPlace (rules_of m.rules).Lines m.workload m.readings e.proc e.records }
+/// A quiet event begins: it has no line and no aim, and its processor's line is low.
+#[inline(always)]
+pub(crate) fn begin_quiet(moment: &mut Moment, event: &TraceEvent) -> Beginning
+    requires { is_quiet (seen moment.old).workload (seen moment.old).readings (told_event event.now) ≡ true }
+    ensures event_begun { seen moment.new ≡ at_event event.now.number event.now.proc (seen moment.old) }
+    ensures running { result.start.running ≡ running_of (seen moment.old).readings event.now.proc }
+    ensures lowers { result.start.lowers ≡ lowers (seen moment.old).readings event.now.records.now }
+    ensures found { IsBeginning (seen moment.old) (told_event event.now) result }
 {
-    quiet || lines_are_in_place(moment, event.proc, event.records)
+    let number = event.number;
+    let p = event.proc;
+    let records = event.records;
+    let start = moment.before(p, records);
+    let demand_announced = demand_is_announced(moment, number, p, records);
+    let order_kept = order_is_kept(moment, p, records);
+    moment.begin(number, p);
+    Beginning {
+        start,
+        demand_announced,
+        order_kept,
+        interrupt_next: interrupt_is_next(moment, false, number, p, records),
+        turns_taken: turns_are_taken(moment, false, number, p, records),
+        locks_kept: locks_are_kept(moment, number, p, records),
+        lines: true,
+    }
 }
 
 // A line with which the event begins is asked for, and no aim comes after the first of the last lines.

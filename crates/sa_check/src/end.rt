@@ -1,9 +1,10 @@
 // What is found after an event.
-ghost use Rattle.std.specs.Prelude.{◌≡◌, ◌↔◌, true, IfOk, IsTrue};
+ghost use Rattle.std.specs.Prelude.{◌≡◌, ◌↔◌, [], true, IfOk, IsTrue};
+ghost use Rattle.sa_laws.specs.Closing.{lines_due};
 ghost use Rattle.sa_laws.specs.Ends.{EndIsTold};
 ghost use Rattle.sa_check_moment.specs.Seen.{seen};
 ghost use Rattle.sa_check.specs.Places.{HasShares};
-ghost use Rattle.sa_check.specs.Quiet.{IsCalmIf, IsSettled};
+ghost use Rattle.sa_check.specs.Quiet.{IsSettled};
 ghost use Rattle.sa_check.specs.Sides.{IsEnding, line_told};
 
 use sa_base::End;
@@ -30,45 +31,48 @@ pub(crate) struct Ending {
     pub(crate) calm: bool,
 }
 
-/// What is found on the moment after an event of this number; the last line, if it is the trace's last event. After a
-/// quiet event owners, shares, wants and what is told in time are as they must be, and no line is due; where the shares
-/// are covered, they are not looked at.
+/// What is found on the moment after a quiet event of this number; the last line, if it is the trace's last event.
+/// Owners, shares, wants and what is told in time are as they must be, and no line is due.
+#[inline(always)]
+pub(crate) fn settled_after(moment: &Moment, number: u64, last: Option<LastTold>) -> Ending
+    requires settled { IsSettled (seen moment.now).workload number (seen moment.now).readings }
+    requires calm { lines_due (seen moment.now).workload (seen moment.now).readings ≡ [] }
+    ensures { IsEnding (seen moment.now) number (line_told last) result }
+{
+    Ending {
+        told_in_time: true,
+        owned: true,
+        wants: true,
+        shares: true,
+        end_told: end_is_told(moment, number, last),
+        calm: true,
+    }
+}
+
+/// What is found on the moment after an event of this number; the last line, if it is the trace's last event. Where the
+/// shares are covered, they are not looked at.
 pub(crate) fn look_after(
     alloc: Global,
     moment: &Moment,
     number: u64,
     last: Option<LastTold>,
-    quiet: bool,
     covered: bool,
 ) -> Result<Ending, AllocError>
-    requires covered { covered ≡ true → HasShares (seen moment.now) number }
-    requires settled { quiet ≡ true → IsSettled (seen moment.now).workload number (seen moment.now).readings }
-    requires calm { IsCalmIf quiet (seen moment.now).workload (seen moment.now).readings }
+    requires { covered ≡ true → HasShares (seen moment.now) number }
     ensures { IfOk result (IsEnding (seen moment.now) number (line_told last)) }
 {
     Ok(Ending {
-        told_in_time: quiet || is_told_in_time(moment),
-        owned: quiet || each_runs_for_its_owner(moment),
-        wants: quiet || wants_nothing(moment),
-        shares: quiet || covered || covers_shares(moment, number),
+        told_in_time: is_told_in_time(moment),
+        owned: each_runs_for_its_owner(moment),
+        wants: wants_nothing(moment),
+        shares: covered || covers_shares(moment, number),
         end_told: end_is_told(moment, number, last),
-        calm: is_calm(alloc, moment, quiet)?,
+        calm: are_lines_due(alloc, moment, &[])?,
     })
 }
 
-// No line is due; after a quiet event this is so.
-fn is_calm(alloc: Global, moment: &Moment, quiet: bool) -> Result<bool, AllocError>
-    requires { IsCalmIf quiet (seen moment.now).workload (seen moment.now).readings }
-    ensures { IfOk result (λ calm. IsCalmIf calm (seen moment.now).workload (seen moment.now).readings) }
-{
-    if quiet {
-        return Ok(true);
-    }
-    let calm = are_lines_due(alloc, moment, &[])?;
-    Ok(calm)
-}
-
 // The run goes on, or the last line tells how it ended.
+#[inline(always)]
 fn end_is_told(moment: &Moment, number: u64, last: Option<LastTold>) -> bool
     ensures { IsTrue result ↔ EndIsTold (seen moment.now).readings number (line_told last) }
 {

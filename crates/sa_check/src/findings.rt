@@ -70,6 +70,7 @@ impl Findings {
     }
 
     /// The first rule that does not hold.
+    #[inline(always)]
     pub(crate) fn first_broken(&self) -> Option<Rule>
         ensures { result ≡ find (λ rule. not (found_of self.now rule)) rules }
     {

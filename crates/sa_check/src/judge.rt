@@ -1,21 +1,19 @@
 // The judge of one event.
-ghost use Rattle.std.specs.Prelude.{◌≡◌, true, IfOk};
+ghost use Rattle.std.specs.Prelude.{◌≡◌, IfOk};
 ghost use Rattle.sa_laws.specs.Opening.{IsNumbered};
 ghost use Rattle.sa_check_moment.specs.Seen.{seen};
 ghost use Rattle.sa_check.specs.Items.{told_event};
-ghost use Rattle.sa_check.specs.Quiet.{IsCalmIf, IsQuietAt, IsQuietFrom, WasSettled};
-ghost use Rattle.sa_check.specs.Records.{ReadsRecords};
+ghost use Rattle.sa_check.specs.Quiet.{IsCalmIf, IsQuietAt, WasSettled};
 ghost use Rattle.sa_check.specs.Sides.{line_told};
 ghost use Rattle.sa_check.specs.Judged.{Judges, findings_of};
 
-use crate::begin::{Beginning, begin};
-use crate::end::{Ending, LastTold, look_after};
+use crate::begin::{Beginning, begin, begin_quiet};
+use crate::end::{Ending, LastTold, look_after, settled_after};
 use crate::event::TraceEvent;
 use crate::findings::Findings;
 use crate::places::DueFound;
 use crate::quiet::{is_known_quiet, read_quiet};
-use crate::records::{ReadThrough, RecordsFound, read_records};
-use sa_base::ActNo;
+use crate::records::{RecordsFound, read_records};
 use sa_check_closing::is_numbered;
 use sa_check_moment::Moment;
 use sa_laws::Rule;
@@ -54,26 +52,62 @@ pub(crate) fn judge(
     if !is_numbered(alloc, &moment, event.number, event.proc, event.records)? {
         return Ok(Judged::Broken(Rule::Numbered));
     }
-    let quiet = is_known_quiet(&moment, event, calm);
-    judge_numbered(alloc, moment, event, last, quiet)
+    if is_known_quiet(&moment, event, calm) {
+        judge_quiet(moment, event, last)
+    } else {
+        judge_loud(alloc, moment, event, last)
+    }
 }
 
-// Judges an event with the number and processor that it should have, which is quiet or is not known to be.
-fn judge_numbered(
+// Judges a quiet event with the number and processor that it should have.
+#[inline]
+fn judge_quiet(
+    moment: Moment,
+    event: &TraceEvent,
+    last: Option<LastTold>,
+) -> Result<Judged, AllocError>
+    requires numbered { IsNumbered (seen moment).workload (seen moment).readings (told_event event.now) }
+    requires settled { WasSettled (seen moment).workload (seen moment).readings }
+    requires quiet { IsQuietAt (seen moment) (told_event event.now) }
+    ensures { IfOk result (Judges (seen moment) (told_event event.now) (line_told last)) }
+{
+    let mut now = moment;
+    let beginning = begin_quiet(&mut now, event);
+    let Some(through) = read_quiet(now, event, beginning.start.running)? else {
+        return Ok(Judged::Broken(Rule::Stepwise));
+    };
+    let after = through.moment.finish(
+        event.number,
+        event.proc,
+        event.records,
+        beginning.start,
+        through.due.urged,
+    )?;
+    let ending = settled_after(&after, event.number, last);
+    let findings = findings_of(event.number, beginning, through.laws, through.due, ending);
+    match findings.first_broken() {
+        None => Ok(Judged::Right(Between {
+            moment: after,
+            calm: true,
+        })),
+        Some(rule) => Ok(Judged::Broken(rule)),
+    }
+}
+
+// Judges an event with the number and processor that it should have, which is not known to be quiet.
+#[inline(never)]
+fn judge_loud(
     alloc: Global,
     moment: Moment,
     event: &TraceEvent,
     last: Option<LastTold>,
-    quiet: bool,
 ) -> Result<Judged, AllocError>
     requires numbered { IsNumbered (seen moment).workload (seen moment).readings (told_event event.now) }
-    requires settled { WasSettled (seen moment).workload (seen moment).readings }
-    requires quiet { quiet ≡ true → IsQuietAt (seen moment) (told_event event.now) }
     ensures { IfOk result (Judges (seen moment) (told_event event.now) (line_told last)) }
 {
     let mut now = moment;
-    let beginning = begin(&mut now, event, quiet);
-    let Some(through) = read_event(alloc, now, event, beginning.start.running, quiet)? else {
+    let beginning = begin(&mut now, event);
+    let Some(through) = read_records(alloc, now, event, beginning.start.running)? else {
         return Ok(Judged::Broken(Rule::Stepwise));
     };
     let after = through.moment.finish(
@@ -84,7 +118,7 @@ fn judge_numbered(
         through.due.urged,
     )?;
     let covered = through.due.covered;
-    let ending = look_after(alloc, &after, event.number, last, quiet, covered)?;
+    let ending = look_after(alloc, &after, event.number, last, covered)?;
     let findings = findings_of(event.number, beginning, through.laws, through.due, ending);
     match findings.first_broken() {
         None => Ok(Judged::Right(Between {
@@ -95,26 +129,8 @@ fn judge_numbered(
     }
 }
 
-// Reads the records of an event, quiet or not, on the moment as it begins; this life ran before it. `None` exactly where one of them is no step of
-// the abstract machine.
-fn read_event(
-    alloc: Global,
-    moment: Moment,
-    event: &TraceEvent,
-    running: Option<ActNo>,
-    quiet: bool,
-) -> Result<Option<ReadThrough>, AllocError>
-    requires { quiet ≡ true → IsQuietFrom (seen moment) (told_event event.now) }
-    ensures { IfOk result (ReadsRecords (seen moment) (told_event event.now) running) }
-{
-    if quiet {
-        read_quiet(moment, event, running)
-    } else {
-        read_records(alloc, moment, event, running)
-    }
-}
-
 // Which rules hold, by what was found before the event, at its records, and after it.
+#[inline(always)]
 fn findings_of(
     number: u64,
     beginning: Beginning,

@@ -70,6 +70,7 @@ fn is_quiet_record(what: &Record) -> bool
 
 /// Reads the records of a quiet event, on the moment as it begins, at which no want, no aim and no line is due. `None`
 /// exactly where one of them is no step of the abstract machine.
+#[inline(always)]
 pub(crate) fn read_quiet(
     moment: Moment,
     event: &TraceEvent,

@@ -55,6 +55,7 @@ pub enum Change {
 
 impl Change {
     /// The change gives a life a lock.
+    #[inline(always)]
     pub fn adds_lock(&self) -> bool
         ensures { result ≡ adds_lock self.now }
     {
@@ -65,6 +66,7 @@ impl Change {
     }
 
     /// The life is in by the change.
+    #[inline(always)]
     pub fn enters(&self) -> bool
         ensures { result ≡ enters self.now }
     {

@@ -171,6 +171,7 @@ impl KeptLife {
     }
 
     /// Changes the life. An error changes nothing.
+    #[inline(always)]
     pub fn change(&mut self, change: &Change) -> Result<(), AllocError>
         ensures ok { OnOk result (self.new ≡ changed_by change.now self.old) }
         ensures err { OnErr result (self.new ≡ self.old) }
@@ -199,6 +200,7 @@ impl KeptLife {
     }
 
     // Changes the life, and says what it lost by it. An error changes nothing.
+    #[inline(always)]
     pub(crate) fn write(&mut self, change: &Change) -> Result<Lost, AllocError>
         ensures ok { OnOk result (self.new ≡ changed_by change.now self.old) }
         ensures lost { IfOk result (λ lost. IsLost lost (Some self.new)) }
@@ -267,6 +269,7 @@ impl KeptLife {
     }
 
     // Ends an own event. An error, where a count would not fit, changes nothing.
+    #[inline(always)]
     fn step(&mut self, stepped: Stepped) -> Result<(), AllocError>
         ensures ok { OnOk result (self.new ≡ stepped_by stepped self.old) }
         ensures err { OnErr result (self.new ≡ self.old) }

@@ -68,6 +68,7 @@ impl Lives {
     }
 
     /// The life of this number, if it is in use.
+    #[inline(always)]
     pub fn life(&self, a: ActNo) -> Option<&KeptLife>
         ensures { option_copied result ≡ (lives_of self.now).lives a.0 }
     {
@@ -381,6 +382,7 @@ impl Lives {
     }
 
     /// An own event of this life is over, if one is given: the one that ran on the processor before the event.
+    #[inline(always)]
     pub fn step(&mut self, a: Option<ActNo>, stepped: Stepped) -> Result<(), AllocError>
         ensures ok { OnOk result
             (lives_of self.new ≡ changed (stepped_by stepped) a (lives_of self.old)) }

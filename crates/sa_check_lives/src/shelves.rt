@@ -55,6 +55,7 @@ impl Shelves {
     }
 
     // The life of this number, if it is in use.
+    #[inline(always)]
     pub(crate) fn get(&self, a: u64) -> Option<&KeptLife>
         ensures { option_copied result ≡ lives_in self.now a }
     {
@@ -77,6 +78,7 @@ impl Shelves {
     }
 
     // Changes the life of this number, if there is one, and says what it lost by it. An error changes nothing.
+    #[inline(always)]
     pub(crate) fn write(&mut self, a: ActNo, change: &Change) -> Result<Lost, AllocError>
         ensures ok { OnOk result
             (lives_in self.new ≡ with_life (changed_by change.now) (Some a) (lives_in self.old)) }
@@ -146,6 +148,7 @@ impl Shelf {
         }
     }
 
+    #[inline(always)]
     fn get(&self, a: u64) -> Option<&KeptLife>
         ensures { option_copied result ≡ lives_among self.now a }
     {
@@ -170,6 +173,7 @@ impl Shelf {
         self.lives.retain(|entry| entry.0 != a.0);
     }
 
+    #[inline(always)]
     fn write(&mut self, a: ActNo, change: &Change) -> Result<Lost, AllocError>
         ensures ok { OnOk result
             (lives_among self.new ≡ with_life (changed_by change.now) (Some a) (lives_among self.old)) }
@@ -225,6 +229,7 @@ impl Shelf {
 }
 
 // The place of a number among the lives of a shelf.
+#[inline(always)]
 fn place_of(lives: &[(u64, KeptLife)], a: u64) -> Option<usize>
     ensures { result ≡ place_among lives.now a }
 {

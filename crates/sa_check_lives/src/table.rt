@@ -56,6 +56,7 @@ impl Table {
     }
 
     // The life of this number, if it is in use.
+    #[inline(always)]
     pub(crate) fn life(&self, a: ActNo) -> Option<&KeptLife>
         ensures { option_copied result ≡ lives_in self.now a.0 }
     {
@@ -85,6 +86,7 @@ impl Table {
     }
 
     // Changes the life of this number, if it is in use. An error changes nothing.
+    #[inline(always)]
     pub(crate) fn change(&mut self, a: Option<ActNo>, change: &Change) -> Result<(), AllocError>
         ensures ok { OnOk result
             (lives_in self.new ≡ with_life (changed_by change.now) a (lives_in self.old)) }
@@ -258,6 +260,7 @@ fn remove(numbers: &mut Vec<u64>, n: u64)
 }
 
 // Adds a number, if that is asked for.
+#[inline(always)]
 fn add_if(numbers: &mut Vec<u64>, n: u64, asked: bool) -> Result<(), AllocError>
     ensures there { OnOk result (IsThere asked n numbers.new.items) }
     ensures others { KeepsAll numbers.old.items numbers.new.items }
@@ -269,6 +272,7 @@ fn add_if(numbers: &mut Vec<u64>, n: u64, asked: bool) -> Result<(), AllocError>
 }
 
 // Removes a number, if that is asked for.
+#[inline(always)]
 fn remove_if(numbers: &mut Vec<u64>, n: u64, asked: bool)
     ensures others { KeepsOthers n numbers.old.items numbers.new.items }
     ensures itself { KeepsUnless asked n numbers.old.items numbers.new.items }

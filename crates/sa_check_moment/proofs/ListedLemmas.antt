@@ -1,5 +1,5 @@
 -- The lists of a moment keep their lengths.
-use Rattle.std.proofs.Common.{◌≡◌, ℕ, refl, sym, ◌∙◌, ap, List, [], Option, Some, None, Bool, false, length, filter}
+use Rattle.std.proofs.Common.{◌≡◌, ℕ, refl, sym, ◌∙◌, ap, List, [], Option, Some, None, Bool, true, false, length, filter}
 use Rattle.std.proofs.lemmas.List.{length-set, length-map, length-replicate}
 use Rattle.sa_base.specs.declared.number.ProcNo.{ProcNo}
 use Rattle.sa_base.specs.declared.number.SpaceNo.{SpaceNo}
@@ -19,6 +19,7 @@ use Rattle.sa_laws.proofs.Spaces.{placed-owners}
 use Rattle.sa_check_moment.specs.declared.rules.Rules.{Rules}
 use Rattle.sa_check_moment.specs.Seen.{Seen, opened, behind_record}
 use Rattle.sa_check_moment.specs.Listed.{IsListed}
+use Rattle.sa_check_moment.specs.Reading.{changes_nothing, passing}
 
 -- the lists, and as many in each
 record Lists : Type 0 where
@@ -180,3 +181,29 @@ listed-opened rules w = record {
 
 pub listed-behind : (number : ℕ) (p : ProcNo) (x : Record) (m : Seen) → IsListed m → IsListed (behind_record number p x m)
 listed-behind number p x m is = still m (behind_record number p x m) refl (kept m.workload number p m.readings x) is
+
+-- a record that changes nothing but which record comes directly before the next
+pub nothing-changed : (number : ℕ) (p : ProcNo) (x : Record) (m : Seen) → changes_nothing x ≡ true → passing x m ≡ behind_record number p x m
+nothing-changed number p Idle m is = refl
+nothing-changed number p (Spin l) m is = refl
+nothing-changed number p Tick m is = refl
+nothing-changed number p (Ins s t i) m is = cc
+nothing-changed number p (Out s t value) m is = cc
+nothing-changed number p (Run s t) m is = cc
+nothing-changed number p (Stop s t a) m is = cc
+nothing-changed number p (Block s t a io) m is = cc
+nothing-changed number p (Unblock s t a) m is = cc
+nothing-changed number p (Cont s t) m is = cc
+nothing-changed number p (Back s t) m is = cc
+nothing-changed number p (Ready s t) m is = cc
+nothing-changed number p (Take s l t) m is = cc
+nothing-changed number p (Free s l t) m is = cc
+nothing-changed number p (Up s a) m is = cc
+nothing-changed number p (Told note) m is = cc
+nothing-changed number p (Move old new) m is = cc
+nothing-changed number p (Want s n) m is = cc
+nothing-changed number p (Aim q s) m is = cc
+nothing-changed number p (Line q) m is = cc
+nothing-changed number p (Fetch s) m is = cc
+nothing-changed number p (Fetched s) m is = cc
+nothing-changed number p (GiveBack a) m is = cc

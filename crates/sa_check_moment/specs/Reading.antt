@@ -1,8 +1,8 @@
 -- What one record changes, part by part.
-use Rattle.std.specs.Prelude.{◌≡◌, ℕ, Bool, List, Option, Some, None}
+use Rattle.std.specs.Prelude.{◌≡◌, ℕ, Bool, true, false, List, Option, Some, None}
 use Rattle.sa_base.specs.declared.number.ProcNo.{ProcNo}
 use Rattle.sa_base.specs.declared.record.Record.{Record}
-use Rattle.sa_base.specs.declared.record.Record.TheVariants.{Block, Unblock, Ready, Take, Run, Fetch, Fetched}
+use Rattle.sa_base.specs.declared.record.Record.TheVariants.{Block, Unblock, Ready, Take, Run, Fetch, Fetched, Idle, Spin, Tick}
 use Rattle.sa_spaces.specs.Workload.{WorkloadView}
 use Rattle.sa_devices.specs.declared.kind.IoKind.TheVariants.{Upcall}
 use Rattle.sa_laws.specs.Readings.{Readings, Listed, life_on}
@@ -10,6 +10,7 @@ use Rattle.sa_laws.specs.Record.{Blocking, blocking, first_list}
 use Rattle.sa_check_lives.specs.Recorded.{IsForPush}
 use Rattle.sa_check_ios.specs.PendingView.{PendingView, begun_for, without_life, without_fetch}
 use Rattle.sa_check_ios.specs.Ready.{with_ready, without_ready}
+use Rattle.sa_check_moment.specs.Seen.{Seen}
 
 -- at a take, whether it is for a push; at a ready, the list into which the thread is put
 abbrev pub ReadsPush : Readings → ProcNo → Record → Bool → Type 0
@@ -41,3 +42,13 @@ abbrev pub ready_after : ProcNo → Record → List (List Listed) → List (List
 ready_after l (Ready s t) ready = with_ready ready s t l
 ready_after l (Run s t) ready = without_ready ready s t
 ready_after l _ ready = ready
+
+-- a record that changes nothing but which record comes directly before the next
+abbrev pub changes_nothing : Record → Bool
+changes_nothing Idle = true
+changes_nothing (Spin l) = true
+changes_nothing Tick = true
+changes_nothing _ = false
+
+abbrev pub passing : Record → Seen → Seen
+passing x m = record m { readings = record m.readings { last = Some x } }

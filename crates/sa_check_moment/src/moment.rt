@@ -181,6 +181,7 @@ impl Moment {
     }
 
     /// The life of this number, if it is in use.
+    #[inline(always)]
     pub fn life(&self, a: ActNo) -> Option<&KeptLife>
         ensures { option_copied result ≡ life_of (seen self.now).readings a }
     {
@@ -188,6 +189,7 @@ impl Moment {
     }
 
     /// The life that runs on the processor.
+    #[inline(always)]
     pub fn life_on(&self, p: ProcNo) -> Option<&KeptLife>
         ensures { option_copied result ≡ life_on (seen self.now).readings p }
     {
@@ -265,6 +267,7 @@ impl Moment {
     }
 
     /// The thread; one that was not made counts as done.
+    #[inline(always)]
     pub fn thread(&self, s: SpaceNo, t: ThreadNo) -> ThreadState
         ensures { result ≡ thread_at (seen self.now).readings.state s t }
     {
@@ -272,6 +275,7 @@ impl Moment {
     }
 
     /// The thread that runs on the processor.
+    #[inline(always)]
     pub fn runner(&self, p: ProcNo) -> Option<RunningThread>
         ensures { result ≡ runner_on (seen self.now).readings.state p }
     {
@@ -279,6 +283,7 @@ impl Moment {
     }
 
     /// The instruction at this pc of the thread's program, and `end` where there is none.
+    #[inline(always)]
     pub fn instr_of(&self, s: SpaceNo, t: ThreadNo, pc: u16) -> Instr
         ensures { result ≡ instr_of (seen self.now).workload (seen self.now).readings.state s t pc }
     {
@@ -293,6 +298,7 @@ impl Moment {
     }
 
     /// A thread of the life's hand is carried or due.
+    #[inline(always)]
     pub fn has_hand(&self, life: &KeptLife) -> bool
         ensures { result ≡ has_hand (seen self.now).readings life.now }
     {

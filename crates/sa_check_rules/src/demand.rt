@@ -10,6 +10,7 @@ use sa_check_moment::Moment;
 use sa_check_shapes::{is_step, parted};
 
 // Demand is announced, at an event of this number and processor with these records, on the moment before it.
+#[inline(always)]
 pub(crate) fn is_announced(moment: &Moment, number: u64, p: ProcNo, records: &[Record]) -> bool
     ensures { let m = seen moment.now in
         IsTrue result ↔ DemandIsAnnounced m.workload m.readings (event number p records.now) }
@@ -18,6 +19,7 @@ pub(crate) fn is_announced(moment: &Moment, number: u64, p: ProcNo, records: &[R
 }
 
 // A step is made by a running life, which is free to make it.
+#[inline(always)]
 fn begins_freely(moment: &Moment, p: ProcNo, records: &[Record]) -> bool
     ensures { let m = seen moment.now in
         IsTrue result ↔ BeginsFreely m.workload m.readings p records.now }
@@ -35,6 +37,7 @@ fn begins_freely(moment: &Moment, p: ProcNo, records: &[Record]) -> bool
 }
 
 // The life is out or owes nothing, where only such a life begins a step so.
+#[inline(always)]
 fn is_free(moment: &Moment, life: &KeptLife, first: Record) -> bool
     ensures { let m = seen moment.now in
         IsTrue result ↔ IsFree m.workload m.readings life.now first }
@@ -43,6 +46,7 @@ fn is_free(moment: &Moment, life: &KeptLife, first: Record) -> bool
 }
 
 // Only a life that is out or owes nothing begins a step so.
+#[inline(always)]
 pub(crate) fn is_bound(moment: &Moment, life: &KeptLife, first: Record) -> bool
     ensures { result ≡ is_bound (seen moment.now).readings life.now first }
 {

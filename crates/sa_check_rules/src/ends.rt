@@ -7,6 +7,7 @@ use sa_base::End;
 use sa_check_moment::Moment;
 
 /// The run goes on: some thread is not done, and something can happen.
+#[inline(always)]
 pub fn run_goes_on(moment: &Moment) -> bool
     ensures { IsTrue result ↔ GoesOn (seen moment.now).readings }
 {

@@ -24,6 +24,7 @@ pub(crate) fn carried_by(moment: &Moment, life: &KeptLife) -> Option<ThreadNo>
 }
 
 // The life has no thread to run, and finds none.
+#[inline(always)]
 pub(crate) fn finds_none(moment: &Moment, life: &KeptLife) -> bool
     ensures { IsTrue result ↔ FindsNone (seen moment.now).readings life.now }
 {

@@ -13,6 +13,7 @@ use sa_check_moment::Moment;
 use sa_check_shapes::{is_back, is_step, own_part, parted, stands_alone};
 
 // List locks, at an event of this number and processor with these records, on the moment as it begins.
+#[inline(always)]
 pub(crate) fn list_locks_are_kept(
     moment: &Moment,
     number: u64,
@@ -27,6 +28,7 @@ pub(crate) fn list_locks_are_kept(
 }
 
 // A step keeps to the rules, and an operation is in an event of its own.
+#[inline(always)]
 fn keeps_locks_in(moment: &Moment, p: ProcNo, records: &[Record]) -> bool
     ensures { let m = seen moment.now in
         IsTrue result ↔ KeepsLocksIn m.workload m.readings p records.now }
@@ -38,6 +40,7 @@ fn keeps_locks_in(moment: &Moment, p: ProcNo, records: &[Record]) -> bool
 }
 
 // If the event that begins so is a step of a running life, it keeps to the rules.
+#[inline(always)]
 fn keeps_locks_if(moment: &Moment, p: ProcNo, first: Record) -> bool
     ensures { let m = seen moment.now in
         IsTrue result ↔ KeepsLocksIf (is_step first) m.workload m.readings p (life_on m.readings p) first }
@@ -59,6 +62,7 @@ pub(crate) fn back_is_due(life: &KeptLife) -> bool
 }
 
 // The operation on ready lists keeps to its rule.
+#[inline(always)]
 pub(crate) fn keeps_locks(moment: &Moment, p: ProcNo, life: &KeptLife, first: Record) -> bool
     ensures { let m = seen moment.now in
         IsTrue result ↔ KeepsLocks m.workload m.readings p life.now first }

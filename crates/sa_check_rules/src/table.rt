@@ -13,6 +13,7 @@ use sa_check_moment::Moment;
 use sa_check_shapes::{are_of_locks, is_ins_of, is_passage, parted};
 
 // The records are those of a step of the life that runs on the processor.
+#[inline(always)]
 pub(crate) fn is_fast_step(moment: &Moment, p: ProcNo, records: &[Record]) -> bool
     ensures { let m = seen moment.now in
         IsTrue result ↔ IsStep m.workload m.readings p records.now }
@@ -27,6 +28,7 @@ pub(crate) fn is_fast_step(moment: &Moment, p: ProcNo, records: &[Record]) -> bo
 }
 
 // The records are those of a step of this life.
+#[inline(always)]
 pub(crate) fn is_step_of(
     moment: &Moment,
     p: ProcNo,
@@ -116,6 +118,7 @@ fn can_lower(moment: &Moment, life: &KeptLife, n: u16) -> bool
 }
 
 // A look that finds no thread: patience is not over, or no more than the load was announced.
+#[inline(always)]
 fn can_idle(moment: &Moment, life: &KeptLife) -> bool
     ensures { let m = seen moment.now in
         IsTrue result ↔ CanIdle m.workload m.readings life.now }

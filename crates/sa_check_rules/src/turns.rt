@@ -16,6 +16,7 @@ use sa_instr::Instr;
 
 /// Turns and steps, at an event of this number and processor with these records, on the moment as it begins. `raised`:
 /// the processor's line was raised before it.
+#[inline(always)]
 pub fn turns_are_taken(
     moment: &Moment,
     raised: bool,
@@ -33,6 +34,7 @@ pub fn turns_are_taken(
 }
 
 // The first that applies of an interrupt, a completion, a tick, and a step.
+#[inline(always)]
 fn is_turn(moment: &Moment, raised: bool, number: u64, p: ProcNo, records: &[Record]) -> bool
     ensures { let m = seen moment.now in
         IsTrue result ↔ IsTurn (rules_of m.rules).Steps raised number m.workload m.readings p records.now }
@@ -49,6 +51,7 @@ fn is_turn(moment: &Moment, raised: bool, number: u64, p: ProcNo, records: &[Rec
 }
 
 // A tick of a processor that nobody owns, else a step.
+#[inline(always)]
 fn is_tick_or_step(moment: &Moment, p: ProcNo, records: &[Record]) -> bool
     ensures { let m = seen moment.now in
         IsTrue result ↔ IsTickOrStep (rules_of m.rules).Steps (owner_of m.readings p) m.workload m.readings p records.now }

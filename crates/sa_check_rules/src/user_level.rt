@@ -17,6 +17,7 @@ use sa_check_moment::{Moment, Rules};
 
 /// Demand is announced, and what else the user level says of it: at an event of this number and processor with these
 /// records, on the moment before it.
+#[inline(always)]
 pub fn demand_is_announced(moment: &Moment, number: u64, p: ProcNo, records: &[Record]) -> bool
     ensures { let m = seen moment.now in
         IsTrue result ↔ (rules_of m.rules).Demand m.workload m.readings (event number p records.now) }
@@ -28,6 +29,7 @@ pub fn demand_is_announced(moment: &Moment, number: u64, p: ProcNo, records: &[R
 }
 
 /// List locks, at an event of this number and processor with these records, on the moment as it begins.
+#[inline(always)]
 pub fn locks_are_kept(moment: &Moment, number: u64, p: ProcNo, records: &[Record]) -> bool
     ensures { let m = seen moment.now in let e = event number p records.now in
         (r : Readings) → m.readings ≡ event_begun m.workload e r
@@ -40,6 +42,7 @@ pub fn locks_are_kept(moment: &Moment, number: u64, p: ProcNo, records: &[Record
 }
 
 /// The order of ready lists, at an event of this processor with these records, on the moment before it.
+#[inline(always)]
 pub fn order_is_kept(moment: &Moment, p: ProcNo, records: &[Record]) -> bool
     ensures { let m = seen moment.now in (number : ℕ)
         → (IsTrue result ↔ (rules_of m.rules).Order m.workload m.readings (event number p records.now)) }
@@ -93,6 +96,7 @@ fn is_asked(moment: &Moment, p: ProcNo, q: ProcNo) -> bool
 }
 
 // The records are those of a step of the processor, by the user level's table.
+#[inline(always)]
 pub(crate) fn is_step(moment: &Moment, p: ProcNo, records: &[Record]) -> bool
     ensures { let m = seen moment.now in
         IsTrue result ↔ (rules_of m.rules).Steps m.workload m.readings p records.now }

@@ -53,7 +53,7 @@ struct Told<'a> {
 
 /// The item that the first line of these bytes tells, if it is of a common form and may follow those so far. `None` says
 /// nothing of the line.
-#[inline]
+#[inline(always)]
 pub(crate) fn quick_item<'a>(so_far: &SoFar, bytes: &'a [u8]) -> Option<Found<'a>>
     ensures text { IfSome result (λ found. bytes.now ≡ line_of found.item ++ found.rest.now) }
     ensures fits { IfSome result (λ found. FitsItem found.item) }
@@ -81,7 +81,7 @@ fn may_follow(last: &Option<Item>, item: &Item) -> bool
 }
 
 // The item of the first line: its event, its processor, and a record of a common kind.
-#[inline]
+#[inline(always)]
 fn item_of(bytes: &[u8]) -> Option<Found<'_>>
     ensures text { IfSome result (λ found. bytes.now ≡ line_of found.item ++ found.rest.now) }
     ensures fits { IfSome result (λ found. FitsItem found.item) }
@@ -187,7 +187,7 @@ fn small_of_any_length(bytes: &[u8]) -> Option<SmallFront<'_>>
 }
 
 // Two spaces with a number of 16 bits behind each at the front of these bytes.
-#[inline]
+#[inline(always)]
 fn two_fields(bytes: &[u8]) -> Option<Pair<'_>>
     requires { 2 * FIELD ≤ length bytes.now }
     ensures text { IfSome result (λ front.

@@ -23,6 +23,7 @@ use std::alloc::AllocError;
 
 impl Moment {
     /// What the end of an event of the processor with these records will need of the moment before it.
+    #[inline(always)]
     pub fn before(&self, p: ProcNo, records: &[Record]) -> Start
         ensures running { result.running ≡ running_of (seen self.now).readings p }
         ensures lowers { result.lowers ≡ lowers (seen self.now).readings records.now }
@@ -35,6 +36,7 @@ impl Moment {
 
     /// The event of this number and processor with these records is over; `start` is what was seen before it, and `urged`
     /// tells whether a pair existed where pairs are asked for before its last record. Fails where memory runs out, and where a count would not fit 64 bits.
+    #[inline(always)]
     pub fn finish(
         mut self,
         number: u64,
@@ -58,6 +60,7 @@ impl Moment {
     }
 
     // The first record is a want of less than its space announced before.
+    #[inline(always)]
     fn lowers(&self, records: &[Record]) -> bool
         ensures { result ≡ lowers (seen self.now).readings records.now }
     {
@@ -68,6 +71,7 @@ impl Moment {
     }
 
     // What becomes of the life that ran before the event, if the event is a step of it.
+    #[inline(always)]
     fn step_by(&self, records: &[Record], start: Start, urged: bool) -> Option<Stepped>
         ensures { result ≡ step_by (seen self.now) start.lowers start.running urged records.now }
     {
@@ -84,6 +88,7 @@ impl Moment {
     }
 
     // The same of an event that begins with this record.
+    #[inline(always)]
     fn step_with(&self, first: &Record, records: &[Record], start: Start, urged: bool) -> Stepped
         ensures { result
             ≡ step_with (seen self.now) start.lowers start.running urged records.now first.now }
@@ -101,6 +106,7 @@ impl Moment {
     }
 
     // Whether the life of the event's up is in, if there is one.
+    #[inline(always)]
     fn up_by(&self, p: ProcNo, records: &[Record], urged: bool) -> Option<bool>
         ensures { result ≡ up_by (seen self.now) p urged records.now }
     {
@@ -112,6 +118,7 @@ impl Moment {
     }
 
     // The step settles its life.
+    #[inline(always)]
     fn settles_by(&self, lowers: bool, first: &Record) -> bool
         ensures { result ≡ settles_by lowers (seen self.now).readings first.now }
     {
@@ -124,6 +131,7 @@ impl Moment {
     }
 
     // The life of this number is in, if it is in use.
+    #[inline(always)]
     fn is_in_if(&self, settled: bool, a: Option<ActNo>, records: &[Record], urged: bool) -> bool
         ensures { result ≡ is_in_if (seen self.now) settled records.now urged
             (life_if (seen self.now).readings a) }
@@ -138,6 +146,7 @@ impl Moment {
     }
 
     // The life is in, at the end of an own event with these records that settled it or did not.
+    #[inline(always)]
     fn is_in(&self, settled: bool, life: &KeptLife, records: &[Record], urged: bool) -> bool
         ensures { result ≡ is_in (seen self.now) settled records.now urged life.now }
     {
@@ -167,6 +176,7 @@ impl Moment {
     }
 
     // The life is in by FastThreads' test.
+    #[inline(always)]
     fn is_inside(&self, settled: bool, life: &KeptLife) -> bool
         ensures { result ≡ is_inside_at (seen self.now) settled life.now }
     {
@@ -200,6 +210,7 @@ fn has_up(records: &[Record]) -> bool
 }
 
 // How the looks that found no thread are counted on.
+#[inline(always)]
 fn scan_by(lowers: bool, first: &Record) -> Scan
     ensures { result ≡ scan_by lowers first.now }
 {
@@ -211,6 +222,7 @@ fn scan_by(lowers: bool, first: &Record) -> Scan
 }
 
 // The event is over for the life that made a step and for the one of the up, if there were such; the number of the next.
+#[inline(always)]
 fn end_event(
     lives: &mut Lives,
     number: u64,
@@ -229,6 +241,7 @@ fn end_event(
 }
 
 // The life's step is over, if there was one.
+#[inline(always)]
 fn end_step(lives: &mut Lives, a: Option<ActNo>, step: Option<Stepped>) -> Result<(), AllocError>
     ensures { OnOk result (lives_of lives.new ≡ stepped_if step a (lives_of lives.old)) }
 {

@@ -14,7 +14,7 @@ ghost use Rattle.sa_replay.specs.Needs.{CanChange, NeedsWith, Sees, seen_of};
 ghost use Rattle.sa_devices.specs.Pages.{HasPage};
 ghost use Rattle.sa_check_moment.specs.Level.{ReadsLevel};
 ghost use Rattle.sa_check_moment.specs.Seen.{seen, at_event, behind_record};
-ghost use Rattle.sa_check_moment.specs.Reading.{ReadsPush, ReadsList, begun_by, ended_by, pending_after, ready_after};
+ghost use Rattle.sa_check_moment.specs.Reading.{ReadsPush, ReadsList, begun_by, changes_nothing, ended_by, passing, pending_after, ready_after};
 
 use crate::level::Level;
 use crate::moment::{Moment, Parts};
@@ -57,6 +57,7 @@ struct Before {
 
 impl Moment {
     /// The abstract machine can take the record of the processor.
+    #[inline(always)]
     pub fn allows(&self, p: ProcNo, what: &Record) -> bool
         ensures { IsTrue result ↔ Needs (seen self.now).workload p (seen self.now).readings what.now }
     {
@@ -65,6 +66,7 @@ impl Moment {
     }
 
     /// An event of this number and processor begins: its evictions are done, and its processor's line is low.
+    #[inline(always)]
     pub fn begin(&mut self, number: u64, p: ProcNo)
         ensures { seen self.new ≡ at_event number p (seen self.old) }
     {
@@ -77,7 +79,30 @@ impl Moment {
 
     /// Reads a record of an event of this number and processor, which the abstract machine can take. Fails where memory
     /// runs out, where the record signals a semaphore whose count is 2^32 - 1, and where 2^64 - 1 I/Os were begun.
-    pub fn read(mut self, number: u64, p: ProcNo, what: &Record) -> Result<Moment, AllocError>
+    #[inline(always)]
+    pub fn read(self, number: u64, p: ProcNo, what: &Record) -> Result<Moment, AllocError>
+        requires { Needs (seen self).workload p (seen self).readings what.now }
+        ensures { IfOk result (λ m. seen m ≡ behind_record number p what.now (seen self)) }
+    {
+        if changes_nothing(what) {
+            return Ok(self.passing(what));
+        }
+        self.reading(number, p, what)
+    }
+
+    // The moment at which this record comes directly before the next.
+    #[inline(always)]
+    fn passing(mut self, what: &Record) -> Moment
+        ensures { seen result ≡ passing what.now (seen self) }
+    {
+        let parts: &mut Parts = &mut self.parts;
+        parts.last = Some(*what);
+        self
+    }
+
+    // Reads a record, which may change any part.
+    #[inline(never)]
+    fn reading(mut self, number: u64, p: ProcNo, what: &Record) -> Result<Moment, AllocError>
         requires { Needs (seen self).workload p (seen self).readings what.now }
         ensures { IfOk result (λ m. seen m ≡ behind_record number p what.now (seen self)) }
     {
@@ -107,6 +132,7 @@ impl Moment {
     }
 
     // Whether the needs of a record hold, beside what is beyond the abstract machine's state.
+    #[inline(always)]
     fn allows_with(&self, p: ProcNo, what: &Record, beyond: &Beyond) -> bool
         ensures { let m = seen self.now in
             IsTrue result ↔ NeedsWith m.workload p m.readings.state beyond.now what.now }
@@ -115,6 +141,7 @@ impl Moment {
     }
 
     // What the record's needs look at beyond the abstract machine's state.
+    #[inline(always)]
     fn beyond(&self, what: &Record) -> Beyond
         ensures { Sees (seen self.now).readings what.now result }
     {
@@ -262,6 +289,14 @@ impl Moment {
             _ => None,
         }
     }
+}
+
+// The record changes nothing but which record comes directly before the next.
+#[inline(always)]
+fn changes_nothing(what: &Record) -> bool
+    ensures { result ≡ changes_nothing what.now }
+{
+    matches!(*what, Record::Idle | Record::Spin(_) | Record::Tick)
 }
 
 // It is this thread.

@@ -23,5 +23,5 @@ returns-clause-found c =
           (λ begins. c.turns_are_taken.ensures m.readings begins raised);
       locks_kept = at-beginning (λ level. (rules_of level).Locks) m next e _ c.begin.ensures
           (λ begins. c.locks_are_kept.ensures m.readings begins);
-      lines = c.are_lines_in_place-lines.ensures;
+      lines = c.lines_are_in_place-lines.ensures;
     }

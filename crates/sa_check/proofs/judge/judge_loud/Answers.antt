@@ -7,20 +7,12 @@ use Rattle.sa_check.specs.Places.{HasShares}
 use Rattle.sa_check.specs.Records.{ReadsRecords, IsReadThrough}
 use Rattle.sa_check.specs.Judged.{after}
 use Rattle.sa_check.specs.Sides.{line_told}
-use Rattle.sa_check.proofs.JudgeLemmas.{step-breaks, ended-is, FirstIs, judged-so, quiet-from, settled-behind, covered-behind, calm-behind}
+use Rattle.sa_check.proofs.JudgeLemmas.{step-breaks, ended-is, FirstIs, judged-so, covered-behind}
 use Rattle.sa_check.proofs.UrgedLemmas.{over-is}
-use Rattle.sa_check.proofs.judge.judge_numbered.Goals as goal
+use Rattle.sa_check.proofs.judge.judge_loud.Goals as goal
 
-pub begin-beginning-requires : goal.begin-beginning-requires
-begin-beginning-requires c = λ quiet. (c.requires.quiet quiet).quiet
-
-pub read_event-requires : goal.read_event-requires
-read_event-requires c = λ quiet.
-    quiet-from (seen c.args.moment) (seen c.begin-beginning.new.moment) (told_event c.args.event.now) c.requires.numbered c.requires.settled
-    c.begin-beginning.ensures.event_begun (c.requires.quiet quiet)
-
-pub look_after-requires-clause-covered : goal.look_after-requires-clause-covered
-look_after-requires-clause-covered c = λ covered.
+pub look_after-requires : goal.look_after-requires
+look_after-requires c = λ covered.
     let m = seen c.args.moment in
     let start = seen c.begin-beginning.new.moment in
     let e = told_event c.args.event.now in
@@ -34,36 +26,6 @@ look_after-requires-clause-covered c = λ covered.
     (over-is m start e running through c.begin-beginning.ensures.event_begun c.begin-beginning.ensures.running read)) in
     covered-behind m start (seen through.moment) (seen c.in_ok-after.after) e c.begin-beginning.ensures.event_begun read.moment next
     (subst (λ (s : Seen). HasShares s e.number) (sym read.moment) (read.due.covered covered))
-
-pub look_after-requires-clause-settled : goal.look_after-requires-clause-settled
-look_after-requires-clause-settled c = λ quiet.
-    let m = seen c.args.moment in
-    let start = seen c.begin-beginning.new.moment in
-    let e = told_event c.args.event.now in
-    let running = c.begin-beginning.result.start.running in
-    let through = c.in-Some.through in
-    let is : c.in_ok-through.field-0 ≡ Some through = c.in-Some.is in
-    let read : IsReadThrough start e running through = subst (λ (o : Option ReadThrough). ReadsRecords start e running o) is c.in_ok-through.ensures in
-    let next : seen c.in_ok-after.after ≡ after m e =
-    ended-is m start (seen through.moment) (seen c.in_ok-after.after) e c.begin-beginning.ensures.event_begun read.moment
-    (c.in_ok-after.ensures m.readings c.begin-beginning.ensures.running c.begin-beginning.ensures.lowers
-    (over-is m start e running through c.begin-beginning.ensures.event_begun c.begin-beginning.ensures.running read)) in
-    settled-behind m (seen c.in_ok-after.after) e c.requires.numbered c.requires.settled (c.requires.quiet quiet) next
-
-pub look_after-requires-clause-calm : goal.look_after-requires-clause-calm
-look_after-requires-clause-calm c = λ quiet.
-    let m = seen c.args.moment in
-    let start = seen c.begin-beginning.new.moment in
-    let e = told_event c.args.event.now in
-    let running = c.begin-beginning.result.start.running in
-    let through = c.in-Some.through in
-    let is : c.in_ok-through.field-0 ≡ Some through = c.in-Some.is in
-    let read : IsReadThrough start e running through = subst (λ (o : Option ReadThrough). ReadsRecords start e running o) is c.in_ok-through.ensures in
-    let next : seen c.in_ok-after.after ≡ after m e =
-    ended-is m start (seen through.moment) (seen c.in_ok-after.after) e c.begin-beginning.ensures.event_begun read.moment
-    (c.in_ok-after.ensures m.readings c.begin-beginning.ensures.running c.begin-beginning.ensures.lowers
-    (over-is m start e running through c.begin-beginning.ensures.event_begun c.begin-beginning.ensures.running read)) in
-    calm-behind m (seen c.in_ok-after.after) e (c.requires.quiet quiet) next
 
 pub returns-in_default : goal.returns-in_default
 returns-in_default c =
