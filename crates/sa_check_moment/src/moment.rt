@@ -37,8 +37,9 @@ use std::marker::Model;
 
 /// What is read of a history at a moment.
 ///
-/// A query takes constant or logarithmic time, but for one that looks at what a space was not told, at its ready threads,
-/// at a hand or at the locks of lives, which takes time in these; an event takes such time for each of its records.
+/// A query takes constant or logarithmic time, and where it looks for a life goes through the few whose numbers share one
+/// of 512 shelves; but for one that looks at what a space was not told, at its ready threads, at a hand or at the locks of
+/// lives, which takes time in these. An event takes such time for each of its records.
 ///
 /// It lies on the heap, so that it is moved for nothing.
 #[derive(Debug, Drop)]
