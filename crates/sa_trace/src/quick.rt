@@ -10,8 +10,11 @@ use sa_base::{Item, ProcNo, Record, SpaceNo, ThreadNo};
 // Digits are read on only behind a number up to this one, so that none is too large for 64 bits.
 const MOST: u64 = 100_000_000_000_000_000;
 
-// The bytes of a space and a number of 16 bits at most, and those of what follows the event of a line of a common form.
+// The bytes of a space and a number of 16 bits at most, those of the longest word of a common kind, and those of what follows
+// the event of a line of a common form.
 const FIELD: usize = 6;
+
+const WORD: usize = 5;
 
 const BEHIND: usize = 32;
 
@@ -206,7 +209,7 @@ fn two_fields(bytes: &[u8]) -> Option<Pair<'_>>
 // The record of a common kind behind a space at the front of these bytes.
 #[inline]
 fn record(bytes: &[u8]) -> Option<Told<'_>>
-    requires { 26 ≤ length bytes.now }
+    requires { WORD + 3 * FIELD + 2 ≤ length bytes.now }
     ensures text { IfSome result (λ told. bytes.now ≡ codes " " ++ record_text told.what ++ told.rest.now) }
     ensures fit { IfSome result (λ told. FitTheKind (parts_of told.what)) }
     ensures some { IfSome result (λ told. 1 ≤ length told.rest.now) }
@@ -226,7 +229,7 @@ fn record(bytes: &[u8]) -> Option<Told<'_>>
 // The record whose word begins with `i`, which these bytes are behind.
 #[inline]
 fn ins_or_idle(bytes: &[u8]) -> Option<Told<'_>>
-    requires { 24 ≤ length bytes.now }
+    requires { WORD + 3 * FIELD ≤ length bytes.now }
     ensures text { IfSome result (λ told.
         codes " i" ++ bytes.now ≡ codes " " ++ record_text told.what ++ told.rest.now) }
     ensures fit { IfSome result (λ told. FitTheKind (parts_of told.what)) }
@@ -243,7 +246,7 @@ fn ins_or_idle(bytes: &[u8]) -> Option<Told<'_>>
 // The same of a word that begins with `r`.
 #[inline]
 fn run_or_ready(bytes: &[u8]) -> Option<Told<'_>>
-    requires { 24 ≤ length bytes.now }
+    requires { WORD + 3 * FIELD ≤ length bytes.now }
     ensures text { IfSome result (λ told.
         codes " r" ++ bytes.now ≡ codes " " ++ record_text told.what ++ told.rest.now) }
     ensures fit { IfSome result (λ told. FitTheKind (parts_of told.what)) }
@@ -291,7 +294,7 @@ fn behind_two(bytes: &[u8], one: u8, two: u8) -> Option<&[u8]>
 
 #[inline]
 fn ins(fields: &[u8]) -> Option<Told<'_>>
-    requires { 19 ≤ length fields.now }
+    requires { 3 * FIELD + 1 ≤ length fields.now }
     ensures text { IfSome result (λ told.
         codes " ins" ++ fields.now ≡ codes " " ++ record_text told.what ++ told.rest.now) }
     ensures fit { IfSome result (λ told. FitTheKind (parts_of told.what)) }
@@ -305,7 +308,7 @@ fn ins(fields: &[u8]) -> Option<Told<'_>>
 
 #[inline]
 fn run(fields: &[u8]) -> Option<Told<'_>>
-    requires { 13 ≤ length fields.now }
+    requires { 2 * FIELD + 1 ≤ length fields.now }
     ensures text { IfSome result (λ told.
         codes " run" ++ fields.now ≡ codes " " ++ record_text told.what ++ told.rest.now) }
     ensures fit { IfSome result (λ told. FitTheKind (parts_of told.what)) }
@@ -322,7 +325,7 @@ fn run(fields: &[u8]) -> Option<Told<'_>>
 
 #[inline]
 fn ready(fields: &[u8]) -> Option<Told<'_>>
-    requires { 13 ≤ length fields.now }
+    requires { 2 * FIELD + 1 ≤ length fields.now }
     ensures text { IfSome result (λ told.
         codes " ready" ++ fields.now ≡ codes " " ++ record_text told.what ++ told.rest.now) }
     ensures fit { IfSome result (λ told. FitTheKind (parts_of told.what)) }
@@ -339,7 +342,7 @@ fn ready(fields: &[u8]) -> Option<Told<'_>>
 
 #[inline]
 fn take(fields: &[u8]) -> Option<Told<'_>>
-    requires { 19 ≤ length fields.now }
+    requires { 3 * FIELD + 1 ≤ length fields.now }
     ensures text { IfSome result (λ told.
         codes " take" ++ fields.now ≡ codes " " ++ record_text told.what ++ told.rest.now) }
     ensures fit { IfSome result (λ told. FitTheKind (parts_of told.what)) }
@@ -357,7 +360,7 @@ fn take(fields: &[u8]) -> Option<Told<'_>>
 
 #[inline]
 fn free(fields: &[u8]) -> Option<Told<'_>>
-    requires { 19 ≤ length fields.now }
+    requires { 3 * FIELD + 1 ≤ length fields.now }
     ensures text { IfSome result (λ told.
         codes " free" ++ fields.now ≡ codes " " ++ record_text told.what ++ told.rest.now) }
     ensures fit { IfSome result (λ told. FitTheKind (parts_of told.what)) }
@@ -375,7 +378,7 @@ fn free(fields: &[u8]) -> Option<Told<'_>>
 
 #[inline]
 fn want(fields: &[u8]) -> Option<Told<'_>>
-    requires { 13 ≤ length fields.now }
+    requires { 2 * FIELD + 1 ≤ length fields.now }
     ensures text { IfSome result (λ told.
         codes " want" ++ fields.now ≡ codes " " ++ record_text told.what ++ told.rest.now) }
     ensures fit { IfSome result (λ told. FitTheKind (parts_of told.what)) }
@@ -392,7 +395,7 @@ fn want(fields: &[u8]) -> Option<Told<'_>>
 
 #[inline]
 fn spin(fields: &[u8]) -> Option<Told<'_>>
-    requires { 7 ≤ length fields.now }
+    requires { FIELD + 1 ≤ length fields.now }
     ensures text { IfSome result (λ told.
         codes " spin" ++ fields.now ≡ codes " " ++ record_text told.what ++ told.rest.now) }
     ensures fit { IfSome result (λ told. FitTheKind (parts_of told.what)) }
