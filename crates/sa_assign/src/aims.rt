@@ -90,7 +90,7 @@ pub fn aimed(aims: &[Option<SpaceNo>], s: SpaceNo) -> usize
 }
 
 /// Each space has at least its share of the aims. They are counted for all spaces at once.
-pub(crate) fn have_shares(shares: &[u16; MAX_SPACES], aims: &[Option<SpaceNo>]) -> bool
+pub fn have_shares(shares: &[u16; MAX_SPACES], aims: &[Option<SpaceNo>]) -> bool
     ensures { IsTrue result ↔ ((s : ℕ) → share_at shares.now s ≤ aimed s aims.now) }
 {
     let mut missing = *shares;

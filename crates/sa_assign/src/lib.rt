@@ -5,5 +5,5 @@ mod aims;
 mod assign;
 pub mod laws;
 
-pub use aims::{aimed, choice};
+pub use aims::{aimed, choice, have_shares};
 pub use assign::{AIM_ITEMS, Assign};

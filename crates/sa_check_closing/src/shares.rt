@@ -6,7 +6,7 @@ ghost use Rattle.sa_laws.specs.Closing.{claim_of, claims_of, first_space, shares
 ghost use Rattle.sa_check_moment.specs.Seen.{seen};
 
 use arrayvec::ArrayVec;
-use sa_assign::aimed;
+use sa_assign::{aimed, have_shares};
 use sa_base::{MAX_SPACES, SpaceNo};
 use sa_check_moment::Moment;
 use sa_share::{Claim, shares};
@@ -27,20 +27,7 @@ pub fn covers_shares(moment: &Moment, event: u64) -> bool
         → share_at (shares_at (seen moment.now).workload event (seen moment.now).readings) s
         ≤ aimed s (seen moment.now).readings.aims) }
 {
-    has_shares(&shares_at(moment, event), moment.aims())
-}
-
-// Each space has at least its share of these aims.
-fn has_shares(shares: &[u16; MAX_SPACES], aims: &[Option<SpaceNo>]) -> bool
-    ensures { IsTrue result ↔ ((s : ℕ) → share_at shares.now s ≤ aimed s aims.now) }
-{
-    for s in 0..MAX_SPACES {
-        let share = usize::from(shares[s]);
-        if share > 0 && share > aimed(aims, SpaceNo(s as u16)) {
-            return false;
-        }
-    }
-    true
+    have_shares(&shares_at(moment, event), moment.aims())
 }
 
 /// The space whose turn it is to be served first at this event.

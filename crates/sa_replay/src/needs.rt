@@ -12,6 +12,7 @@ use sa_laws::Place;
 
 impl Replay {
     /// Whether the needs of a record of processor `p` hold.
+    #[inline(always)]
     pub fn allows(&self, p: ProcNo, what: &Record, beyond: &Beyond) -> bool
         ensures needs { IsTrue result ↔ NeedsWith self.now.workload p self.now.state beyond.now what.now }
         ensures change { IsTrue result → CanChange self.now.workload p self.now.state what.now }
@@ -38,6 +39,7 @@ impl Replay {
     }
 
     /// Whether the thread can run the instruction at this place on the processor, with these pages of its space resident.
+    #[inline(always)]
     pub fn can_ins(&self, p: ProcNo, s: SpaceNo, t: ThreadNo, place: u16, pages: u16) -> bool
         ensures { IsTrue result ↔ CanInsWith self.now.workload p self.now.state s t place pages }
     {
@@ -96,6 +98,7 @@ impl Replay {
     }
 
     /// Whether this thread runs on the processor; or, where no thread is given, none.
+    #[inline(always)]
     pub fn is_runner(&self, p: ProcNo, s: SpaceNo, t: Option<ThreadNo>) -> bool
         ensures { IsTrue result ↔ IsRunner self.now.state p s t }
     {

@@ -90,6 +90,7 @@ impl Replay {
     }
 
     /// The space that owns the processor; none owns one that the workload does not have.
+    #[inline(always)]
     pub fn owner(&self, p: ProcNo) -> Option<SpaceNo>
         ensures { result ≡ owner_at self.now.state p }
     {
@@ -107,6 +108,7 @@ impl Replay {
     }
 
     /// The thread that runs on the processor.
+    #[inline(always)]
     pub fn runner(&self, p: ProcNo) -> Option<RunningThread>
         ensures { result ≡ runner_on self.now.state p }
     {
@@ -122,6 +124,7 @@ impl Replay {
     }
 
     /// The thread; one that was not made counts as done.
+    #[inline(always)]
     pub fn thread(&self, s: SpaceNo, t: ThreadNo) -> ThreadState
         ensures { result ≡ thread_at self.now.state s t }
     {
@@ -172,6 +175,7 @@ impl Replay {
     }
 
     /// The instruction at this pc of the thread's program, and `end` where there is none.
+    #[inline(always)]
     pub fn instr_of(&self, s: SpaceNo, t: ThreadNo, pc: u16) -> Instr
         ensures { result ≡ instr_of self.now.workload self.now.state s t pc }
     {
@@ -300,6 +304,7 @@ impl Replay {
     }
 
     // The program of a thread.
+    #[inline(always)]
     fn program(&self, s: SpaceNo, t: ThreadNo) -> Option<&Program>
         ensures { let program = program_of self.now.workload self.now.state s t in
             MatchOption result (program ≡ []) (λ found. found.now ≡ program) }

@@ -56,6 +56,7 @@ impl SpaceThreads {
     }
 
     /// The thread of this number; one that was not made counts as done.
+    #[inline(always)]
     pub fn thread(&self, t: ThreadNo) -> ThreadState
         ensures { result ≡ thread_in self.now t }
     {

@@ -55,6 +55,7 @@ impl Spaces {
     }
 
     // The thread; one that was not made counts as done.
+    #[inline(always)]
     pub(crate) fn thread(&self, s: SpaceNo, t: ThreadNo) -> ThreadState
         ensures { result ≡ thread_in (space_in self.now s) t }
     {

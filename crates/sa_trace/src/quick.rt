@@ -39,6 +39,13 @@ struct SmallFront<'a> {
     rest: &'a [u8],
 }
 
+// The same, or none.
+#[derive(Clone, Copy)]
+struct FrontOrNone<'a> {
+    number: Option<u16>,
+    rest: &'a [u8],
+}
+
 // Two such numbers.
 #[derive(Clone, Copy)]
 struct Pair<'a> {
@@ -168,6 +175,23 @@ fn small(bytes: &[u8]) -> Option<SmallFront<'_>>
     Some(SmallFront {
         number: u16::from(first - b'0') * 10 + u16::from(second - b'0'),
         rest: two,
+    })
+}
+
+// The same, or a space and the mark of none.
+#[inline]
+fn small_or_none(bytes: &[u8]) -> Option<FrontOrNone<'_>>
+    requires { FIELD ≤ length bytes.now }
+    ensures text { IfSome result (λ front. bytes.now ≡ field front.number ++ front.rest.now) }
+    ensures few { IfSome result (λ front. length bytes.now ≤ length front.rest.now + FIELD) }
+{
+    if let Some(rest) = behind_two(bytes, b' ', b'-') {
+        return Some(FrontOrNone { number: None, rest });
+    }
+    let SmallFront { number, rest } = small(bytes)?;
+    Some(FrontOrNone {
+        number: Some(number),
+        rest,
     })
 }
 
@@ -349,11 +373,11 @@ fn take(fields: &[u8]) -> Option<Told<'_>>
     ensures some { IfSome result (λ told. 1 ≤ length told.rest.now) }
 {
     let front = two_fields(fields)?;
-    let SmallFront { number, rest } = small(front.rest)?;
+    let FrontOrNone { number, rest } = small_or_none(front.rest)?;
     let what = Record::Take(
         SpaceNo(front.first),
         ProcNo(front.second),
-        Some(ThreadNo(number)),
+        number.map(ThreadNo),
     );
     Some(Told { what, rest })
 }
@@ -367,11 +391,11 @@ fn free(fields: &[u8]) -> Option<Told<'_>>
     ensures some { IfSome result (λ told. 1 ≤ length told.rest.now) }
 {
     let front = two_fields(fields)?;
-    let SmallFront { number, rest } = small(front.rest)?;
+    let FrontOrNone { number, rest } = small_or_none(front.rest)?;
     let what = Record::Free(
         SpaceNo(front.first),
         ProcNo(front.second),
-        Some(ThreadNo(number)),
+        number.map(ThreadNo),
     );
     Some(Told { what, rest })
 }
