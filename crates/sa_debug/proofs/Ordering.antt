@@ -1,10 +1,11 @@
 -- The processors in order, one after another.
-use Rattle.std.proofs.Common.{◌≡◌, ℕ, ◌+◌, ◌%◌, ◌<◌, ◌≤◌, Bool, true, false, not, cond, List, [], ◌∷◌, length, map, find, get_or, drop, Option, Some, None, ◌⊎◌, inl, inr, refl, sym, ap, ◌∙◌, subst, arith}
+use Rattle.std.proofs.Common.{◌≡◌, ℕ, ◌+◌, ◌%◌, ◌<◌, ◌≤◌, Bool, true, false, cond, List, [], ◌∷◌, length, map, find, drop, Option, Some, None, ◌⊎◌, inl, inr, refl, sym, ap, ◌∙◌, subst, arith}
 use Rattle.std.specs.List.{range_with_len}
 use Rattle.std.proofs.lemmas.List.{drop_more, length-map}
 use Rattle.std.proofs.lemmas.List.FromFn.{get_or-map-range_with_len, length-range_with_len}
 use Rattle.std.specs.Prelude.{All, IfSome}
 use Rattle.std.proofs.lemmas.Option.{same_Some}
+use Rattle.std.proofs.Math.Nat.{mod-eq_of_lt}
 use Rattle.std.proofs.lemmas.Nat.{mod_below}
 use Rattle.std.proofs.lemmas.List.Elements.{All-nil, All-cons, All-head, All-tail}
 use Rattle.sa_base.specs.declared.number.ProcNo.{ProcNo}
@@ -57,6 +58,16 @@ pub found-within : (test : ProcNo → Bool) (first n : ℕ) (o : Option ProcNo) 
 found-within test first n None some is = tt
 found-within test first n (Some p) some is = find-among (λ q. q.0 < n) test (in_order first n) p (below first n some (range_with_len 0 n)) (sym is)
 
--- whether a processor goes
-pub goes-is : (inside halted : List Bool) (i j : ℕ) (is : Bool) → inside ≡ halted → i ≡ j → get_or inside i false ≡ is → not (get_or halted j false) ≡ not is
-goes-is inside halted i j is same place at = ap (λ hs. not (get_or hs j false)) (sym same) ∙ ap (λ k. not (get_or inside k false)) (sym place) ∙ ap not at
+-- the search begins with the first one
+module _ (test : ProcNo → Bool) (first n : ℕ) (within : first < n) where
+  is_first : (first + 0) % n ≡ first
+  is_first = ap (λ (i : ℕ). i % n) (omega arith) ∙ mod-eq_of_lt within
+
+  order-first : in_order first n ≡ proc_no first ∷ drop 1 (in_order first n)
+  order-first = order-next first n 0 (omega arith) ∙ ap (λ i. proc_no i ∷ drop 1 (in_order first n)) is_first
+
+  pub found-first : test (proc_no first) ≡ true → find test (in_order first n) ≡ Some (proc_no first)
+  found-first goes = find-here test (in_order first n) (proc_no first) (drop 1 (in_order first n)) order-first goes
+
+  pub missed-first : test (proc_no first) ≡ false → find test (in_order first n) ≡ find test (drop 1 (in_order first n))
+  missed-first fails = find-next test (in_order first n) (proc_no first) (drop 1 (in_order first n)) order-first fails

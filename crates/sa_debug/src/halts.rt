@@ -1,6 +1,7 @@
 // Which processors are halted, and whose turn is next.
-ghost use Rattle.std.specs.Prelude.{◌≡◌, ◌<◌, ◌≤◌, find, slice_set};
+ghost use Rattle.std.specs.Prelude.{◌≡◌, ◌<◌, ◌≤◌, ◌%◌, find, slice_set};
 ghost use Rattle.sa_base.specs.declared.limits.TheConstants.{MAX_PROCESSORS};
+ghost use Rattle.sa_assign.specs.Reaim.{proc_no};
 ghost use Rattle.sa_debug.specs.Order.{goes, in_order};
 
 use sa_base::{MAX_PROCESSORS, ProcNo};
@@ -40,18 +41,41 @@ impl Halts {
         self.halted[usize::from(p.0)] = halted;
     }
 
+    // Whether the processor is not halted.
+    fn goes(&self, p: u16) -> bool
+        requires { p < MAX_PROCESSORS }
+        ensures { result ≡ goes self.now (proc_no p) }
+    {
+        !self.halted[usize::from(p)]
+    }
+
     /// The first of the processors that is not halted, cyclically from this one on.
     pub(crate) fn next(&self, first: u16, processors: u16) -> Option<ProcNo>
         requires few { processors ≤ MAX_PROCESSORS }
         requires first { first < processors }
         ensures { result ≡ find (goes self.now) (in_order first processors) }
     {
-        for k in 0..processors {
-            let p = ProcNo((first + k) % processors);
-            if !self.halted[usize::from(p.0)] {
-                return Some(p);
+        if self.goes(first) {
+            return Some(ProcNo(first));
+        }
+        for k in 1..processors {
+            let p = cyclic(u32::from(first) + u32::from(k), processors);
+            if self.goes(p) {
+                return Some(ProcNo(p));
             }
         }
         None
     }
+}
+
+/// The number of the processor that is the `n`-th behind processor 0, cyclically.
+pub(crate) fn cyclic(n: u32, processors: u16) -> u16
+    requires { 1 ≤ processors }
+    ensures cyclic { result ≡ n % processors }
+    ensures below { result < processors }
+{
+    if n < u32::from(processors) {
+        return n as u16;
+    }
+    (n % u32::from(processors)) as u16
 }

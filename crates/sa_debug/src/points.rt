@@ -60,6 +60,13 @@ impl Points {
         self.points.iter().any(|other| is_same(point, *other))
     }
 
+    /// Whether there is no breakpoint.
+    pub(crate) fn is_empty(&self) -> bool
+        ensures { IsTrue result ↔ (self.now ≡ []) }
+    {
+        self.points.is_empty()
+    }
+
     /// Whether there are as many breakpoints as there may be.
     pub(crate) fn is_full(&self) -> bool
         ensures { IsTrue result ↔ (MAX_POINTS ≤ length self.now) }

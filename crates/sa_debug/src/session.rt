@@ -11,7 +11,7 @@ ghost use Rattle.sa_debug.specs.OverMachines.{over_machines, session};
 ghost use Rattle.sa_debug.specs.Reached.{IsPlayable};
 
 use crate::follow::Follower;
-use crate::halts::Halts;
+use crate::halts::{Halts, cyclic};
 use crate::points::Points;
 use sa_abstract::{SeatState, UserLevel};
 use sa_base::{End, ProcNo, SpaceNo, ThreadNo, Trace};
@@ -212,6 +212,9 @@ impl<U: UserLevel> Session<U> {
         let Some(p) = self.next() else {
             return Err(Reply::Halted);
         };
+        if self.points.is_empty() {
+            return Ok(p);
+        }
         if let Some(point) = self.point_at(p) {
             self.set_halt(p, true);
             return Err(Reply::AtBreak(p, point));
@@ -245,6 +248,7 @@ impl<U: UserLevel> Session<U> {
     }
 
     // The breakpoint at which the processor stands.
+    #[inline(never)]
     fn point_at(&self, p: ProcNo) -> Option<Point>
         requires { p.0 < (machine self.now.core).workload.processors }
         ensures { result ≡ point_at (over_machines U.calls self.now.core.budget) (session self.now) p }
@@ -306,5 +310,5 @@ fn following(p: ProcNo, processors: u16) -> u16
     ensures following { result ≡ (p.0 + 1) % processors }
     ensures below { result < processors }
 {
-    ((u32::from(p.0) + 1) % u32::from(processors)) as u16
+    cyclic(u32::from(p.0) + 1, processors)
 }

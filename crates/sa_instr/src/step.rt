@@ -9,6 +9,7 @@ use crate::regs::Regs;
 
 /// Does the instruction at the place `pc` where it is `Compute`, `Set`, `Add`, `Sub` or `Jnz`, and says so
 /// by `Went`. At any other instruction it changes nothing. It cannot fail for want of memory.
+#[inline(always)]
 pub fn local(program: &Program, regs: &mut Regs, pc: &mut u16) -> Local
     requires { pc.old < length program.now }
     ensures answer { result ≡ local_answer (instr_at program.now pc.old) }

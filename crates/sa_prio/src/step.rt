@@ -7,7 +7,7 @@ ghost use Rattle.sa_package_model.specs.Context.{carried_by};
 ghost use Rattle.sa_prio_model.specs.Conditions.{CanRank, Steps};
 ghost use Rattle.sa_prio_model.specs.Stands.{prio_stands};
 ghost use Rattle.sa_prio_model.specs.Step.{left_on, goes, gives_way, urged, again, served, stepped};
-ghost use Rattle.sa_prio_model.specs.Urge.{came_out};
+ghost use Rattle.sa_prio_model.specs.Urge.{came_out, may_settle};
 
 use crate::threads::PrioThreads;
 use sa_abstract::Step;
@@ -35,6 +35,9 @@ impl PrioThreads {
         if ctx.urge {
             return;
         }
+        if !may_settle(ctx.base.state) {
+            return;
+        }
         let before = ctx.base.state;
         self.base.settle_again(seen, &mut ctx.base);
         ctx.urge = came_out(before, ctx.base.state) && self.has_pair(seen);
@@ -55,6 +58,7 @@ impl PrioThreads {
 
     // A context with the mark serves a pair: its own thread gives way, or another processor is interrupted. Where no pair is
     // left, it settles without an event, and goes on.
+    #[inline(never)]
     fn urge(&mut self, seen: &Seen, ctx: &mut PrioContext, trace: &mut Trace) -> Step
         requires turn { IsStep prio_stands self.old seen.now ctx.old }
         requires mark { ctx.old.urge ≡ true }
@@ -91,6 +95,7 @@ impl PrioThreads {
     }
 
     // A step of FastThreads. After it the context may have come to an instruction or a look where a pair exists.
+    #[inline(always)]
     fn go(&mut self, seen: &Seen, ctx: &mut PrioContext, trace: &mut Trace) -> Step
         requires turn { IsStep prio_stands self.old seen.now ctx.old }
         requires room { 2 ≤ trace.old.spare }
@@ -123,4 +128,11 @@ fn came_out(before: ContextState, after: ContextState) -> bool
         | (ContextState::Look(_), ContextState::Look(_)) => false,
         _ => !after.is_inside(),
     }
+}
+
+// Whether a context in this state may settle without an event; one in another state stays as it is.
+fn may_settle(state: ContextState) -> bool
+    ensures { result ≡ may_settle state }
+{
+    matches!(state, ContextState::Hint(_) | ContextState::Return)
 }

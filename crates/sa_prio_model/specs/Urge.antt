@@ -3,7 +3,7 @@ use Rattle.std.specs.Prelude.{Bool, true, false, not, ◌&&◌}
 use Rattle.sa_base.specs.declared.context.Seen.{Seen}
 use Rattle.sa_package_model.specs.declared.context.Context.{Context}
 use Rattle.sa_package_model.specs.declared.context.ContextState.{ContextState}
-use Rattle.sa_package_model.specs.declared.context.ContextState.TheVariants.{User, Look}
+use Rattle.sa_package_model.specs.declared.context.ContextState.TheVariants.{Hint, Return, User, Look}
 use Rattle.sa_package_model.specs.Context.{carried_by, stands_inside}
 use Rattle.sa_package_model.specs.Rules.{settled}
 use Rattle.sa_prio_model.specs.declared.context.PrioContext.{PrioContext}
@@ -33,3 +33,9 @@ remains_out before after = false
 
 abbrev pub came_out : ContextState → ContextState → Bool
 came_out before after = is_out after && not (remains_out before after)
+
+-- a context that may settle without an event: it is to send a hint, or to give activations back
+abbrev pub may_settle : ContextState → Bool
+may_settle (Hint t) = true
+may_settle Return = true
+may_settle state = false

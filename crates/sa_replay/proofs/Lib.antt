@@ -1,5 +1,6 @@
 pub mod CountLemmas
 pub mod ShapeLemmas
+pub mod LocalLemmas
 pub mod JoinerLemmas
 pub mod OpeningLemmas
 pub mod TotalLemmas

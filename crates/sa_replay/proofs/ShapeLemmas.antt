@@ -42,7 +42,7 @@ alone x t place after sync goes waits numbers = record {
   numbers = numbers;
 }
 
-own : (x : SpaceState) (t : ThreadNo) (place : Place) (after : Thread) → StaysOrRests place after.place → IsShaped x t place (with_thread x t after)
+pub own : (x : SpaceState) (t : ThreadNo) (place : Place) (after : Thread) → StaysOrRests place after.place → IsShaped x t place (with_thread x t after)
 own x t place after goes = alone x t place after x.sync goes (λ u waits. inl waits) (same_numbers x.sync)
 
 -- a call of what the threads wait on

@@ -3,6 +3,7 @@ pub mod Running
 pub mod Sound
 pub mod Space
 pub mod Shape
+pub mod Local
 pub mod Spaces
 pub mod Replayed
 pub mod Needs

@@ -89,7 +89,9 @@ fn go(def: &SpaceDef, table: &mut Threads, t: ThreadNo, thread: &ThreadState)
     }) }
 {
     let program = &def.programs()[usize::from(thread.program())];
-    table.set(t, &thread.went(program));
+    let mut after = *thread;
+    after.goes(program);
+    table.set(t, &after);
 }
 
 // The thread goes on to the place after its instruction.

@@ -219,6 +219,7 @@ impl Replay {
 
     /// Takes a record of processor `p`, whose needs hold. An error says that it is an instruction that signals a
     /// semaphore whose count is 2^32 - 1, and changes nothing but that no thread is roused.
+    #[inline(always)]
     pub fn change(&mut self, p: ProcNo, what: &Record) -> Result<(), AllocError>
         requires { CanChange self.old.workload p self.old.state what.now }
         ensures ok { OnOk result (self.new ≡ after p self.old what.now) }
@@ -242,6 +243,7 @@ impl Replay {
     }
 
     // The thread, which runs on the processor, runs its next instruction. An error changes nothing.
+    #[inline(always)]
     fn go(&mut self, p: ProcNo, s: SpaceNo, t: ThreadNo) -> Result<(), AllocError>
         requires can { CanGo self.old.workload p self.old.state s t }
         requires empty { self.old.roused ≡ [] }
@@ -251,14 +253,14 @@ impl Replay {
         ensures err { OnErr result (self.new ≡ self.old) }
     {
         let def = space_def(&self.workload, s);
-        self.spaces.run(def, s, t, &mut self.roused)?;
-        if !is_running(self.spaces.thread(s, t).place()) {
+        if !self.spaces.run(def, s, t, &mut self.roused)? {
             self.runners[usize::from(p.0)] = None;
         }
         Ok(())
     }
 
     // The thread, which runs on the processor, if one does, runs there no more.
+    #[inline(never)]
     fn leave(&mut self, p: ProcNo, s: SpaceNo, t: Option<ThreadNo>, place: Place)
         requires runs { IsRunner self.old.state p s t }
         requires place { is_running place ≡ false }
@@ -271,6 +273,7 @@ impl Replay {
     }
 
     // Puts the thread, if there is one, which runs nowhere, in another place where it runs nowhere.
+    #[inline(never)]
     fn put(&mut self, s: SpaceNo, t: Option<ThreadNo>, place: Place)
         requires can { CanPut self.old.state s t }
         requires place { is_running place ≡ false }
@@ -282,6 +285,7 @@ impl Replay {
     }
 
     // The thread, if there is one, which runs nowhere, runs on the processor, where none runs.
+    #[inline(never)]
     fn enter(&mut self, p: ProcNo, s: SpaceNo, t: Option<ThreadNo>)
         requires owned { owner_at self.old.state p ≡ Some s }
         requires nobody { NobodyRuns self.old.state p }
@@ -320,13 +324,6 @@ fn space_def(workload: &Workload, s: SpaceNo) -> &SpaceDef
     ensures { result.now ≡ space_def workload.now s }
 {
     &workload.spaces()[usize::from(s.0)]
-}
-
-// Whether a thread there runs.
-fn is_running(place: Place) -> bool
-    ensures { result ≡ is_running place }
-{
-    matches!(place, Place::Running(_))
 }
 
 // The runner of a processor in a list.

@@ -3,10 +3,10 @@ ghost use Rattle.std.specs.Prelude.{◌≡◌, ◌↔◌, ◌≤◌, ◌<◌, tr
 ghost use Rattle.std.specs.List.{list_all};
 ghost use Rattle.sa_laws.specs.State.{opening_space, thread_in, put_thread, is_due, active_threads};
 ghost use Rattle.sa_laws.specs.Ends.{are_done, are_at_rest};
-ghost use Rattle.sa_replay.specs.Running.{instr_in, CanRun, IsFull, can_move};
+ghost use Rattle.sa_replay.specs.Running.{instr_in, CanRun, IsFull, can_move, is_running};
 ghost use Rattle.sa_replay.specs.Space.{HasRoom};
 ghost use Rattle.sa_replay.specs.Counts.{is_ready, count_in};
-ghost use Rattle.sa_replay.specs.Spaces.{space_in, with_space_in, HasRun};
+ghost use Rattle.sa_replay.specs.Spaces.{space_in, with_space_in, place_in, HasRun};
 
 use crate::space::SpaceThreads;
 use crate::table::moved;
@@ -148,8 +148,34 @@ impl Spaces {
         self.restless = moved(self.restless, restless, !space.are_at_rest());
     }
 
-    // Runs the next instruction of a thread. An error changes nothing.
+    // Runs the next instruction of a thread; whether the thread runs on. An error changes nothing.
+    #[inline(always)]
     pub(crate) fn run(
+        &mut self,
+        def: &SpaceDef,
+        s: SpaceNo,
+        t: ThreadNo,
+        roused: &mut Vec<ThreadNo>,
+    ) -> Result<bool, AllocError>
+        requires can { CanRun def.now (space_in self.old s) t }
+        requires room { HasRoom roused.old }
+        ensures ok { OnOk result (HasRun self.old def.now s t self.new roused.new.items) }
+        ensures runs { IfOk result (λ runs. runs ≡ is_running (place_in self.new s t)) }
+        ensures full { IsErr result ↔ IsFull (space_in self.old s).sync
+            (instr_in def.now (thread_in (space_in self.old s) t)) }
+        ensures err { OnErr result ((self.new ≡ self.old) × (roused.new.items ≡ [])) }
+        ensures room { vec_capacity roused.new ≡ vec_capacity roused.old }
+    {
+        if self.spaces[usize::from(s.0)].goes(def, t) {
+            return Ok(true);
+        }
+        self.act(def, s, t, roused)?;
+        Ok(is_running(self.thread(s, t).place()))
+    }
+
+    // Runs the next instruction of a thread, whichever it is. An error changes nothing.
+    #[inline(never)]
+    fn act(
         &mut self,
         def: &SpaceDef,
         s: SpaceNo,
@@ -182,4 +208,11 @@ fn opening_spaces(alloc: Global, defs: &[SpaceDef]) -> Result<Vec<SpaceThreads>,
         spaces.push(SpaceThreads::new(alloc, def)?)?;
     }
     Ok(spaces)
+}
+
+// Whether a thread there runs.
+fn is_running(place: Place) -> bool
+    ensures { result ≡ is_running place }
+{
+    matches!(place, Place::Running(_))
 }

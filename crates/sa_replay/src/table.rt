@@ -1,14 +1,17 @@
 // The threads of a space by their numbers.
-ghost use Rattle.std.specs.Prelude.{◌≡◌, ◌<◌, ◌≤◌, ◌+◌, [], ◌∷◌, ◌++◌, length, cond, IfOk, slice_index_or, slice_set};
+ghost use Rattle.std.specs.Prelude.{◌≡◌, ◌<◌, ◌≤◌, ◌+◌, [], ◌∷◌, ◌++◌, false, length, cond, IfOk, slice_index_or, slice_set};
 ghost use Rattle.std.specs.List.{list_all};
 ghost use Rattle.sa_laws.specs.declared.place.Place.TheVariants as places;
 ghost use Rattle.sa_laws.specs.State.{at_start, is_active};
 ghost use Rattle.sa_laws.specs.Ends.{is_done, is_at_rest};
 ghost use Rattle.sa_replay.specs.Counts.{is_ready, is_live, is_restless, count_in};
+ghost use Rattle.sa_replay.specs.Running.{instr_in, IsAt};
+ghost use Rattle.sa_replay.specs.Local.{is_local, gone_by};
 
 use crate::thread::ThreadState;
 use sa_base::{MAX_THREADS, ThreadNo};
 use sa_laws::Place;
+use sa_spaces::SpaceDef;
 use std::alloc::{AllocError, Global};
 use std::marker::Model;
 
@@ -87,6 +90,22 @@ impl Threads {
         self.live = moved(self.live, is_live(old), is_live(new));
         self.restless = moved(self.restless, is_restless(old), is_restless(new));
         self.threads[usize::from(t.0)] = *thread;
+    }
+
+    /// Runs the next instruction of a thread, of the space that `def` declares, where it stays within the thread; whether it
+    /// does.
+    #[inline(always)]
+    pub fn goes(&mut self, t: ThreadNo, def: &SpaceDef) -> bool
+        requires made { t.0 < length self.old }
+        requires at { IsAt def.now (slice_index_or self.old t.0 (at_start 0 places.Done)) }
+        ensures local { let thread = slice_index_or self.old t.0 (at_start 0 places.Done) in
+            result ≡ is_local (instr_in def.now thread) }
+        ensures threads { let thread = slice_index_or self.old t.0 (at_start 0 places.Done) in
+            self.new ≡ slice_set self.old t.0 (gone_by (instr_in def.now thread) thread) }
+        ensures other { result ≡ false → self.new ≡ self.old }
+    {
+        let thread = &mut self.threads[usize::from(t.0)];
+        thread.goes(&def.programs()[usize::from(thread.program())])
     }
 
     /// Adds a thread, which gets the next number.

@@ -1,10 +1,11 @@
 // One thread.
-ghost use Rattle.std.specs.Prelude.{◌≡◌, ◌+◌, ◌<◌, ◌^◌, length};
-ghost use Rattle.sa_instr.specs.Local.{instr_at, pc_after, regs_after};
+ghost use Rattle.std.specs.Prelude.{◌≡◌, ◌+◌, ◌<◌, ◌^◌, false, length};
+ghost use Rattle.sa_instr.specs.Local.{instr_at};
 ghost use Rattle.sa_laws.specs.State.{at_start};
 ghost use Rattle.sa_laws.specs.Effect.{next, next_with};
+ghost use Rattle.sa_replay.specs.Local.{is_local, gone_by};
 
-use sa_instr::{Program, Reg, Regs, local};
+use sa_instr::{Local, Program, Reg, Regs, local};
 use sa_laws::Place;
 use std::marker::Model;
 
@@ -98,14 +99,14 @@ impl ThreadState {
         thread
     }
 
-    // The thread after an instruction that stays within it.
-    pub(crate) fn went(&self, program: &Program) -> ThreadState
-        requires { self.now.pc < length program.now }
-        ensures { let instr = instr_at program.now self.now.pc in
-            result ≡ record self.now { pc = pc_after instr self.now.pc self.now.regs; regs = regs_after instr self.now.regs } }
+    // Runs the next instruction of the program, where it stays within the thread; whether it does.
+    #[inline(always)]
+    pub(crate) fn goes(&mut self, program: &Program) -> bool
+        requires { self.old.pc < length program.now }
+        ensures goes { result ≡ is_local (instr_at program.now self.old.pc) }
+        ensures thread { self.new ≡ gone_by (instr_at program.now self.old.pc) self.old }
+        ensures other { result ≡ false → self.new ≡ self.old }
     {
-        let mut thread = *self;
-        local(program, &mut thread.regs, &mut thread.pc);
-        thread
+        matches!(local(program, &mut self.regs, &mut self.pc), Local::Went)
     }
 }

@@ -1,4 +1,4 @@
-use Rattle.std.proofs.Common.{◌≡◌, ◌≤◌, ◌∙◌, sym, ap, subst, length, None, arith}
+use Rattle.std.proofs.Common.{◌≤◌, ◌∙◌, sym, ap, subst, length, None, arith}
 use Rattle.std.proofs.lemmas.List.{get_or_past}
 use Rattle.sa_laws.specs.State.{runner_on}
 use Rattle.sa_replay.specs.Replayed.{Replayed}

@@ -1,0 +1,94 @@
+-- An instruction that stays within its thread leaves where the thread is.
+use Rattle.std.proofs.Common.{◌≡◌, ℕ, zero, suc, ◌<◌, Bool, true, false, ◌&&◌, List, [], ◌∷◌, length, get_or, set, inl, refl, sym, ap, subst, ◌∙◌}
+use Rattle.std.specs.List.{list_all}
+use Rattle.std.proofs.lemmas.List.{get_or-set_same}
+use Rattle.sa_base.specs.declared.number.ThreadNo.{ThreadNo}
+use Rattle.sa_instr.specs.declared.instr.Instr.{Instr}
+use Rattle.sa_instr.specs.declared.instr.Instr.TheVariants.{Compute, Set, Add, Sub, Jnz, Load, Store, Out, Fork, Join, Lock, Unlock, Wait, Signal, Io, Touch, End}
+use Rattle.sa_spaces.specs.Space.{SpaceView}
+use Rattle.sa_sync.specs.Sync.{Sync}
+use Rattle.sa_laws.specs.declared.place.Place.TheVariants as places
+use Rattle.sa_laws.specs.State.{Thread, SpaceState, at_start, thread_in, with_thread}
+use Rattle.sa_laws.specs.Effect.{effect, effect_of}
+use Rattle.sa_laws.specs.Ends.{is_done, is_at_rest}
+use Rattle.sa_replay.specs.Running.{instr_in, is_running, CanRun, IsFull}
+use Rattle.sa_replay.specs.Shape.{IsShaped}
+use Rattle.sa_replay.specs.Local.{is_local, gone_by, GoesOn}
+use Rattle.sa_replay.proofs.ShapeLemmas.{own, was_made}
+
+-- what such an instruction does is the local effect
+effect_is : (x : SpaceState) (t : ThreadNo) (thread : Thread) (instr : Instr) → is_local instr ≡ true
+    → effect_of x t thread instr ≡ effect (with_thread x t (gone_by instr thread)) []
+effect_is x t thread Compute is = refl
+effect_is x t thread (Set reg n) is = refl
+effect_is x t thread (Add reg other) is = refl
+effect_is x t thread (Sub reg other) is = refl
+effect_is x t thread (Jnz reg place) is = refl
+effect_is x t thread (Load reg cell) is = absurd cc
+effect_is x t thread (Store reg cell) is = absurd cc
+effect_is x t thread (Out reg) is = absurd cc
+effect_is x t thread (Fork reg program) is = absurd cc
+effect_is x t thread (Join reg) is = absurd cc
+effect_is x t thread (Lock m) is = absurd cc
+effect_is x t thread (Unlock m) is = absurd cc
+effect_is x t thread (Wait k) is = absurd cc
+effect_is x t thread (Signal k) is = absurd cc
+effect_is x t thread (Io n) is = absurd cc
+effect_is x t thread (Touch page) is = absurd cc
+effect_is x t thread End is = absurd cc
+
+-- it signals no semaphore
+has_room : (sync : Sync) (instr : Instr) → is_local instr ≡ true → IsFull sync instr → ⊥
+has_room sync (Signal k) is full = absurd cc
+has_room sync Compute is full = full
+has_room sync (Set reg n) is full = full
+has_room sync (Add reg other) is full = full
+has_room sync (Sub reg other) is full = full
+has_room sync (Jnz reg place) is full = full
+has_room sync (Load reg cell) is full = full
+has_room sync (Store reg cell) is full = full
+has_room sync (Out reg) is full = full
+has_room sync (Fork reg program) is full = full
+has_room sync (Join reg) is full = full
+has_room sync (Lock m) is full = full
+has_room sync (Unlock m) is full = full
+has_room sync (Wait k) is full = full
+has_room sync (Io n) is full = full
+has_room sync (Touch page) is full = full
+has_room sync End is full = full
+
+-- a test that cannot tell a thread from the one in its place
+all-set : {A : Type 0} (test : A → Bool) (xs : List A) (i : ℕ) (y d : A) → test y ≡ test (get_or xs i d) → list_all test (set xs i y) ≡ list_all test xs
+all-set test [] i y d same = refl
+all-set test (x ∷ xs) zero y d same = ap (λ b. b && list_all test xs) same
+all-set test (x ∷ xs) (suc i) y d same = ap (λ b. test x && b) (all-set test xs i y d same)
+
+-- a thread that runs was made
+pub runs_made : (def : SpaceView) (x : SpaceState) (t : ThreadNo) → CanRun def x t → t.0 < length x.threads
+runs_made def x t can = was_made x t (λ done. let both : true ≡ false = sym can.runs ∙ ap is_running done in cc)
+
+module _ (def : SpaceView) (x : SpaceState) (t : ThreadNo) (new : List Thread) (can : CanRun def x t)
+    (local : is_local (instr_in def (thread_in x t)) ≡ true) where
+  abbrev after : Thread
+  after = gone_by (instr_in def (thread_in x t)) (thread_in x t)
+
+  abbrev pub now : SpaceState
+  now = record x { threads = new }
+
+  pub goes_on : new ≡ set x.threads t.0 after → GoesOn def x t now
+  goes_on gone =
+      let is : with_thread x t after ≡ now = ap (λ (threads : List Thread). record x { threads = threads }) (sym gone) in
+      record {
+        room = has_room x.sync (instr_in def (thread_in x t)) local;
+        effect = effect_is x t (thread_in x t) (instr_in def (thread_in x t)) local ∙ ap (λ (y : SpaceState). effect y []) is;
+        shape = subst (λ (y : SpaceState). IsShaped x t (thread_in x t).place y) is (own x t (thread_in x t).place after (inl refl));
+        place =
+            ap (λ (y : SpaceState). (thread_in y t).place) (sym is)
+            ∙ ap (λ (y : Thread). y.place) (get_or-set_same x.threads t.0 after (at_start 0 places.Done) (runs_made def x t can));
+        done =
+            ap (λ (threads : List Thread). list_all (λ (y : Thread). is_done y.place) threads) gone
+            ∙ all-set (λ (y : Thread). is_done y.place) x.threads t.0 after (at_start 0 places.Done) refl;
+        rest =
+            ap (λ (threads : List Thread). list_all (λ (y : Thread). is_at_rest y.place) threads) gone
+            ∙ all-set (λ (y : Thread). is_at_rest y.place) x.threads t.0 after (at_start 0 places.Done) refl;
+      }
