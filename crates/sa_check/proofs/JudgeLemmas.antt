@@ -1,6 +1,7 @@
 -- One event is judged.
-use Rattle.std.proofs.Common.{◌≡◌, ◌↔◌, sym, ◌∙◌, ap, subst, Bool, false, [], Option}
+use Rattle.std.proofs.Common.{◌≡◌, ◌↔◌, sym, ◌∙◌, ap, subst, Bool, true, false, [], Option, Some, None}
 use Rattle.std.specs.Prelude.{not, find, IsTrue, MatchOption}
+use Rattle.std.specs.List.{list_all}
 use Rattle.sa_spaces.specs.Workload.{WorkloadView}
 use Rattle.sa_laws.specs.declared.rule.Rule.{Rule}
 use Rattle.sa_laws.specs.declared.rule.Rule.TheVariants.{Numbered, Stepwise}
@@ -13,14 +14,15 @@ use Rattle.sa_laws.specs.Ends.{LastLine}
 use Rattle.sa_laws.specs.Rules.{UserRules, HoldEach, Breaks, rules}
 use Rattle.sa_base.specs.declared.number.ActNo.{ActNo}
 use Rattle.sa_check_moment.specs.Rules.{rules_of}
-use Rattle.sa_check_moment.specs.Seen.{Seen, at_event, at_end}
+use Rattle.sa_check_moment.specs.Seen.{Seen, seen, at_event, at_end}
 use Rattle.sa_check.specs.declared.begin.Beginning.{Beginning}
 use Rattle.sa_check.specs.declared.end.Ending.{Ending}
 use Rattle.sa_check.specs.declared.findings.Findings.{Findings}
+use Rattle.sa_check.specs.declared.judge.Between.{Between}
 use Rattle.sa_check.specs.declared.records.ReadThrough.{ReadThrough}
 use Rattle.sa_check.specs.Findings.{found_of}
-use Rattle.sa_check.specs.Judged.{findings_of, after}
-use Rattle.sa_check.specs.Quiet.{IsQuietAt, IsQuietFrom, IsSettled, WasSettled}
+use Rattle.sa_check.specs.Judged.{findings_of, judged_by, after, Judges}
+use Rattle.sa_check.specs.Quiet.{is_quiet_record, NothingIsDue, IsCalmIf, IsQuietAt, IsSettled, WasSettled}
 use Rattle.sa_check.specs.Places.{HasShares}
 use Rattle.sa_check.specs.Records.{behind_some, IsReadThrough}
 use Rattle.sa_check.specs.Sides.{IsBeginning, IsEnding}
@@ -70,7 +72,17 @@ judged-so m start next e last b running through ending numbered begins starts re
     (sym (found ∙ ap (λ (g : Findings). find (λ rule. not (found_of g rule)) rules) is))
     (outcome m start next e last b running through ending numbered begins starts read ends after_it)
 
--- a quiet event, after an event that left all as it must be
+-- so an event is judged by its findings
+pub judges : (m : Seen) (e : Event) (last : Option LastLine) (first : Option Rule) (now : Between) → FirstIs (rules_of m.rules) m.workload m.readings e last first
+    → seen now.moment ≡ after m e → IsCalmIf now.calm (seen now.moment).workload (seen now.moment).readings → Judges m e last (judged_by first now)
+judges m e last None now holds next calm = record { right = record { holds = holds; next = next }; calm = calm }
+judges m e last (Some rule) now breaks next calm = breaks
+
+-- a quiet event that begins with this moment, after an event that left all as it must be
+pub record IsQuietFrom (m : Seen) (e : Event) : Type 0 where
+  pub quiet : list_all is_quiet_record e.records ≡ true
+  pub none : NothingIsDue m e
+
 pub quiet-from : (m start : Seen) (e : Event) → IsNumbered m.workload m.readings e → WasSettled m.workload m.readings → start ≡ at_event e.number e.proc m
     → IsQuietAt m e → IsQuietFrom start e
 quiet-from m start e numbered settled begins at =

@@ -1,5 +1,6 @@
 -- How an event is judged.
-use Rattle.std.specs.Prelude.{◌≡◌, ℕ, ◌==◌, ◌&&◌, ◌||◌, Option}
+use Rattle.std.specs.Prelude.{◌≡◌, ℕ, ◌==◌, ◌&&◌, ◌||◌, Option, Some, None}
+use Rattle.sa_laws.specs.declared.rule.Rule.{Rule}
 use Rattle.sa_laws.specs.Event.{Event}
 use Rattle.sa_laws.specs.History.{after_event}
 use Rattle.sa_laws.specs.Ends.{LastLine}
@@ -34,6 +35,11 @@ findings_of number beginning laws due ending = record {
   order_kept = beginning.order_kept;
   end_told = ending.end_told;
 }
+
+-- what an event comes to, by the first rule that does not hold and what comes after it where there is none
+abbrev pub judged_by : Option Rule → Between → Judged
+judged_by None now = Right now
+judged_by (Some rule) now = Broken rule
 
 -- the moment after an event
 abbrev pub after : Seen → Event → Seen

@@ -3,8 +3,9 @@ use Rattle.std.specs.Prelude.{◌≡◌, ◌≢◌, ◌↔◌, ℕ, ◌≤◌, B
 use Rattle.sa_base.specs.declared.number.ActNo.{ActNo}
 use Rattle.sa_share.specs.Share.{share_at}
 use Rattle.sa_assign.specs.Aims.{aimed}
+use Rattle.sa_spaces.specs.Workload.{WorkloadView}
 use Rattle.sa_laws.specs.Event.{Event}
-use Rattle.sa_laws.specs.Readings.{life_if}
+use Rattle.sa_laws.specs.Readings.{Readings, life_if}
 use Rattle.sa_laws.specs.Closing.{wants_due, aims_due, lines_due, shares_at}
 use Rattle.sa_laws.specs.Shape.{others_of, wants_in, lines_in, aims_in, last_lines}
 use Rattle.sa_check_moment.specs.Seen.{Seen}
@@ -22,9 +23,12 @@ pub record AimsAreDue (m : Seen) (e : Event) : Type 0 where
 pub record LinesAreDue (m : Seen) (e : Event) : Type 0 where
   pub due : lines_in (last_lines e.records) ≡ lines_due m.workload m.readings
 
--- each space has its share of aims at a moment of an event of this number
+-- each space has its share of aims, by what is read and at a moment of an event of this number
+abbrev pub AreCovered : WorkloadView → ℕ → Readings → Type 0
+AreCovered w n r = (s : ℕ) → share_at (shares_at w n r) s ≤ aimed s r.aims
+
 abbrev pub HasShares : Seen → ℕ → Type 0
-HasShares m n = (s : ℕ) → share_at (shares_at m.workload n m.readings) s ≤ aimed s m.readings.aims
+HasShares m n = AreCovered m.workload n m.readings
 
 -- by rules of ranks: the life of this number is in use, and a pair of its space exists
 abbrev pub urged_at : Seen → Option ActNo → Bool

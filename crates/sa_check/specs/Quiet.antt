@@ -1,19 +1,17 @@
 -- Events that change nothing of which owners, shares, wants and what is told in time are.
-use Rattle.std.specs.Prelude.{◌≡◌, ℕ, ◌+◌, ◌-◌, ◌==◌, ◌≤◌, nat_lt, Bool, true, false, ◌&&◌, is_none, map, [], IsTrue}
+use Rattle.std.specs.Prelude.{◌≡◌, ℕ, ◌+◌, ◌-◌, ◌==◌, nat_lt, Bool, true, false, ◌&&◌, is_none, map, [], IsTrue}
 use Rattle.std.specs.List.{list_all}
 use Rattle.sa_base.specs.declared.number.SpaceNo.{SpaceNo}
 use Rattle.sa_base.specs.declared.record.Record.{Record}
 use Rattle.sa_base.specs.declared.record.Record.TheVariants.{Ins, Out, Run, Cont, Back, Ready, Take, Free, Idle, Spin, Tick}
-use Rattle.sa_share.specs.Share.{share_at}
-use Rattle.sa_assign.specs.Aims.{aimed}
 use Rattle.sa_spaces.specs.Workload.{WorkloadView}
 use Rattle.sa_laws.specs.Event.{Event}
 use Rattle.sa_laws.specs.Readings.{Readings, space_of_life, line_of}
-use Rattle.sa_laws.specs.Closing.{first_space, shares_at, must_want, lines_due}
+use Rattle.sa_laws.specs.Closing.{first_space, must_want, lines_due}
 use Rattle.sa_laws.specs.Upcalls.{IsPrompt}
 use Rattle.sa_laws.specs.Shape.{before_aims, before_wants, front_part}
 use Rattle.sa_check_moment.specs.Seen.{Seen}
-use Rattle.sa_check.specs.Places.{WantsAreDue, AimsAreDue, LinesAreDue}
+use Rattle.sa_check.specs.Places.{WantsAreDue, AimsAreDue, LinesAreDue, AreCovered}
 use Rattle.sa_check.specs.Records.{behind_some}
 
 -- a record that changes no demand, no aim, no line, no I/O under way, no owner, nothing untold, and neither which lives
@@ -44,7 +42,7 @@ is_quiet w r e = is_none (line_of r e.proc) && (keeps_first w e.number && list_a
 -- each space has at least its share of aims, none must want, and each is told in time
 pub record IsSettled (w : WorkloadView) (n : ℕ) (r : Readings) : Type 0 where
   pub owned : r.state.owners ≡ map (space_of_life r) r.running
-  pub covered : (s : ℕ) → share_at (shares_at w n r) s ≤ aimed s r.aims
+  pub covered : AreCovered w n r
   pub wants : (s : SpaceNo) → must_want r s ≡ false
   pub prompt : IsPrompt r
 
@@ -66,7 +64,3 @@ pub record NothingIsDue (m : Seen) (e : Event) : Type 0 where
 pub record IsQuietAt (m : Seen) (e : Event) : Type 0 where
   pub quiet : is_quiet m.workload m.readings e ≡ true
   pub calm : lines_due m.workload m.readings ≡ []
-
-pub record IsQuietFrom (m : Seen) (e : Event) : Type 0 where
-  pub quiet : list_all is_quiet_record e.records ≡ true
-  pub none : NothingIsDue m e

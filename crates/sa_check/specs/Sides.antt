@@ -1,11 +1,9 @@
 -- What is found before an event and after it.
-use Rattle.std.specs.Prelude.{◌≡◌, ◌↔◌, ℕ, ◌≤◌, false, List, [], ◌∷◌, map, IsTrue, Option, Some, None}
+use Rattle.std.specs.Prelude.{◌≡◌, ◌↔◌, ℕ, false, List, [], ◌∷◌, map, IsTrue, Option, Some, None}
 use Rattle.sa_base.specs.declared.number.SpaceNo.{SpaceNo}
-use Rattle.sa_share.specs.Share.{share_at}
-use Rattle.sa_assign.specs.Aims.{aimed}
 use Rattle.sa_laws.specs.Event.{Event}
 use Rattle.sa_laws.specs.Readings.{Readings, space_of_life}
-use Rattle.sa_laws.specs.Closing.{shares_at, must_want}
+use Rattle.sa_laws.specs.Closing.{must_want}
 use Rattle.sa_laws.specs.Upcalls.{OwnLines, IsPrompt, InterruptIsNext, FirstLineIsAsked}
 use Rattle.sa_laws.specs.Shape.{aims_in, last_lines}
 use Rattle.sa_spaces.specs.Workload.{WorkloadView}
@@ -18,6 +16,7 @@ use Rattle.sa_check_moment.specs.Seen.{Seen}
 use Rattle.sa_check.specs.declared.begin.Beginning.{Beginning}
 use Rattle.sa_check.specs.declared.end.LastTold.{LastTold}
 use Rattle.sa_check.specs.declared.end.Ending.{Ending}
+use Rattle.sa_check.specs.Places.{HasShares}
 use Rattle.sa_check.specs.Quiet.{IsCalmIf}
 
 -- no line is asked for that is not, and no aim comes after the first of the last lines
@@ -52,6 +51,6 @@ pub record IsEnding (m : Seen) (number : ℕ) (last : Option LastLine) (found : 
   pub told_in_time : IsTrue found.told_in_time ↔ IsPrompt m.readings
   pub owned : IsTrue found.owned ↔ (m.readings.state.owners ≡ map (space_of_life m.readings) m.readings.running)
   pub wants : IsTrue found.wants ↔ ((s : SpaceNo) → must_want m.readings s ≡ false)
-  pub shares : IsTrue found.shares ↔ ((s : ℕ) → share_at (shares_at m.workload number m.readings) s ≤ aimed s m.readings.aims)
+  pub shares : IsTrue found.shares ↔ HasShares m number
   pub end_told : IsTrue found.end_told ↔ EndIsTold m.readings number last
   pub calm : IsCalmIf found.calm m.workload m.readings

@@ -1,6 +1,6 @@
 // What is found as an event begins.
-ghost use Rattle.std.specs.Prelude.{◌≡◌, ◌↔◌, true, IsTrue};
-ghost use Rattle.sa_laws.specs.Readings.{running_of};
+ghost use Rattle.std.specs.Prelude.{◌≡◌, ◌↔◌, true, is_some, IsTrue};
+ghost use Rattle.sa_laws.specs.Readings.{running_of, line_of};
 ghost use Rattle.sa_check_moment.specs.Rules.{rules_of};
 ghost use Rattle.sa_check_moment.specs.Seen.{seen, at_event, lowers};
 ghost use Rattle.sa_check.specs.Items.{told_event};
@@ -35,30 +35,29 @@ pub(crate) fn begin(moment: &mut Moment, event: &TraceEvent) -> Beginning
     ensures lowers { result.start.lowers ≡ lowers (seen moment.old).readings event.now.records.now }
     ensures found { IsBeginning (seen moment.old) (told_event event.now) result }
 {
-    let number = event.number;
-    let p = event.proc;
-    let records = event.records;
-    let start = moment.before(p, records);
-    let demand_announced = demand_is_announced(moment, number, p, records);
-    let order_kept = order_is_kept(moment, p, records);
-    let lines = lines_are_in_place(moment, p, records);
-    let raised = moment.line(p).is_some();
-    moment.begin(number, p);
-    Beginning {
-        start,
-        demand_announced,
-        order_kept,
-        interrupt_next: interrupt_is_next(moment, raised, number, p, records),
-        turns_taken: turns_are_taken(moment, raised, number, p, records),
-        locks_kept: locks_are_kept(moment, number, p, records),
-        lines,
-    }
+    let raised = moment.line(event.proc).is_some();
+    let lines = lines_are_in_place(moment, event.proc, event.records);
+    begin_by(moment, event, raised, lines)
 }
 
 /// A quiet event begins: it has no line and no aim, and its processor's line is low.
 #[inline(always)]
 pub(crate) fn begin_quiet(moment: &mut Moment, event: &TraceEvent) -> Beginning
     requires { is_quiet (seen moment.old).workload (seen moment.old).readings (told_event event.now) ≡ true }
+    ensures event_begun { seen moment.new ≡ at_event event.now.number event.now.proc (seen moment.old) }
+    ensures running { result.start.running ≡ running_of (seen moment.old).readings event.now.proc }
+    ensures lowers { result.start.lowers ≡ lowers (seen moment.old).readings event.now.records.now }
+    ensures found { IsBeginning (seen moment.old) (told_event event.now) result }
+{
+    begin_by(moment, event, false, true)
+}
+
+// An event begins, of which is known whether the line of its processor is raised, and whether its lines are in place.
+#[inline(always)]
+fn begin_by(moment: &mut Moment, event: &TraceEvent, raised: bool, lines: bool) -> Beginning
+    requires raised { raised ≡ is_some (line_of (seen moment.old).readings event.now.proc) }
+    requires lines { let m = seen moment.old in
+        IsTrue lines ↔ LinesAreInPlace (rules_of m.rules).Lines m.workload m.readings event.now.proc event.now.records.now }
     ensures event_begun { seen moment.new ≡ at_event event.now.number event.now.proc (seen moment.old) }
     ensures running { result.start.running ≡ running_of (seen moment.old).readings event.now.proc }
     ensures lowers { result.start.lowers ≡ lowers (seen moment.old).readings event.now.records.now }
@@ -75,10 +74,10 @@ pub(crate) fn begin_quiet(moment: &mut Moment, event: &TraceEvent) -> Beginning
         start,
         demand_announced,
         order_kept,
-        interrupt_next: interrupt_is_next(moment, false, number, p, records),
-        turns_taken: turns_are_taken(moment, false, number, p, records),
+        interrupt_next: interrupt_is_next(moment, raised, number, p, records),
+        turns_taken: turns_are_taken(moment, raised, number, p, records),
         locks_kept: locks_are_kept(moment, number, p, records),
-        lines: true,
+        lines,
     }
 }
 

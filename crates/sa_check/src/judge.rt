@@ -1,11 +1,13 @@
 // The judge of one event.
-ghost use Rattle.std.specs.Prelude.{◌≡◌, IfOk};
+ghost use Rattle.std.specs.Prelude.{◌≡◌, not, find, IfOk};
 ghost use Rattle.sa_laws.specs.Opening.{IsNumbered};
+ghost use Rattle.sa_laws.specs.Rules.{rules};
 ghost use Rattle.sa_check_moment.specs.Seen.{seen};
 ghost use Rattle.sa_check.specs.Items.{told_event};
 ghost use Rattle.sa_check.specs.Quiet.{IsCalmIf, IsQuietAt, WasSettled};
 ghost use Rattle.sa_check.specs.Sides.{line_told};
-ghost use Rattle.sa_check.specs.Judged.{Judges, findings_of};
+ghost use Rattle.sa_check.specs.Findings.{found_of};
+ghost use Rattle.sa_check.specs.Judged.{Judges, findings_of, judged_by};
 
 use crate::begin::{Beginning, begin, begin_quiet};
 use crate::end::{Ending, LastTold, look_after, settled_after};
@@ -85,13 +87,11 @@ fn judge_quiet(
     )?;
     let ending = settled_after(&after, event.number, last);
     let findings = findings_of(event.number, beginning, through.laws, through.due, ending);
-    match findings.first_broken() {
-        None => Ok(Judged::Right(Between {
-            moment: after,
-            calm: true,
-        })),
-        Some(rule) => Ok(Judged::Broken(rule)),
-    }
+    let after = Between {
+        moment: after,
+        calm: true,
+    };
+    Ok(judge_by(&findings, after))
 }
 
 // Judges an event with the number and processor that it should have, which is not known to be quiet.
@@ -120,13 +120,11 @@ fn judge_loud(
     let covered = through.due.covered;
     let ending = look_after(alloc, &after, event.number, last, covered)?;
     let findings = findings_of(event.number, beginning, through.laws, through.due, ending);
-    match findings.first_broken() {
-        None => Ok(Judged::Right(Between {
-            moment: after,
-            calm: ending.calm,
-        })),
-        Some(rule) => Ok(Judged::Broken(rule)),
-    }
+    let after = Between {
+        moment: after,
+        calm: ending.calm,
+    };
+    Ok(judge_by(&findings, after))
 }
 
 // Which rules hold, by what was found before the event, at its records, and after it.
@@ -155,5 +153,16 @@ fn findings_of(
         locks_kept: beginning.locks_kept,
         order_kept: beginning.order_kept,
         end_told: ending.end_told,
+    }
+}
+
+// What an event comes to by what was found: what comes after it where each rule holds, or the first rule that does not.
+#[inline(always)]
+fn judge_by(findings: &Findings, after: Between) -> Judged
+    ensures { result ≡ judged_by (find (λ rule. not (found_of findings.now rule)) rules) after }
+{
+    match findings.first_broken() {
+        None => Judged::Right(after),
+        Some(rule) => Judged::Broken(rule),
     }
 }

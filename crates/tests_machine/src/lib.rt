@@ -1,4 +1,4 @@
-//! A caller of the kernel that relies on its contracts alone; a second user level, and a run of it on the core. And what stands below
+//! A caller of the kernel that relies on its contracts alone; a second user level, and a run of it on the core; and what stands below
 //! the kernel: sources and sinks, the words of a refusal, seeded orders, and the workload of a probe.
 #![tactic(auto)]
 
