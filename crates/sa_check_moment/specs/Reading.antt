@@ -50,5 +50,6 @@ changes_nothing (Spin l) = true
 changes_nothing Tick = true
 changes_nothing _ = false
 
+-- the moment after such a record
 abbrev pub passing : Record → Seen → Seen
 passing x m = record m { readings = record m.readings { last = Some x } }

@@ -13,12 +13,12 @@ use Rattle.sa_laws.specs.Effect.{effect, effect_of}
 use Rattle.sa_laws.specs.Ends.{is_done, is_at_rest}
 use Rattle.sa_replay.specs.Running.{instr_in, is_running, CanRun, IsFull}
 use Rattle.sa_replay.specs.Shape.{IsShaped}
-use Rattle.sa_replay.specs.Local.{is_local, gone_by, GoesOn}
-use Rattle.sa_replay.proofs.ShapeLemmas.{own, was_made}
+use Rattle.sa_replay.specs.Local.{is_local, after_local, HasRunLocal}
+use Rattle.sa_replay.proofs.ShapeLemmas.{own, runs_made}
 
 -- what such an instruction does is the local effect
 effect_is : (x : SpaceState) (t : ThreadNo) (thread : Thread) (instr : Instr) → is_local instr ≡ true
-    → effect_of x t thread instr ≡ effect (with_thread x t (gone_by instr thread)) []
+    → effect_of x t thread instr ≡ effect (with_thread x t (after_local instr thread)) []
 effect_is x t thread Compute is = refl
 effect_is x t thread (Set reg n) is = refl
 effect_is x t thread (Add reg other) is = refl
@@ -63,20 +63,16 @@ all-set test [] i y d same = refl
 all-set test (x ∷ xs) zero y d same = ap (λ b. b && list_all test xs) same
 all-set test (x ∷ xs) (suc i) y d same = ap (λ b. test x && b) (all-set test xs i y d same)
 
--- a thread that runs was made
-pub runs_made : (def : SpaceView) (x : SpaceState) (t : ThreadNo) → CanRun def x t → t.0 < length x.threads
-runs_made def x t can = was_made x t (λ done. let both : true ≡ false = sym can.runs ∙ ap is_running done in cc)
-
 module _ (def : SpaceView) (x : SpaceState) (t : ThreadNo) (new : List Thread) (can : CanRun def x t)
     (local : is_local (instr_in def (thread_in x t)) ≡ true) where
   abbrev after : Thread
-  after = gone_by (instr_in def (thread_in x t)) (thread_in x t)
+  after = after_local (instr_in def (thread_in x t)) (thread_in x t)
 
   abbrev pub now : SpaceState
   now = record x { threads = new }
 
-  pub goes_on : new ≡ set x.threads t.0 after → GoesOn def x t now
-  goes_on gone =
+  pub has_run_local : new ≡ set x.threads t.0 after → HasRunLocal def x t now
+  has_run_local gone =
       let is : with_thread x t after ≡ now = ap (λ (threads : List Thread). record x { threads = threads }) (sym gone) in
       record {
         room = has_room x.sync (instr_in def (thread_in x t)) local;

@@ -144,6 +144,10 @@ was_made x u live = elim (cases_lt u.0 (length x.threads)) [
   | inr past ↦ absurd (live (ap (λ (y : Thread). y.place) (get_or_past x.threads u.0 (at_start 0 places.Done) past)))
 ]
 
+-- a thread that runs was made
+pub runs_made : (def : SpaceView) (x : SpaceState) (t : ThreadNo) → CanRun def x t → t.0 < length x.threads
+runs_made def x t can = was_made x t (λ done. let both : true ≡ false = sym can.runs ∙ ap is_running done in cc)
+
 -- what becomes of the threads: of this one, and of each other
 module _ (x : SpaceState) (t : ThreadNo) (place : Place) (new : SpaceState) (shape : IsShaped x t place new) where
   pub own_after : t.0 < length x.threads → thread_in new t ≡ shape.after
@@ -214,7 +218,7 @@ pub can_do : (def : SpaceView) (x : SpaceState) (t : ThreadNo) (thread : Thread)
     → (instr ≢ End → thread.pc + 1 < 2 ^ 16) → NamesDeclared def.mutexes (length def.sems) def.cells (length def.programs) instr → HasCount x.sync instr
     → CanDo def x t thread instr
 can_do def x t thread instr sound can is at next named count = record {
-  made = was_made x t (λ done. let both : true ≡ false = sym can.runs ∙ ap is_running done in cc);
+  made = runs_made def x t can;
   few = sound.few;
   joiners = sound.joiners;
   nowhere = elim (cases_lt 0 (waits_of x.sync t.0)) [

@@ -12,7 +12,7 @@ use Rattle.sa_laws.specs.Ends.{are_done, are_at_rest}
 use Rattle.sa_replay.specs.Running.{instr_in, IsFull}
 use Rattle.sa_replay.specs.Shape.{IsShaped}
 
--- a step that stays within its thread, and its instruction
+-- the answer of a step that stays within its thread, and its instruction
 abbrev pub is_went : Local → Bool
 is_went Went = true
 is_went _ = false
@@ -21,14 +21,14 @@ abbrev pub is_local : Instr → Bool
 is_local instr = is_went (local_answer instr)
 
 -- the thread after such an instruction
-abbrev pub gone_by : Instr → Thread → Thread
-gone_by instr thread = record thread {
+abbrev pub after_local : Instr → Thread → Thread
+after_local instr thread = record thread {
   pc = pc_after instr thread.pc thread.regs;
   regs = regs_after instr thread.regs;
 }
 
 -- thread t has run its next instruction, which stays within it: it runs on, needs no room, and rouses nobody
-pub record GoesOn (def : SpaceView) (old : SpaceState) (t : ThreadNo) (new : SpaceState) : Type 0 where
+pub record HasRunLocal (def : SpaceView) (old : SpaceState) (t : ThreadNo) (new : SpaceState) : Type 0 where
   pub room : IsFull old.sync (instr_in def (thread_in old t)) → ⊥
   pub effect : effect_of old t (thread_in old t) (instr_in def (thread_in old t)) ≡ effect new []
   pub shape : IsShaped old t (thread_in old t).place new

@@ -90,7 +90,7 @@ fn go(def: &SpaceDef, table: &mut Threads, t: ThreadNo, thread: &ThreadState)
 {
     let program = &def.programs()[usize::from(thread.program())];
     let mut after = *thread;
-    after.goes(program);
+    after.run_local(program);
     table.set(t, &after);
 }
 

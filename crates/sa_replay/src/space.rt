@@ -7,7 +7,7 @@ ghost use Rattle.sa_replay.specs.Running.{instr_in, CanRun, IsFull, HasCount, ca
 ghost use Rattle.sa_replay.specs.Space.{HasRoom};
 ghost use Rattle.sa_replay.specs.Counts.{is_ready, count_in};
 ghost use Rattle.sa_replay.specs.Shape.{IsShaped};
-ghost use Rattle.sa_replay.specs.Local.{is_local, GoesOn};
+ghost use Rattle.sa_replay.specs.Local.{is_local, HasRunLocal};
 
 use crate::effect::{does, instr_at};
 use crate::table::Threads;
@@ -125,13 +125,13 @@ impl SpaceThreads {
     /// Runs the next instruction of a thread that runs, of the space that `def` declares, where it stays within the thread;
     /// whether it does.
     #[inline(always)]
-    pub fn goes(&mut self, def: &SpaceDef, t: ThreadNo) -> bool
+    pub(crate) fn run_local(&mut self, def: &SpaceDef, t: ThreadNo) -> bool
         requires { CanRun def.now self.old t }
         ensures local { result ≡ is_local (instr_in def.now (thread_in self.old t)) }
-        ensures goes { IsTrue result → GoesOn def.now self.old t self.new }
+        ensures ran { IsTrue result → HasRunLocal def.now self.old t self.new }
         ensures other { result ≡ false → self.new ≡ self.old }
     {
-        self.threads.goes(t, def)
+        self.threads.run_local(t, def)
     }
 
     /// Runs the next instruction of a thread that runs, of the space that `def` declares, and puts the threads that it

@@ -166,7 +166,7 @@ impl Spaces {
         ensures err { OnErr result ((self.new ≡ self.old) × (roused.new.items ≡ [])) }
         ensures room { vec_capacity roused.new ≡ vec_capacity roused.old }
     {
-        if self.spaces[usize::from(s.0)].goes(def, t) {
+        if self.spaces[usize::from(s.0)].run_local(def, t) {
             return Ok(true);
         }
         self.act(def, s, t, roused)?;

@@ -6,7 +6,7 @@ ghost use Rattle.sa_laws.specs.State.{at_start, is_active};
 ghost use Rattle.sa_laws.specs.Ends.{is_done, is_at_rest};
 ghost use Rattle.sa_replay.specs.Counts.{is_ready, is_live, is_restless, count_in};
 ghost use Rattle.sa_replay.specs.Running.{instr_in, IsAt};
-ghost use Rattle.sa_replay.specs.Local.{is_local, gone_by};
+ghost use Rattle.sa_replay.specs.Local.{is_local, after_local};
 
 use crate::thread::ThreadState;
 use sa_base::{MAX_THREADS, ThreadNo};
@@ -95,17 +95,17 @@ impl Threads {
     /// Runs the next instruction of a thread, of the space that `def` declares, where it stays within the thread; whether it
     /// does.
     #[inline(always)]
-    pub fn goes(&mut self, t: ThreadNo, def: &SpaceDef) -> bool
+    pub(crate) fn run_local(&mut self, t: ThreadNo, def: &SpaceDef) -> bool
         requires made { t.0 < length self.old }
         requires at { IsAt def.now (slice_index_or self.old t.0 (at_start 0 places.Done)) }
         ensures local { let thread = slice_index_or self.old t.0 (at_start 0 places.Done) in
             result ≡ is_local (instr_in def.now thread) }
         ensures threads { let thread = slice_index_or self.old t.0 (at_start 0 places.Done) in
-            self.new ≡ slice_set self.old t.0 (gone_by (instr_in def.now thread) thread) }
+            self.new ≡ slice_set self.old t.0 (after_local (instr_in def.now thread) thread) }
         ensures other { result ≡ false → self.new ≡ self.old }
     {
         let thread = &mut self.threads[usize::from(t.0)];
-        thread.goes(&def.programs()[usize::from(thread.program())])
+        thread.run_local(&def.programs()[usize::from(thread.program())])
     }
 
     /// Adds a thread, which gets the next number.

@@ -3,7 +3,7 @@ ghost use Rattle.std.specs.Prelude.{◌≡◌, ◌+◌, ◌<◌, ◌^◌, false,
 ghost use Rattle.sa_instr.specs.Local.{instr_at};
 ghost use Rattle.sa_laws.specs.State.{at_start};
 ghost use Rattle.sa_laws.specs.Effect.{next, next_with};
-ghost use Rattle.sa_replay.specs.Local.{is_local, gone_by};
+ghost use Rattle.sa_replay.specs.Local.{is_local, after_local};
 
 use sa_instr::{Local, Program, Reg, Regs, local};
 use sa_laws::Place;
@@ -101,10 +101,10 @@ impl ThreadState {
 
     // Runs the next instruction of the program, where it stays within the thread; whether it does.
     #[inline(always)]
-    pub(crate) fn goes(&mut self, program: &Program) -> bool
+    pub(crate) fn run_local(&mut self, program: &Program) -> bool
         requires { self.old.pc < length program.now }
-        ensures goes { result ≡ is_local (instr_at program.now self.old.pc) }
-        ensures thread { self.new ≡ gone_by (instr_at program.now self.old.pc) self.old }
+        ensures local { result ≡ is_local (instr_at program.now self.old.pc) }
+        ensures thread { self.new ≡ after_local (instr_at program.now self.old.pc) self.old }
         ensures other { result ≡ false → self.new ≡ self.old }
     {
         matches!(local(program, &mut self.regs, &mut self.pc), Local::Went)
