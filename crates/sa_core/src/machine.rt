@@ -507,6 +507,7 @@ impl<U: UserLevel> CoreParts<U> {
     }
 
     /// Whether some running context is inside the package.
+    #[inline(never)]
     pub(crate) fn is_any_inside(&self) -> bool
         requires { Stands U.stands self.now.events (machine_of self.now) }
         ensures { result ≡ is_any_inside U.calls (machine_of self.now) }

@@ -55,6 +55,7 @@ impl<U: UserLevel> CoreParts<U> {
     }
 
     /// Whether nothing can happen any more.
+    #[inline(always)]
     pub(crate) fn is_stuck(&self) -> bool
         requires { IsBetween U.stands (machine_of self.now) }
         ensures { result ≡ is_stuck U.calls (machine_of self.now) }

@@ -1,4 +1,4 @@
-ghost use Rattle.std.specs.Prelude.{◌≡◌, ◌+◌, ◌≤◌, ◌<◌, length, None, Some, slice_get, slice_index_or, OnOk, OnErr, IfOk};
+ghost use Rattle.std.specs.Prelude.{◌≡◌, ◌+◌, ◌≤◌, ◌<◌, length, None, Some, is_some, slice_get, slice_index_or, OnOk, OnErr, IfOk};
 ghost use Rattle.std.specs.Option.{option_copied};
 ghost use Rattle.sa_base.specs.declared.limits.TheConstants.{MAX_EVENTS};
 ghost use Rattle.sa_kernel_model.specs.State.{line_of};
@@ -144,6 +144,14 @@ impl<U: UserLevel> Core<U> {
             return Some(End::Budget);
         }
         None
+    }
+
+    /// Whether the run has ended. Takes constant time while some thread is active.
+    #[inline(always)]
+    pub fn has_ended(&self) -> bool
+        ensures { result ≡ is_some (end_of U.calls self.now.budget (machine self.now)) }
+    {
+        self.machine.is_done() || self.machine.is_stuck() || self.machine.events == self.budget
     }
 
     /// The history of the run.

@@ -1,10 +1,10 @@
 -- What a session keeps from command to command.
-use Rattle.std.proofs.Common.{◌≡◌, suc, ◌+◌, ◌<◌, ◌≤◌, List, ◌++◌, length, take, None, Result, Ok, Err, OnOk, OnErr, refl, sym, ap, ◌∙◌, subst, arith, length-append}
+use Rattle.std.proofs.Common.{◌≡◌, ℕ, suc, ◌+◌, ◌<◌, ◌≤◌, List, ◌++◌, length, take, None, Result, Ok, Err, OnOk, OnErr, refl, sym, ap, ◌∙◌, subst, arith, length-append}
 use Rattle.std.proofs.lemmas.List.{take-append-le}
-use Rattle.sa_base.specs.declared.limits.TheConstants.{MAX_EVENTS}
+use Rattle.sa_base.specs.declared.limits.TheConstants.{MAX_EVENTS, MAX_PROCESSORS}
 use Rattle.sa_base.specs.declared.number.ProcNo.{ProcNo}
 use Rattle.sa_base.specs.declared.record.Item.{Item}
-use Rattle.sa_spaces.specs.Workload.{IsWorkload}
+use Rattle.sa_spaces.specs.Workload.{WorkloadView, IsWorkload}
 use Rattle.sa_abstract.specs.Calls.{Calls}
 use Rattle.sa_replay.specs.Replayed.{Replayed, opened}
 use Rattle.sa_core_model.specs.Machine.{Machine}
@@ -26,6 +26,22 @@ behind-more x items more all is b = record {
 }
 
 module _ {U C : Type 0} (f : Calls U C) where
+  -- the end of a run, as it is kept and as it is seen
+  pub same-end : (kept seen : CoreView U C) (budget : ℕ) → kept ≡ seen → seen.budget ≡ budget
+      → end_of f kept.budget (machine kept) ≡ end_of f budget (machine seen)
+  same-end kept seen budget same limit =
+      ap (λ (x : CoreView U C). end_of f x.budget (machine x)) same ∙ ap (λ n. end_of f n (machine seen)) limit
+
+  -- its processors are few
+  pub few-processors : (kept seen : CoreView U C) (x : Followed) → IsKept f kept x → kept ≡ seen → seen.parts.workload.processors ≤ MAX_PROCESSORS
+  few-processors kept seen x is same =
+      omega (
+        arith,
+        is.ok.few_processors,
+        ap (λ (w : WorkloadView). w.processors) is.is,
+        ap (λ (y : CoreView U C). y.parts.workload.processors) same,
+      )
+
   -- a turn can be made
   pub can-turn : (core : CoreView U C) (x : Followed) (p : ProcNo) → IsKept f core x → end_of f core.budget (machine core) ≡ None
       → p.0 < (machine core).workload.processors → CanTurn f (machine core) p

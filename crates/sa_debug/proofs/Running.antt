@@ -1,8 +1,14 @@
 -- Turn by turn.
-use Rattle.std.proofs.Common.{◌≡◌, ℕ, suc, ◌+◌, ◌-◌, ◌<◌, ◌≤◌, ◌⊎◌, inl, inr, subst, arith}
+use Rattle.std.proofs.Common.{◌≡◌, ℕ, zero, suc, ◌+◌, ◌-◌, ◌<◌, ◌≤◌, if◌then◌else◌, find, Option, Some, None, ◌⊎◌, inl, inr, refl, sym, ap, ◌∙◌, subst, arith}
+use Rattle.std.specs.List.{list_any}
+use Rattle.sa_base.specs.declared.limits.TheConstants.{MAX_PROCESSORS}
 use Rattle.sa_base.specs.declared.number.ProcNo.{ProcNo}
 use Rattle.sa_script.specs.declared.reply.Reply.{Reply}
-use Rattle.sa_debug.specs.Session.{Watched, Session, IsNext, Turns, Passes, SaysEnded, Stops, RunsTo, RunsSoFar}
+use Rattle.sa_script.specs.declared.command.Point.{Point}
+use Rattle.sa_debug.specs.Points.{same_point}
+use Rattle.sa_debug.specs.Order.{goes, in_order}
+use Rattle.sa_debug.proofs.Ordering.{found-first}
+use Rattle.sa_debug.specs.Session.{Watched, Session, IsFree, first, point_if, IsNext, Turns, Passes, SaysEnded, Stops, RunsTo, RunsSoFar}
 
 module _ {M : Type 0} (o : Watched M) where
   passes : (s between t : Session M) (p : ProcNo) → IsNext o s p → between ≡ s → Turns o between p t → Passes o s p t
@@ -35,3 +41,32 @@ module _ {M : Type 0} (o : Watched M) where
   -- all turns were made
   pub runs-over : (n i : ℕ) (s last : Session M) (reply : Reply) → n ≤ i → RunsTo o 0 s last reply → RunsTo o (n - i) s last reply
   runs-over n i s last reply over runs = let left : 0 ≡ n - i = omega arith in subst (λ k. RunsTo o k s last reply) left runs
+
+  -- in a session that is free the order begins with the processor that has the next turn
+  pub next-free : (s : Session M) (p : ProcNo) → IsFree s → p.0 ≡ first o s.machine → p.0 < o.processors s.machine → o.processors s.machine ≤ MAX_PROCESSORS
+      → o.HasEnded s.machine None → IsNext o s p
+  next-free s p free is within few not_ended = record {
+    not_ended = not_ended;
+    is =
+        let here : find (goes s.halted) (in_order p.0 (o.processors s.machine)) ≡ Some p =
+        found-first (goes s.halted) p.0 (o.processors s.machine) within (free.0 p (omega (arith, within, few))) in
+        ap (λ n. find (goes s.halted) (in_order n (o.processors s.machine))) (sym is) ∙ here;
+    free = no-point (o.stands s.machine p);
+  }
+    where
+      no-point : (x : Option Point) → point_if o s x ≡ None
+      no-point None = refl
+      no-point (Some point) = ap (λ ps. if list_any (same_point point) ps then Some point else None) free.1
+
+  -- and it is free after its turn
+  pub free-on : (s t : Session M) (p : ProcNo) → Turns o s p t → IsFree s → IsFree t
+  free-on s t p turns free = (
+    λ q within. ap (λ (x : Session M). goes x.halted q) turns.is ∙ free.0 q within,
+    ap (λ (x : Session M). x.points) turns.is ∙ free.1,
+  )
+
+  -- a run that has ended is told as ended, however many turns are left
+  pub runs-ended : (n : ℕ) (s : Session M) (reply : Reply) → (o.HasEnded s.machine None → ⊥) → RunsTo o 0 s s reply → RunsTo o n s s reply
+  runs-ended zero s reply ended runs = runs
+  runs-ended (suc n) s reply ended (inl says) = inl says
+  runs-ended (suc n) s reply ended (inr over) = absurd (ended over.not_ended)

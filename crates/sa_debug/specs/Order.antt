@@ -1,5 +1,5 @@
 -- Which processors are halted, and in which order the others have their turns.
-use Rattle.std.specs.Prelude.{ℕ, ◌+◌, ◌-◌, ◌%◌, Bool, false, not, List, length, map, replicate, Option, Some, None, slice_get, slice_index_or}
+use Rattle.std.specs.Prelude.{◌≡◌, ℕ, ◌+◌, ◌-◌, ◌<◌, ◌%◌, Bool, true, false, not, List, length, map, replicate, Option, Some, None, slice_get, slice_index_or}
 use Rattle.std.specs.List.{range_with_len}
 use Rattle.sa_base.specs.declared.limits.TheConstants.{MAX_PROCESSORS}
 use Rattle.sa_base.specs.declared.number.ProcNo.{ProcNo}
@@ -11,6 +11,9 @@ none_halted = replicate MAX_PROCESSORS false
 
 abbrev pub goes : List Bool → ProcNo → Bool
 goes halted p = not (slice_index_or halted p.0 false)
+
+abbrev pub NoneHalted : List Bool → Type 0
+NoneHalted halted = (p : ProcNo) → p.0 < MAX_PROCESSORS → goes halted p ≡ true
 
 -- a number of processors, cyclically from one on
 abbrev pub in_order : ℕ → ℕ → List ProcNo

@@ -1,8 +1,8 @@
 // Which processors are halted, and whose turn is next.
-ghost use Rattle.std.specs.Prelude.{◌≡◌, ◌<◌, ◌≤◌, ◌%◌, find, slice_set};
+ghost use Rattle.std.specs.Prelude.{◌≡◌, ◌<◌, ◌≤◌, ◌%◌, ◌↔◌, find, slice_set, IsTrue};
 ghost use Rattle.sa_base.specs.declared.limits.TheConstants.{MAX_PROCESSORS};
 ghost use Rattle.sa_assign.specs.Reaim.{proc_no};
-ghost use Rattle.sa_debug.specs.Order.{goes, in_order};
+ghost use Rattle.sa_debug.specs.Order.{goes, NoneHalted, in_order};
 
 use sa_base::{MAX_PROCESSORS, ProcNo};
 use std::marker::Model;
@@ -39,6 +39,18 @@ impl Halts {
         ensures { self.new ≡ slice_set self.old p.0 halted }
     {
         self.halted[usize::from(p.0)] = halted;
+    }
+
+    /// Whether no processor is halted.
+    pub(crate) fn are_none(&self) -> bool
+        ensures { IsTrue result ↔ NoneHalted self.now }
+    {
+        for p in 0..MAX_PROCESSORS {
+            if !self.goes(p) {
+                return false;
+            }
+        }
+        true
     }
 
     // Whether the processor is not halted.

@@ -6,7 +6,7 @@ ghost use Rattle.sa_core.specs.View.{machine};
 ghost use Rattle.sa_core_model.specs.End.{end_of};
 ghost use Rattle.sa_core_model.specs.Run.{opening};
 ghost use Rattle.sa_script.specs.Text.{FitsCommand};
-ghost use Rattle.sa_debug.specs.Session.{Gives, fresh, broken, cleared, with_halt, shown, first, next, point_at, IsNext, SaysEnded, Stops, Turns, Steps, RunsTo, RunsSoFar, Does, DoesSoFar};
+ghost use Rattle.sa_debug.specs.Session.{Gives, fresh, broken, cleared, with_halt, shown, first, next, point_at, IsFree, IsNext, SaysEnded, Stops, Turns, Steps, RunsTo, RunsSoFar, Does, DoesSoFar};
 ghost use Rattle.sa_debug.specs.OverMachines.{over_machines, session};
 ghost use Rattle.sa_debug.specs.Reached.{IsPlayable};
 
@@ -172,6 +172,7 @@ impl<U: UserLevel> Session<U> {
         requires within { p.0 < (machine self.old.core).workload.processors }
         requires not_ended { end_of U.calls self.old.core.budget (machine self.old.core) ≡ None }
         ensures ok { OnOk result (Turns (over_machines U.calls self.old.core.budget) (session self.old) p (session self.new)) }
+        ensures event { OnOk result ((machine self.new.core).event ≡ (machine self.old.core).event + 1) }
         ensures err { OnErr result (session self.new ≡ session self.old) }
         ensures budget { self.new.core.budget ≡ self.old.core.budget }
         ensures workload { (machine self.new.core).workload ≡ (machine self.old.core).workload }
@@ -188,11 +189,35 @@ impl<U: UserLevel> Session<U> {
         ensures budget { self.new.core.budget ≡ self.old.core.budget }
         ensures workload { (machine self.new.core).workload ≡ (machine self.old.core).workload }
     {
+        if self.points.is_empty() && self.halts.are_none() {
+            return self.go_round(turns);
+        }
         for _turn in 0..turns {
             match self.next_turn() {
                 Err(reply) => return Ok(reply),
                 Ok(p) => self.turn(p)?,
             }
+        }
+        Ok(self.told_event())
+    }
+
+    // The same where no processor is halted and there is no breakpoint, so that the order is as it is in a run.
+    fn go_round(&mut self, turns: u32) -> Result<Reply, AllocError>
+        requires free { IsFree (session self.old) }
+        ensures ok { IfOk result (λ reply.
+            RunsTo (over_machines U.calls self.old.core.budget) turns (session self.old) (session self.new) reply) }
+        ensures err { OnErr result
+            (RunsSoFar (over_machines U.calls self.old.core.budget) turns (session self.old) (session self.new)) }
+        ensures budget { self.new.core.budget ≡ self.old.core.budget }
+        ensures workload { (machine self.new.core).workload ≡ (machine self.old.core).workload }
+    {
+        let mut next = self.first();
+        for _turn in 0..turns {
+            if self.core.has_ended() {
+                break;
+            }
+            self.turn(ProcNo(next))?;
+            next = self.behind_last();
         }
         Ok(self.told_event())
     }
@@ -228,19 +253,28 @@ impl<U: UserLevel> Session<U> {
         ensures within { IfSome result (λ p. p.0 < (machine self.now.core).workload.processors) }
     {
         let processors = self.core.workload().processors();
-        self.halts.next(self.first(processors), processors)
+        self.halts.next(self.first(), processors)
     }
 
     // The processor with which the order begins.
-    fn first(&self, processors: u16) -> u16
-        requires processors { processors ≡ (machine self.now.core).workload.processors }
-        requires some { 1 ≤ processors }
+    fn first(&self) -> u16
         ensures first { result ≡ first (over_machines U.calls self.now.core.budget) (machine self.now.core) }
-        ensures below { result < processors }
+        ensures below { result < (machine self.now.core).workload.processors }
     {
         if self.core.events() == 0 {
             return 0;
         }
+        self.behind_last()
+    }
+
+    // The same where an event was made: the processor after that of the last one.
+    #[inline(always)]
+    fn behind_last(&self) -> u16
+        requires { 1 ≤ (machine self.now.core).event }
+        ensures first { result ≡ first (over_machines U.calls self.now.core.budget) (machine self.now.core) }
+        ensures below { result < (machine self.now.core).workload.processors }
+    {
+        let processors = self.core.workload().processors();
         match self.core.trace().items().last() {
             None => following(ProcNo(0), processors),
             Some(item) => following(item.proc, processors),

@@ -1,5 +1,7 @@
 // Pairs: a ready thread that outranks one on a processor whose line is low.
-ghost use Rattle.std.specs.Prelude.{◌≡◌, ◌<◌};
+ghost use Rattle.std.specs.Prelude.{◌≡◌, ◌<◌, ◌≤◌, ℕ, IfSome};
+ghost use Rattle.std.specs.Int.{bit_at};
+ghost use Rattle.std.specs.Option.{unwrap_or};
 ghost use Rattle.sa_base.specs.declared.limits.TheConstants.{MAX_PROCESSORS};
 ghost use Rattle.sa_package_model.specs.Conditions.{IsThread};
 ghost use Rattle.sa_prio_model.specs.Conditions.{CanRank};
@@ -62,16 +64,18 @@ impl PrioThreads {
     }
 
     /// The processor of the lowest-ranked thread that a ready one outranks, and of these the first. It looks at no ready
-    /// thread but the first.
+    /// thread but the first, and at no processor but those whose lines are low.
     pub fn lowest(&self, seen: &Seen) -> Option<Outranked>
         requires { CanRank self.now }
         ensures { result ≡ lowest self.now seen.now }
     {
         let best = self.base.first_rank()?;
         let mut lowest = None;
-        for q in 0..self.on.len() as u16 {
-            let rank = self.outranked_on(seen, best, q);
+        let mut from = 0;
+        while let Some(q) = low_from(seen.low, from, self.on.len() as u16) {
+            let rank = self.rank_below(best, self.on_at(q));
             lowest = lower(lowest, q, rank);
+            from = q + 1;
         }
         lowest
     }
@@ -83,6 +87,19 @@ impl PrioThreads {
     {
         self.lowest(seen).is_some()
     }
+}
+
+// The first processor from `from` on, of this many, whose line is low.
+fn low_from(low: u16, from: u16, processors: u16) -> Option<u16>
+    requires from { from ≤ processors }
+    requires few { processors ≤ MAX_PROCESSORS }
+    ensures within { IfSome result (λ q. q < processors) }
+    ensures low { IfSome result (λ q. bit_at low q ≡ 1) }
+    ensures from { IfSome result (λ q. from ≤ q) }
+    ensures between { (q : ℕ) → from ≤ q → q < unwrap_or result processors → bit_at low q ≡ 0 }
+{
+    let q = from + (u32::from(low) >> from).trailing_zeros() as u16;
+    if q < processors { Some(q) } else { None }
 }
 
 // The lower of what was found and the thread on processor `q`; of one rank what was found.

@@ -145,8 +145,10 @@ pub(crate) fn push_record(out: &mut Lines, what: &Record)
         Record::Ready(s, t) => push_two(out, b" ready", s, t.0),
         Record::Take(s, l, Some(t)) => push_three(out, b" take", s, l.0, t.0),
         Record::Free(s, l, Some(t)) => push_three(out, b" free", s, l.0, t.0),
+        Record::Want(s, demand) => push_two(out, b" want", s, demand),
         Record::Idle => put(out, b" idle"),
         Record::Spin(l) => push_one(out, b" spin", l.0),
+        Record::Tick => put(out, b" tick"),
         _ => push_parts(out, what),
     }
 }
