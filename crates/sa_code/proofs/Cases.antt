@@ -4,7 +4,7 @@ use Rattle.sa_base.specs.declared.limits.TheConstants.{PACKAGE_PAGE}
 use Rattle.sa_base.specs.declared.number.ProcNo.{ProcNo}
 use Rattle.sa_base.specs.declared.number.ThreadNo.{ThreadNo}
 use Rattle.sa_base.specs.declared.record.Record.TheVariants.{Back, Spin}
-use Rattle.sa_lists.specs.ReadyView.{thread, is_locked}
+use Rattle.sa_lists.specs.ReadyView.{is_locked}
 use Rattle.sa_code.specs.declared.code.Op.{Op}
 use Rattle.sa_code.specs.declared.code.Op.TheVariants.{TakePush, Push, TakePop, Pop, Free, Leave, Yield}
 use Rattle.sa_code.specs.declared.state.PackageState.{PackageState}

@@ -1,5 +1,5 @@
 -- What always holds of devices stays.
-use Rattle.std.proofs.Common.{◌≡◌, ℕ, zero, suc, ◌+◌, ◌≤◌, ◌^◌, Bool, true, false, cond, eqb, ltb, List, [], ◌∷◌, length, Option, Some, None, option_map, refl, sym, ap, subst, ◌∙◌, arith, sum_by, count_by, slice_index, slice_index_or, All, inl, inr, ◌<◌, ◌||◌, ◌-◌, take, drop, replicate}
+use Rattle.std.proofs.Common.{◌≡◌, ℕ, zero, suc, ◌+◌, ◌≤◌, Bool, true, false, cond, eqb, ltb, List, [], ◌∷◌, length, Option, Some, None, option_map, refl, sym, ap, subst, ◌∙◌, arith, sum_by, count_by, slice_index, slice_index_or, All, inl, inr, ◌<◌, ◌||◌, ◌-◌, take, drop, replicate}
 use Rattle.std.specs.List.{list_any, AllAdjacentBelow}
 use Rattle.std.specs.List.Sorted.{IsNonDecreasingBy, IsPartitionedBy, IsPartitionPoint}
 use Rattle.std.proofs.lemmas.Bool.{cases_eq, cases_lt, cases_Bool, lt-ltb, ltb-true, ltb-false, ne_eqb, cond-true, cond-false}

@@ -1,5 +1,5 @@
 -- The states from which no turns lead to an end.
-use Rattle.std.proofs.Common.{◌≡◌, ℕ, zero, suc, ◌+◌, ◌*◌, ◌<◌, ◌≤◌, ◌⊎◌, inl, inr, Bool, true, false, Option, Some, None, IsSome, List, [], ◌∷◌, ◌++◌, length, slice_get, refl, sym, subst, ◌∙◌, arith}
+use Rattle.std.proofs.Common.{◌≡◌, ℕ, zero, suc, ◌+◌, ◌*◌, ◌<◌, ◌⊎◌, inl, inr, Bool, true, false, Option, Some, None, IsSome, List, ◌++◌, length, slice_get, refl, sym, subst, ◌∙◌, arith}
 use Rattle.std.proofs.lemmas.Option.{slice_get_within}
 use Rattle.sa_lemmas.proofs.ListReads.{read-at}
 use Rattle.sa_base.specs.declared.number.ProcNo.{ProcNo}

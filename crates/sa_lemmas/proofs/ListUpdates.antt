@@ -1,7 +1,7 @@
 -- A list that was updated at one place, or got one item more. Lemmas on `get_or`, two updates, the length and
 -- `map` after an update are in `Rattle.std.proofs.lemmas.List`; those on sums and counts are in its `Sums`, and
 -- those on folds over `++` in its `Sums` and `Folds`.
-use Rattle.std.proofs.Common.{◌≡◌, ◌≢◌, ℕ, zero, suc, ◌<◌, ◌≤◌, Some, List, [], ◌∷◌, ◌++◌, length, slice_get, slice_set, ◌⊎◌, inl, inr, refl, ap, arith}
+use Rattle.std.proofs.Common.{◌≡◌, ◌≢◌, ℕ, zero, suc, ◌<◌, Some, List, [], ◌∷◌, ◌++◌, length, slice_get, slice_set, ◌⊎◌, inl, inr, refl, ap, arith}
 
 -- at the place itself, within the list
 pub slice_get-set_same : {A : Type 0} (xs : List A) (i : ℕ) (x : A) → i < length xs → slice_get (slice_set xs i x) i ≡ Some x

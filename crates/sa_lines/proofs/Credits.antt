@@ -1,5 +1,5 @@
 -- A credit goes through its number, and leaves the keeper as it was but for the account.
-use Rattle.std.proofs.Common.{◌≡◌, ℕ, ◌-◌, ◌*◌, ◌<◌, ◌≤◌, nat_lt, Bool, true, false, List, length, slice_set, refl, sym, ◌∙◌, ap, subst, arith, Option, None, if◌then◌else◌}
+use Rattle.std.proofs.Common.{◌≡◌, ℕ, ◌-◌, ◌<◌, ◌≤◌, nat_lt, Bool, true, false, List, length, slice_set, refl, sym, ◌∙◌, ap, subst, arith, Option, None, if◌then◌else◌}
 use Rattle.std.proofs.lemmas.Bool.Decides.{nat_tests}
 use Rattle.std.proofs.lemmas.List.{set-set}
 use Rattle.sa_base.specs.declared.limits.TheConstants.{MAX_EVENTS}

@@ -1,6 +1,6 @@
 -- What is known of pairs at the end of an event, where they are asked for before its last record.
-use Rattle.std.proofs.Common.{◌≡◌, refl, sym, ◌∙◌, ap, subst, Bool, false, [], ◌∷◌, ◌++◌, length, Option, Some}
-use Rattle.std.specs.Prelude.{◌||◌, if◌then◌else◌}
+use Rattle.std.proofs.Common.{◌≡◌, refl, sym, ◌∙◌, ap, subst, Bool, false, length, Option, Some}
+use Rattle.std.specs.Prelude.{if◌then◌else◌}
 use Rattle.sa_base.specs.declared.number.ActNo.{ActNo}
 use Rattle.sa_laws.specs.Event.{Event}
 use Rattle.sa_laws.specs.Life.{Life}

@@ -1,5 +1,5 @@
 -- An instruction that stays within its thread leaves where the thread is.
-use Rattle.std.proofs.Common.{◌≡◌, ℕ, zero, suc, ◌<◌, Bool, true, false, ◌&&◌, List, [], ◌∷◌, length, get_or, set, inl, refl, sym, ap, subst, ◌∙◌}
+use Rattle.std.proofs.Common.{◌≡◌, ℕ, zero, suc, Bool, true, ◌&&◌, List, [], ◌∷◌, get_or, set, inl, refl, sym, ap, subst, ◌∙◌}
 use Rattle.std.specs.List.{list_all}
 use Rattle.std.proofs.lemmas.List.{get_or-set_same}
 use Rattle.sa_base.specs.declared.number.ThreadNo.{ThreadNo}
@@ -11,7 +11,7 @@ use Rattle.sa_laws.specs.declared.place.Place.TheVariants as places
 use Rattle.sa_laws.specs.State.{Thread, SpaceState, at_start, thread_in, with_thread}
 use Rattle.sa_laws.specs.Effect.{effect, effect_of}
 use Rattle.sa_laws.specs.Ends.{is_done, is_at_rest}
-use Rattle.sa_replay.specs.Running.{instr_in, is_running, CanRun, IsFull}
+use Rattle.sa_replay.specs.Running.{instr_in, CanRun, IsFull}
 use Rattle.sa_replay.specs.Shape.{IsShaped}
 use Rattle.sa_replay.specs.Local.{is_local, after_local, HasRunLocal}
 use Rattle.sa_replay.proofs.ShapeLemmas.{own, runs_made}

@@ -24,7 +24,7 @@ use Rattle.sa_virtual.proofs.Kept.{threads_new}
 use Rattle.sa_virtual.proofs.MoreTurns.{same_owners, quiet_set, differs}
 use Rattle.sa_vp_model.specs.declared.limits.TheConstants.{VIRTUALS}
 use Rattle.sa_vp_model.specs.Board.{Board, act_numbers, said}
-use Rattle.sa_vp_model.specs.Turn.{continued, places, stops, gives_way}
+use Rattle.sa_vp_model.specs.Turn.{continued, stops, gives_way}
 use Rattle.sa_vp_model.specs.Mirror.{Own, Mirrors}
 use Rattle.sa_vp_model.proofs.Fitting.{fit, ready-of, work-of, blocked-of}
 use Rattle.sa_vp_model.proofs.Tables.{table_put}

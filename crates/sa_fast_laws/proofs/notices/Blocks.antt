@@ -21,7 +21,7 @@ use Rattle.sa_abstract.specs.Setting.{Setting}
 use Rattle.sa_package_model.proofs.Holding.{own_made, own_below, thread_once}
 use Rattle.sa_package_model.specs.Context.{carried_by}
 use Rattle.sa_package_model.specs.Hands.{threads_of}
-use Rattle.sa_package_model.specs.Rules.{load, placed, placed_in}
+use Rattle.sa_package_model.specs.Rules.{placed, placed_in}
 use Rattle.sa_package_model.specs.Stands.{IsStanding}
 use Rattle.sa_package_model.specs.declared.context.Context.{Context}
 use Rattle.sa_package_model.specs.declared.package.Package.{Package}

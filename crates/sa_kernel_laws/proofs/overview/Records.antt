@@ -1,5 +1,5 @@
 -- What a record changes of what the kernel knows.
-use Rattle.std.proofs.Common.{◌≡◌, ℕ, ◌+◌, inl, inr, refl, sym, ◌∙◌, ap, Some, None, List, [], ◌∷◌, ◌++◌, length, true, false}
+use Rattle.std.proofs.Common.{◌≡◌, ℕ, ◌+◌, inl, inr, refl, sym, ◌∙◌, ap, Some, None, List, [], ◌∷◌, ◌++◌, true, false}
 use Rattle.std.specs.Prelude.{Option, Bool, ◌==◌, if◌then◌else◌, get_or, slice_set, option_map, filter, find}
 use Rattle.std.specs.List.{list_all}
 use Rattle.std.proofs.Math.Path.{fun_ext}
