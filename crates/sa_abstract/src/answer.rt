@@ -3,7 +3,7 @@ use sa_base::{ProcNo, SpaceNo, ThreadNo};
 use sa_instr::Regs;
 
 /// What a step of a context asks of the kernel.
-#[derive(Clone, Copy, Debug, PartialEq, Eq)]
+#[derive(Clone, Copy)]
 pub enum Step {
     /// Nothing.
     Did,
@@ -20,7 +20,7 @@ pub enum Step {
 }
 
 /// Where a context is, as far as its processor can go on by itself.
-#[derive(Clone, Copy, Debug, PartialEq, Eq)]
+#[derive(Clone, Copy, PartialEq, Eq)]
 pub enum SeatState {
     /// At the instruction at place `pc` of a program of the space, which its thread runs.
     Local {
@@ -35,7 +35,7 @@ pub enum SeatState {
 }
 
 /// How many threads of a space there are, each at most 512.
-#[derive(Clone, Copy, Debug, PartialEq, Eq)]
+#[derive(Clone, Copy)]
 pub struct Tally {
     /// The threads that were made.
     pub made: u16,

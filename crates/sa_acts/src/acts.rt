@@ -10,7 +10,7 @@ use std::alloc::{AllocError, Global};
 use std::marker::Model;
 
 /// An activation whose number is in use.
-#[derive(Debug, Drop)]
+#[derive(Drop)]
 pub struct Act<C> {
     pub space: SpaceNo,
     /// The context that the kernel holds of it, once it was stopped or has blocked.
@@ -21,7 +21,7 @@ pub struct Act<C> {
 
 /// The activations whose numbers are in use, and room for some more, which `reserve` makes. No other call can fail for
 /// want of memory.
-#[derive(Debug, Drop)]
+#[derive(Drop)]
 pub struct Acts<C: Drop> {
     slots: Slab<Act<C>>,
     // of each space, in the order in which they were taken

@@ -6,7 +6,7 @@ use std::collections::VecDeque;
 use std::marker::Model;
 
 // Numbers of activations, in the order in which they were taken. Only `reserve` can fail for want of memory.
-#[derive(Debug, Drop)]
+#[derive(Drop)]
 pub(crate) struct Queue {
     numbers: VecDeque<ActNo>,
 }

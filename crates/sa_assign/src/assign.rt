@@ -17,7 +17,7 @@ pub const AIM_ITEMS: usize = 2 * PLACES;
 /// Of each processor: the space that owns it, its aim, its interrupt line and its idle mark. The owner
 /// is the space whose activation runs there; the aim is the space that the policy gave it to; a raised
 /// line asks for an interrupt. No call can fail for want of memory.
-#[derive(Debug, Drop)]
+#[derive(Drop)]
 pub struct Assign {
     owners: ArrayVec<Option<SpaceNo>, PLACES>,
     aims: ArrayVec<Option<SpaceNo>, PLACES>,

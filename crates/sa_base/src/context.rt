@@ -1,7 +1,7 @@
 use crate::number::{ProcNo, ThreadNo};
 
 /// A context that the kernel keeps, with what it knows of it.
-#[derive(Debug, PartialEq, Eq, Drop)]
+#[derive(Drop)]
 pub struct Stopped<C> {
     pub ctx: C,
     /// The thread that the context carries.
@@ -11,7 +11,7 @@ pub struct Stopped<C> {
 }
 
 /// What a user level sees of the kernel at its call.
-#[derive(Clone, Copy, Debug, PartialEq, Eq)]
+#[derive(Clone, Copy)]
 pub struct Seen {
     /// The processor that it runs on.
     pub proc: ProcNo,

@@ -1,7 +1,7 @@
 use crate::number::{ActNo, IoNo, ProcNo, SpaceNo, ThreadNo};
 
 /// What an upcall passes to the user level: one of the four kernel events of the paper.
-#[derive(Clone, Copy, Debug, PartialEq, Eq)]
+#[derive(Clone, Copy, PartialEq, Eq)]
 pub enum Note {
     /// Add this processor: it is the space's from now on.
     Add(ProcNo),
@@ -22,7 +22,7 @@ impl Default for Note {
 
 /// What happened, without its event. The 23 kinds are in the order of the trace text's counts.
 /// A thread that may be absent is the one that the context carries.
-#[derive(Clone, Copy, Debug, PartialEq, Eq)]
+#[derive(Clone, Copy, PartialEq, Eq)]
 pub enum Record {
     /// The thread ran the instruction at this place.
     Ins(SpaceNo, ThreadNo, u16),
@@ -73,7 +73,7 @@ pub enum Record {
 }
 
 /// A record of an event. Event 0 is the opening, and the first turn is event 1.
-#[derive(Clone, Copy, Debug, PartialEq, Eq)]
+#[derive(Clone, Copy)]
 pub struct Item {
     pub event: u64,
     /// The processor whose turn the event is.
@@ -82,7 +82,7 @@ pub struct Item {
 }
 
 /// How a run ended.
-#[derive(Clone, Copy, Debug, PartialEq, Eq)]
+#[derive(Clone, Copy, PartialEq, Eq)]
 pub enum End {
     /// Every thread that was made is done.
     AllDone,

@@ -7,7 +7,7 @@ use std::error::Error;
 use std::fmt;
 
 /// The first thing that is wrong with a line of a text.
-#[derive(Clone, Copy, Debug, PartialEq, Eq)]
+#[derive(Clone, Copy, Debug)]
 pub enum Cause {
     /// A byte is not from 0x20 to 0x7E.
     NotAscii = 1,
@@ -39,7 +39,7 @@ impl Cause {
 }
 
 /// Why a text is refused: the first line that is wrong, from 1, and the number of the cause.
-#[derive(Clone, Copy, Debug, PartialEq, Eq)]
+#[derive(Clone, Copy, Debug)]
 pub struct Bad {
     pub line: u64,
     pub why: u8,
@@ -66,7 +66,7 @@ impl fmt::Display for Bad {
 impl Error for Bad {}
 
 /// Why a text was not read.
-#[derive(Clone, Copy, Debug, PartialEq, Eq)]
+#[derive(Clone, Copy, Debug)]
 pub enum Unread {
     /// The text is none of its kind.
     Bad(Bad),

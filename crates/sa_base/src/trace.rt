@@ -8,7 +8,7 @@ use std::alloc::{AllocError, Global};
 use std::marker::Model;
 
 /// The history of a run: its items, and room for some more, which `reserve` makes.
-#[derive(Debug, Drop)]
+#[derive(Drop)]
 pub struct Trace {
     items: Vec<Item>,
     spare: usize,

@@ -10,7 +10,7 @@ const INLINE: usize = 8;
 
 /// Notices that wait to be told, and room for some more, which `reserve` makes. No other call can fail for
 /// want of memory.
-#[derive(Debug, Drop)]
+#[derive(Drop)]
 pub struct Batch {
     notes: SmallVec<Note, INLINE>,
     // how many of them were handed out

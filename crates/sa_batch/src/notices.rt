@@ -10,7 +10,7 @@ use std::marker::Model;
 
 /// The notices of each space that it was not told yet, and those that the last upcall told, as far as its context has
 /// not fetched them. Only `new` and `reserve` can fail for want of memory.
-#[derive(Debug, Drop)]
+#[derive(Drop)]
 pub struct Notices {
     untold: Vec<Batch>,
     // The notice of the upcall that a processor was added, which comes before the others of `telling`.

@@ -7,7 +7,7 @@ use sa_base::{ActNo, ProcNo, SpaceNo, ThreadNo};
 use std::alloc::AllocError;
 
 /// A thing of a moment that has a text.
-#[derive(Clone, Copy, Debug, PartialEq, Eq)]
+#[derive(Clone, Copy)]
 pub enum Cell {
     /// The space that owns the processor.
     Owner(ProcNo),

@@ -10,7 +10,7 @@ use sa_spaces::Workload;
 use std::alloc::{AllocError, Global};
 
 /// What is read of a history at a moment: the moment, and the abstract machine of threads beside it.
-#[derive(Debug, Drop)]
+#[derive(Drop)]
 pub struct View {
     /// The moment.
     pub moment: Moment,

@@ -10,3 +10,5 @@ pub mod UrgedLemmas
 pub mod JudgeLemmas
 pub mod WalkLemmas
 pub mod ReadLemmas
+pub mod ChangeLemmas
+pub mod EachLemmas

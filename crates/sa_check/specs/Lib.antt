@@ -8,3 +8,7 @@ pub mod Findings
 pub mod Sides
 pub mod Judged
 pub mod Gathered
+pub mod Each
+pub mod Prompt
+pub mod Reaimed
+pub mod Wanting

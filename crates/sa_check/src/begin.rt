@@ -17,7 +17,7 @@ use sa_check_rules::{
 use sa_check_shapes::{has_aims, last_lines};
 
 /// What was found before an event and as it begins, and what its end will need.
-#[derive(Clone, Copy, Debug)]
+#[derive(Clone, Copy)]
 pub(crate) struct Beginning {
     pub(crate) start: Start,
     pub(crate) demand_announced: bool,

@@ -7,21 +7,21 @@ ghost use Rattle.sa_check.specs.Places.{HasShares};
 ghost use Rattle.sa_check.specs.Quiet.{IsSettled};
 ghost use Rattle.sa_check.specs.Sides.{IsEnding, line_told};
 
+use crate::{are_lines_due, covers_shares, is_told_in_time, wants_nothing};
 use sa_base::End;
-use sa_check_closing::{are_lines_due, covers_shares, is_told_in_time, wants_nothing};
 use sa_check_moment::Moment;
 use sa_check_rules::{each_runs_for_its_owner, is_told_end, run_goes_on};
 use std::alloc::{AllocError, Global};
 
 /// What the last line of a trace tells: how the run ended, and its number of events.
-#[derive(Clone, Copy, Debug)]
+#[derive(Clone, Copy)]
 pub(crate) struct LastTold {
     pub(crate) end: End,
     pub(crate) events: u64,
 }
 
 /// What was found after an event.
-#[derive(Clone, Copy, Debug)]
+#[derive(Clone, Copy)]
 pub(crate) struct Ending {
     pub(crate) told_in_time: bool,
     pub(crate) owned: bool,

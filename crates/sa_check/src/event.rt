@@ -8,7 +8,7 @@ use sa_base::{Item, ProcNo, Record, Unread};
 use sa_trace::{Reader, Said};
 
 /// An event of a trace: its number, its processor, and its records in order.
-#[derive(Clone, Copy, Debug)]
+#[derive(Clone, Copy)]
 pub(crate) struct TraceEvent<'a> {
     pub(crate) number: u64,
     pub(crate) proc: ProcNo,

@@ -7,7 +7,7 @@ ghost use Rattle.sa_check.specs.Findings.{found_of};
 use sa_laws::Rule;
 
 /// Whether each rule holds at an event, but for the first two, which hold.
-#[derive(Clone, Copy, Debug)]
+#[derive(Clone, Copy)]
 pub(crate) struct Findings {
     pub(crate) told_once: bool,
     pub(crate) told_in_time: bool,

@@ -13,16 +13,16 @@ use crate::begin::{Beginning, begin, begin_quiet};
 use crate::end::{Ending, LastTold, look_after, settled_after};
 use crate::event::TraceEvent;
 use crate::findings::Findings;
+use crate::is_numbered;
 use crate::places::DueFound;
 use crate::quiet::{is_known_quiet, read_quiet};
 use crate::records::{RecordsFound, read_records};
-use sa_check_closing::is_numbered;
 use sa_check_moment::Moment;
 use sa_laws::Rule;
 use std::alloc::{AllocError, Global};
 
 /// The moment between two events, and whether it is calm: no line is due.
-#[derive(Debug, Drop)]
+#[derive(Drop)]
 pub(crate) struct Between {
     pub(crate) moment: Moment,
     /// It is calm; where this is not known it is not set.
@@ -30,7 +30,7 @@ pub(crate) struct Between {
 }
 
 /// How an event was judged.
-#[derive(Debug, Drop)]
+#[derive(Drop)]
 pub(crate) enum Judged {
     /// Each rule holds; what comes after it.
     Right(Between),

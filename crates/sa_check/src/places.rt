@@ -6,8 +6,8 @@ ghost use Rattle.sa_check.specs.Items.{told_event};
 ghost use Rattle.sa_check.specs.Places.{AimsAreDue, HasShares, DueMore};
 
 use crate::event::TraceEvent;
+use crate::{are_aims_due, are_lines_due, are_wants_due, covers_shares};
 use sa_base::{ActNo, Record};
-use sa_check_closing::{are_aims_due, are_lines_due, are_wants_due, covers_shares};
 use sa_check_moment::Moment;
 use sa_check_shapes::{
     before_aims, before_wants, front_part, has_aims, last_lines, others_of, own_part,
@@ -15,7 +15,7 @@ use sa_check_shapes::{
 use std::alloc::{AllocError, Global};
 
 /// Behind how many records of an event wants, aims and lines are due, and its own part ends.
-#[derive(Clone, Copy, Debug)]
+#[derive(Clone, Copy)]
 pub(crate) struct Places {
     pub(crate) wants: usize,
     pub(crate) aims: usize,
@@ -43,7 +43,7 @@ impl Places {
 /// The wants, aims and lines of an event are those that are due at their places; at the last place that was looked at
 /// each space is known to have its share of aims; and behind its own part, by rules of ranks, a pair existed of the
 /// space of the life that ran before it.
-#[derive(Clone, Copy, Debug)]
+#[derive(Clone, Copy)]
 pub(crate) struct DueFound {
     pub(crate) wants: bool,
     pub(crate) aims: bool,
@@ -117,7 +117,7 @@ impl DueFound {
 }
 
 // The aims of an event are those that are due, and whether each space has its share of aims without them.
-#[derive(Clone, Copy, Debug)]
+#[derive(Clone, Copy)]
 struct AimsFound {
     due: bool,
     covered: bool,

@@ -7,10 +7,10 @@ ghost use Rattle.sa_check.specs.Quiet.{is_quiet_record, keeps_first, is_quiet, I
 ghost use Rattle.sa_check.specs.Records.{ReadsRecords};
 
 use crate::event::TraceEvent;
+use crate::first_space;
 use crate::places::DueFound;
 use crate::records::{ReadThrough, RecordsFound};
 use sa_base::{ActNo, Record};
-use sa_check_closing::first_space;
 use sa_check_moment::Moment;
 use sa_spaces::Workload;
 use std::alloc::AllocError;

@@ -12,7 +12,7 @@ use sa_check_rules::{gives_upcall, names_the_life, raises_line, tells_all, tells
 use std::alloc::{AllocError, Global};
 
 /// Of each law of records: it held of each so far.
-#[derive(Clone, Copy, Debug)]
+#[derive(Clone, Copy)]
 pub(crate) struct RecordsFound {
     pub(crate) told_once: bool,
     pub(crate) named: bool,
@@ -54,7 +54,7 @@ impl RecordsFound {
 }
 
 /// The moment after the records of an event, and what was found on the way.
-#[derive(Debug, Drop)]
+#[derive(Drop)]
 pub(crate) struct ReadThrough {
     pub(crate) moment: Moment,
     pub(crate) laws: RecordsFound,

@@ -1,7 +1,7 @@
 use sa_laws::Rule;
 
 /// What a trace text is found to be, beside its workload.
-#[derive(Clone, Copy, Debug, PartialEq, Eq)]
+#[derive(Clone, Copy)]
 pub enum Verdict {
     /// Each rule holds at each event, and the last line tells the end.
     Legal,

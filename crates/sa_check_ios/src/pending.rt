@@ -16,7 +16,7 @@ use std::alloc::{AllocError, Global};
 use std::marker::Model;
 
 /// The I/Os under way and the resident pages of each space, as a history tells them.
-#[derive(Debug, Drop)]
+#[derive(Drop)]
 pub struct Pending {
     io_count: u64,
     ios: UnderWay,

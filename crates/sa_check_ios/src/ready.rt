@@ -11,7 +11,7 @@ use std::alloc::{AllocError, Global};
 use std::marker::Model;
 
 /// A thread of a ready list.
-#[derive(Clone, Copy, Debug, PartialEq, Eq)]
+#[derive(Clone, Copy)]
 pub struct ListedThread {
     /// The thread, one of the list's space.
     pub thread: ThreadNo,
@@ -30,7 +30,7 @@ impl Model for ListedThread {
 }
 
 // The ready threads of one space, in the order of their ready records.
-#[derive(Debug, Drop)]
+#[derive(Drop)]
 struct Row {
     threads: Vec<ListedThread>,
 }
@@ -46,7 +46,7 @@ impl Model for Row {
 
 /// Of each space the ready threads in the order of their ready records, each with its list. A space that is not there
 /// has none.
-#[derive(Debug, Drop)]
+#[derive(Drop)]
 pub struct ReadyLists {
     rows: Vec<Row>,
 }

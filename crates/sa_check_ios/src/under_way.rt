@@ -13,7 +13,7 @@ use std::alloc::{AllocError, Global};
 use std::marker::Model;
 
 // An I/O under way: its number, the event from which on it is due, and what it is for.
-#[derive(Clone, Copy, Debug)]
+#[derive(Clone, Copy)]
 pub(crate) struct BegunIo {
     pub(crate) number: u64,
     pub(crate) ends: u128,
@@ -31,7 +31,7 @@ impl Model for BegunIo {
 }
 
 // Those under way, and of them the one with the least end, and of these the one with the least number.
-#[derive(Debug, Drop)]
+#[derive(Drop)]
 pub(crate) struct UnderWay {
     ios: Vec<BegunIo>,
     soonest: Option<BegunIo>,

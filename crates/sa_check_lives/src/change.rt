@@ -5,7 +5,7 @@ use crate::lock::ListLock;
 use sa_base::ThreadNo;
 
 /// How many looks found no thread, after a step.
-#[derive(Clone, Copy, Debug, PartialEq, Eq)]
+#[derive(Clone, Copy)]
 pub enum Scan {
     /// One more than before.
     More,
@@ -16,7 +16,7 @@ pub enum Scan {
 }
 
 /// What becomes of a life at the end of an own event.
-#[derive(Clone, Copy, Debug, PartialEq, Eq)]
+#[derive(Clone, Copy)]
 pub struct Stepped {
     /// The event was a free.
     pub freed: bool,
@@ -27,7 +27,7 @@ pub struct Stepped {
 }
 
 /// What a record, or the end of an event, changes in a life.
-#[derive(Debug, Drop)]
+#[derive(Drop)]
 pub enum Change {
     /// Its stop, of this thread.
     Stop(Option<ThreadNo>),

@@ -12,7 +12,7 @@ use std::marker::Model;
 use std::mem;
 
 // What a change took from a life: the last of its locks, and that it was in.
-#[derive(Clone, Copy, Debug, PartialEq, Eq)]
+#[derive(Clone, Copy)]
 pub(crate) struct Lost {
     pub(crate) lock: bool,
     pub(crate) inside: bool,
@@ -26,7 +26,7 @@ impl Lost {
 }
 
 /// A life: what runs from an upcall on, under the number of its activation.
-#[derive(Debug, Drop)]
+#[derive(Drop)]
 pub struct KeptLife {
     space: SpaceNo,
     proc: ProcNo,

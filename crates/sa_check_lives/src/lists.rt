@@ -8,7 +8,7 @@ use std::alloc::{AllocError, Global};
 use std::marker::Model;
 
 // Items of one space, in order.
-#[derive(Debug, Drop)]
+#[derive(Drop)]
 pub(crate) struct Row<T: Copy> {
     items: Vec<T>,
 }

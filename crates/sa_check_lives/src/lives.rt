@@ -24,7 +24,7 @@ use std::marker::Model;
 /// hands over; through the lives that have locks where one frees its last, through those that are in where one is out
 /// that was in, and through the row of a space where a life is given back; a notice that is told is looked for in what
 /// is untold.
-#[derive(Debug, Drop)]
+#[derive(Drop)]
 pub struct Lives {
     alloc: Global,
     table: Table,

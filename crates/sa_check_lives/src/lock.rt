@@ -2,7 +2,7 @@ use sa_base::{ProcNo, ThreadNo};
 use std::marker::Model;
 
 /// The lock of a ready list that a life has.
-#[derive(Clone, Copy, Debug, PartialEq, Eq)]
+#[derive(Clone, Copy)]
 pub struct ListLock {
     /// The list, one of its life's space.
     pub list: ProcNo,

@@ -17,7 +17,7 @@ use std::marker::Model;
 pub(crate) const SHELVES: usize = 512;
 
 // The lives by their numbers.
-#[derive(Debug, Drop)]
+#[derive(Drop)]
 pub(crate) struct Shelves {
     shelves: Vec<Shelf>,
 }
@@ -124,7 +124,7 @@ impl Shelves {
 }
 
 // One shelf, with the lives whose numbers are its: mostly one, and so they are looked through.
-#[derive(Debug, Drop)]
+#[derive(Drop)]
 struct Shelf {
     lives: Vec<(u64, KeptLife)>,
 }

@@ -21,7 +21,7 @@ use std::marker::Model;
 
 // The lives by their numbers. Beside them are the numbers of those that have a lock, and of those that are in: each
 // such life is among them, and few others.
-#[derive(Debug, Drop)]
+#[derive(Drop)]
 pub(crate) struct Table {
     lives: Shelves,
     holders: Vec<u64>,

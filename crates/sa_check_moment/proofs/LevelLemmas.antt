@@ -16,10 +16,10 @@ use Rattle.sa_laws.specs.Readings.{Readings, Listed, opening_readings}
 use Rattle.sa_laws.specs.Record.{after_record}
 use Rattle.sa_laws.specs.Step.{Needs}
 use Rattle.sa_ranks.specs.Pairs.{is_outranked, outranked_by, outranked_on, has_pair, IsLowest}
-use Rattle.sa_check_ranks.specs.Ranked.{row_at, row_stack, opening_row, newest, is_below, IsBest}
-use Rattle.sa_check_ranks.specs.Ranking.{IsRanked, AreRanked}
-use Rattle.sa_check_ranks.proofs.Histories.{opening-ranked, ranked-behind}
-use Rattle.sa_check_ranks.proofs.Best.{best-row, next-row, no-next}
+use Rattle.sa_check_moment.specs.Ranked.{row_at, row_stack, opening_row, newest, is_below, IsBest}
+use Rattle.sa_check_moment.specs.Ranking.{IsRanked, AreRanked}
+use Rattle.sa_check_moment.proofs.Histories.{opening-ranked, ranked-behind}
+use Rattle.sa_check_moment.proofs.Best.{best-row, next-row, no-next}
 use Rattle.sa_check_moment.specs.declared.rules.Rules.TheVariants as rules
 use Rattle.sa_check_moment.specs.declared.level.Level.{Level}
 use Rattle.sa_check_moment.specs.declared.level.Level.TheVariants.{FastThreads, Priorities}

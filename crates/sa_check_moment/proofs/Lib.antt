@@ -5,3 +5,7 @@ pub mod ListedLemmas
 pub mod OpenLemmas
 pub mod PageLemmas
 pub mod LevelLemmas
+pub mod Keeping
+pub mod Rows
+pub mod Histories
+pub mod Best

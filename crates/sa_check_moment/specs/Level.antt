@@ -6,8 +6,8 @@ use Rattle.sa_base.specs.declared.record.Record.{Record}
 use Rattle.sa_laws.specs.State.{State, SpaceState}
 use Rattle.sa_laws.specs.Readings.{Listed}
 use Rattle.sa_ranks.specs.Locks.{greatest_of}
-use Rattle.sa_check_ranks.specs.Ranked.{row_stack, newest, IsBest}
-use Rattle.sa_check_ranks.specs.Ranking.{AreRanked, ReadsRanked}
+use Rattle.sa_check_moment.specs.Ranked.{row_stack, newest, IsBest}
+use Rattle.sa_check_moment.specs.Ranking.{AreRanked, ReadsRanked}
 use Rattle.sa_check_moment.specs.declared.rules.Rules.{Rules}
 use Rattle.sa_check_moment.specs.declared.rules.Rules.TheVariants as rules
 use Rattle.sa_check_moment.specs.declared.level.Level.{Level}

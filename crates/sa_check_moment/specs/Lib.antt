@@ -7,3 +7,5 @@ pub mod Reading
 pub mod Rules
 pub mod Seen
 pub mod Urged
+pub mod Ranked
+pub mod Ranking

@@ -10,7 +10,7 @@ use std::marker::Model;
 
 // Of each processor the space of its last aim record, the event that raised its line and its idle mark, and of each space
 // the number of its last want record. A processor or a space that is not there has none, and gets none.
-#[derive(Debug, Drop)]
+#[derive(Drop)]
 pub(crate) struct Board {
     aims: Vec<Option<SpaceNo>>,
     lines: Vec<Option<u64>>,

@@ -4,19 +4,19 @@ ghost use Rattle.sa_spaces.specs.Workload.{WorkloadView};
 ghost use Rattle.sa_laws.specs.State.{State, space_at};
 ghost use Rattle.sa_laws.specs.Readings.{Listed, opening_readings};
 ghost use Rattle.sa_ranks.specs.Pairs.{is_outranked};
-ghost use Rattle.sa_check_ranks.specs.Ranked.{row_at, is_below};
-ghost use Rattle.sa_check_ranks.specs.Ranking.{ReadsRanked};
+ghost use Rattle.sa_check_moment.specs.Ranked.{row_at, is_below};
+ghost use Rattle.sa_check_moment.specs.Ranking.{ReadsRanked};
 ghost use Rattle.sa_check_moment.specs.declared.rules.Rules.TheVariants as kinds;
 ghost use Rattle.sa_check_moment.specs.Level.{rules_in, IsKeptFor, ReadsLevel, IsNext, next_of};
 
+use crate::RankedReady;
 use crate::rules::Rules;
 use sa_base::{Record, SpaceNo, ThreadNo};
-use sa_check_ranks::RankedReady;
 use sa_replay::Replay;
 use std::alloc::{AllocError, Global};
 
 // What is kept for the rules of a user level, beside what is read for those of each.
-#[derive(Debug, Drop)]
+#[derive(Drop)]
 pub(crate) enum Level {
     FastThreads,
     // the ready threads by their ranks

@@ -42,13 +42,13 @@ use std::marker::Model;
 /// lives, which takes time in these. An event takes such time for each of its records.
 ///
 /// It lies on the heap, so that it is moved for nothing.
-#[derive(Debug, Drop)]
+#[derive(Drop)]
 pub struct Moment {
     parts: Box<Parts>,
 }
 
 // The parts of what is read.
-#[derive(Debug, Drop)]
+#[derive(Drop)]
 struct Parts {
     replay: Replay,
     lives: Lives,

@@ -2,7 +2,7 @@
 use sa_base::ActNo;
 
 /// What the end of an event needs of the moment before it.
-#[derive(Clone, Copy, Debug)]
+#[derive(Clone, Copy)]
 pub struct Start {
     /// The life that runs on the event's processor before the event.
     pub running: Option<ActNo>,

@@ -9,7 +9,7 @@ use crate::parts::{leave_run, parted};
 use sa_base::{ProcNo, Record, SpaceNo};
 
 /// The upcall page of a space.
-#[derive(Clone, Copy, Debug, PartialEq, Eq)]
+#[derive(Clone, Copy)]
 pub struct UpcallPage {
     pub resident: bool,
     pub fetching: bool,

@@ -9,7 +9,7 @@ use crate::parts::parted;
 use sa_base::{Note, ProcNo, Record, SpaceNo};
 
 /// An aim of a processor at a space.
-#[derive(Clone, Copy, Debug, PartialEq, Eq)]
+#[derive(Clone, Copy)]
 pub struct Aimed {
     pub proc: ProcNo,
     pub space: SpaceNo,

@@ -1,7 +1,7 @@
 -- An input of two texts is found to be one thing.
 use Rattle.std.proofs.Common.{◌≡◌, ℕ, ◌≤◌, List, [], ◌++◌, length, Option, Some, None, Ok, Err, refl, sym, ap, ◌∙◌, subst, arith, inl, inr, length-append}
 use Rattle.std.proofs.lemmas.List.{append-nil}
-use Rattle.std.specs.Prelude.{IfSome, ◌↔◌}
+use Rattle.std.specs.Prelude.{IfSome}
 use Rattle.sa_base.specs.declared.refusal.Bad.{Bad}
 use Rattle.sa_spaces.specs.Workload.{WorkloadView}
 use Rattle.sa_workload.specs.Bad.{BadAt}

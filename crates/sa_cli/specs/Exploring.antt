@@ -11,9 +11,9 @@ use Rattle.sa_explore_model.specs.declared.answer.Extent.{Extent}
 use Rattle.sa_explore_model.specs.declared.answer.Extent.TheVariants.{All, Part}
 use Rattle.sa_explore_model.specs.declared.answer.Found.{Found}
 use Rattle.sa_explore_model.specs.declared.answer.Explored.{Explored}
-use Rattle.sa_waits.specs.declared.answer.Wait.{Wait}
-use Rattle.sa_explore_text.specs.Text.{explored_text}
-use Rattle.sa_explore_text.specs.Given.{workload_text}
+use Rattle.sa_explore_run.specs.declared.answer.Wait.{Wait}
+use Rattle.sa_explore_run.specs.Text.{explored_text}
+use Rattle.sa_explore_run.specs.GivenText.{workload_text}
 use Rattle.sa_explore_run.specs.Answer.{IsAnswer}
 use Rattle.sa_command.specs.declared.command.PackageWord.{PackageWord}
 use Rattle.sa_command.specs.declared.command.PackageWord.TheVariants.{Fast, Prio}

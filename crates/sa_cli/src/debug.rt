@@ -23,7 +23,7 @@ use sa_io::{Failed, Pieces, Sink, Source, read_input};
 use std::alloc::Global;
 
 // Why no session is over.
-#[derive(Debug, Drop)]
+#[derive(Drop)]
 enum Stopped {
     // The first part of the input is no workload text.
     BadWorkload(Bad),

@@ -17,8 +17,7 @@ use sa_command::{GiveWord, PackageWord};
 use sa_debug_laws::laws::{fast_threads_can_be_debugged, prio_threads_can_be_debugged};
 use sa_explore::Progress;
 use sa_explore_model::{Explored, Extent, Found};
-use sa_explore_run::{Answer, search};
-use sa_explore_text::{explored_text, workload_text};
+use sa_explore_run::{Answer, explored_text, search, workload_text};
 use sa_io::{Sink, Source};
 use sa_package::FastThreads;
 use sa_prio::PrioThreads;
@@ -26,7 +25,7 @@ use sa_spaces::Workload;
 use std::alloc::{AllocError, Global};
 
 // What is told of a search.
-#[derive(Debug, Drop)]
+#[derive(Drop)]
 struct Told {
     text: Vec<u8>,
     finding: Finding,

@@ -15,7 +15,7 @@ use sa_io::{ReadError, Source, read_input};
 use std::alloc::{AllocError, Global};
 
 /// What an input of two texts is found to be.
-#[derive(Clone, Copy, Debug, PartialEq, Eq)]
+#[derive(Clone, Copy)]
 pub enum Found {
     /// A workload and a trace, with this verdict.
     Judged(Verdict),

@@ -10,7 +10,7 @@ use sa_seat::Closed;
 use std::alloc::AllocError;
 
 /// What a search through every order of turns says of a workload.
-#[derive(Clone, Copy, Debug, PartialEq, Eq)]
+#[derive(Clone, Copy)]
 pub enum Finding {
     /// Every order was looked at, no run is stuck, and from each state some order of turns leads to an end.
     Clear,
@@ -21,7 +21,7 @@ pub enum Finding {
 }
 
 /// How the top call ended. `code` is the program's exit status.
-#[derive(Clone, Copy, Debug, PartialEq, Eq)]
+#[derive(Clone, Copy)]
 pub enum Status {
     /// The run ended with every thread done, and all was written.
     AllDone,

@@ -6,7 +6,7 @@ use arrayvec::ArrayVec;
 use std::marker::Model;
 
 /// One micro-operation of the package's code.
-#[derive(Clone, Copy, Debug, Default, PartialEq, Eq)]
+#[derive(Clone, Copy, Default)]
 pub enum Op {
     /// Takes the lock of a list to push a thread.
     TakePush,
@@ -29,7 +29,7 @@ pub enum Op {
 pub const CODE_PLACES: usize = 14;
 
 /// A list of micro-operations, one for each place from 0 on.
-#[derive(Debug, Drop)]
+#[derive(Drop)]
 pub struct Code {
     ops: ArrayVec<Op, CODE_PLACES>,
 }

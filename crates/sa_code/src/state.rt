@@ -7,7 +7,7 @@ use sa_lists::ReadyLists;
 pub const MAX_LISTS: usize = MAX_PROCESSORS as usize;
 
 /// What the contexts of a space share.
-#[derive(Debug, Drop)]
+#[derive(Drop)]
 pub struct PackageState {
     pub space: SpaceNo,
     pub lists: ReadyLists,
@@ -19,7 +19,7 @@ pub struct PackageState {
 }
 
 /// Where a context is in the package's code, and with what.
-#[derive(Clone, Copy, Debug, Default, PartialEq, Eq)]
+#[derive(Clone, Copy, Default)]
 pub struct Frame {
     /// The place.
     pub pc: u16,
@@ -34,7 +34,7 @@ pub struct Frame {
 }
 
 /// What came of a micro-operation.
-#[derive(Clone, Copy, Debug, PartialEq, Eq)]
+#[derive(Clone, Copy)]
 pub enum MicroDone {
     /// It was done, and the frame is at the next place.
     Did,

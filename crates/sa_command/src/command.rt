@@ -1,7 +1,7 @@
 use sa_base::ProcNo;
 
 /// The order of turns that a run is asked for.
-#[derive(Clone, Copy, Debug, PartialEq, Eq)]
+#[derive(Clone, Copy)]
 pub enum ScheduleWord {
     /// `rr`: each processor in turn.
     RoundRobin,
@@ -14,7 +14,7 @@ pub enum ScheduleWord {
 }
 
 /// The user level that a run has in each space.
-#[derive(Clone, Copy, Debug, PartialEq, Eq)]
+#[derive(Clone, Copy)]
 pub enum PackageWord {
     /// `fast`: FastThreads.
     Fast,
@@ -23,7 +23,7 @@ pub enum PackageWord {
 }
 
 /// The schedule that an exploration is asked for.
-#[derive(Clone, Copy, Debug, PartialEq, Eq)]
+#[derive(Clone, Copy)]
 pub enum GiveWord {
     /// `alldone`: the one to all threads done.
     AllDone,
@@ -34,7 +34,7 @@ pub enum GiveWord {
 }
 
 /// What the program is asked to do.
-#[derive(Clone, Copy, Debug, PartialEq, Eq)]
+#[derive(Clone, Copy)]
 pub enum Command {
     /// Runs the workload of standard input with this user level, for at most that many events, 1 to 1,000,000.
     Run {

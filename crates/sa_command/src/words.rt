@@ -3,7 +3,7 @@ ghost use Rattle.std.specs.Prelude.{◌≡◌, map, string_bytes};
 use std::marker::Model;
 
 /// The words of a command line after the program's name, in order. Contracts see the list of their bytes.
-#[derive(Debug, Drop)]
+#[derive(Drop)]
 pub struct Words {
     list: Vec<String>,
 }

@@ -6,14 +6,17 @@ use Rattle.sa_base.specs.declared.number.ProcNo.{ProcNo}
 use Rattle.sa_base.specs.declared.record.Item.{Item}
 use Rattle.sa_assign.specs.Reaim.{proc_no}
 
+-- for each processor whether it is halted, where none is
 abbrev pub none_halted : List Bool
 none_halted = replicate MAX_PROCESSORS false
 
+-- the processor is not halted
 abbrev pub goes : List Bool → ProcNo → Bool
 goes halted p = not (slice_index_or halted p.0 false)
 
-abbrev pub NoneHalted : List Bool → Type 0
-NoneHalted halted = (p : ProcNo) → p.0 < MAX_PROCESSORS → goes halted p ≡ true
+-- no processor is halted
+abbrev pub EachGoes : List Bool → Type 0
+EachGoes halted = (p : ProcNo) → p.0 < MAX_PROCESSORS → goes halted p ≡ true
 
 -- a number of processors, cyclically from one on
 abbrev pub in_order : ℕ → ℕ → List ProcNo

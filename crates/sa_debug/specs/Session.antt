@@ -13,7 +13,7 @@ use Rattle.sa_script.specs.declared.reply.Reply.{Reply}
 use Rattle.sa_script.specs.declared.reply.Reply.TheVariants.{Accepted, Full, NotThere, Event, Ended, AtBreak, Halted, Shown}
 use Rattle.sa_debug.specs.declared.points.TheConstants.{MAX_POINTS}
 use Rattle.sa_debug.specs.Points.{same_point, is_other}
-use Rattle.sa_debug.specs.Order.{none_halted, goes, NoneHalted, in_order}
+use Rattle.sa_debug.specs.Order.{none_halted, goes, EachGoes, in_order}
 
 -- what is watched: which turns it can make, how it has ended, and what is read of it
 pub record Watched (M : Type 0) : Type 1 where
@@ -76,7 +76,7 @@ module _ {M : Type 0} where
 
   -- no processor is halted, and there is no breakpoint
   abbrev pub IsFree : Session M → Type 0
-  IsFree s = NoneHalted s.halted × (s.points ≡ [])
+  IsFree s = EachGoes s.halted × (s.points ≡ [])
 
 module _ {M : Type 0} (o : Watched M) where
   -- the processor after that of the last event, and before event 1 processor 0

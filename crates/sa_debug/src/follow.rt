@@ -11,7 +11,7 @@ use std::alloc::AllocError;
 use std::marker::Model;
 
 /// The abstract machine of threads after the first items of a trace.
-#[derive(Debug, Drop)]
+#[derive(Drop)]
 pub(crate) struct Follower {
     replay: Replay,
     // how many items it has taken

@@ -2,13 +2,13 @@
 ghost use Rattle.std.specs.Prelude.{◌≡◌, ◌<◌, ◌≤◌, ◌%◌, ◌↔◌, find, slice_set, IsTrue};
 ghost use Rattle.sa_base.specs.declared.limits.TheConstants.{MAX_PROCESSORS};
 ghost use Rattle.sa_assign.specs.Reaim.{proc_no};
-ghost use Rattle.sa_debug.specs.Order.{goes, NoneHalted, in_order};
+ghost use Rattle.sa_debug.specs.Order.{goes, EachGoes, in_order};
 
 use sa_base::{MAX_PROCESSORS, ProcNo};
 use std::marker::Model;
 
 /// Of each processor, whether it is halted.
-#[derive(Debug, Drop)]
+#[derive(Drop)]
 pub(crate) struct Halts {
     halted: [bool; MAX_PROCESSORS as usize],
 }
@@ -43,7 +43,7 @@ impl Halts {
 
     /// Whether no processor is halted.
     pub(crate) fn are_none(&self) -> bool
-        ensures { IsTrue result ↔ NoneHalted self.now }
+        ensures { IsTrue result ↔ EachGoes self.now }
     {
         for p in 0..MAX_PROCESSORS {
             if !self.goes(p) {

@@ -15,7 +15,7 @@ const SLOTS: usize = 64;
 
 /// The breakpoints, in the order in which they were set. The slot of each one's thread is set in `threads`, and that of its
 /// place in `places`; the slots of one that was taken away may stay set.
-#[derive(Debug, Drop)]
+#[derive(Drop)]
 pub(crate) struct Points {
     points: Vec<Point>,
     threads: [bool; SLOTS],

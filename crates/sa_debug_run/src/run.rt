@@ -15,7 +15,7 @@ use sa_spaces::Workload;
 use std::alloc::Global;
 
 /// A session that is over.
-#[derive(Debug, Drop)]
+#[derive(Drop)]
 pub struct Debugged {
     /// The texts of the replies, one after another, each with its line feed.
     pub replies: Vec<u8>,
@@ -27,7 +27,7 @@ pub struct Debugged {
 }
 
 /// Why a session is not over.
-#[derive(Debug, Drop)]
+#[derive(Drop)]
 pub enum Undebugged {
     /// The bytes are no script for this workload; nothing ran.
     BadScript(Bad),

@@ -14,7 +14,7 @@ use std::alloc::{AllocError, Global};
 use std::marker::Model;
 
 /// The I/Os under way and the resident pages of each space of a workload.
-#[derive(Debug, Drop)]
+#[derive(Drop)]
 pub struct Devices {
     ios: UnderWay,
     // Of each space, how many fetches of its upcall page are under way.

@@ -1,7 +1,7 @@
 use sa_base::{ActNo, SpaceNo};
 
 /// What an I/O is for.
-#[derive(Clone, Copy, Debug, PartialEq, Eq)]
+#[derive(Clone, Copy)]
 pub enum IoKind {
     /// The I/O of a thread, for which the activation of the space blocked.
     Plain(SpaceNo, ActNo),

@@ -12,7 +12,7 @@ use std::collections::BinaryHeap;
 use std::marker::Model;
 
 /// An I/O under way, at the place of its number.
-#[derive(Clone, Copy, Debug)]
+#[derive(Clone, Copy)]
 pub struct Entry {
     /// The event from which on it is due.
     pub ends: u64,
@@ -23,7 +23,7 @@ pub struct Entry {
 /// The I/Os that were begun, by their numbers: the place of one that is over is empty. Those under way are
 /// in a heap too, by their ends. The heap keeps the key of one that was over before its turn until its turn
 /// comes. An ordered map could not promise to begin an I/O with no memory taken.
-#[derive(Debug, Drop)]
+#[derive(Drop)]
 pub(crate) struct UnderWay {
     places: Vec<Option<Entry>>,
     by_end: BinaryHeap<Reverse<(u64, u32)>>,

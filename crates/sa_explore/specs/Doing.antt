@@ -11,7 +11,7 @@ use Rattle.sa_explore_model.specs.declared.answer.State.{State}
 use Rattle.sa_explore_model.specs.declared.answer.Found.{Found}
 use Rattle.sa_explore_model.specs.Search.{way_to}
 use Rattle.sa_states.specs.Store.{store_of}
-use Rattle.sa_endless.specs.Marks.{IsEndlessIn}
+use Rattle.sa_states.specs.Marks.{IsEndlessIn}
 use Rattle.sa_explore_runs.specs.Searching.{IsSearching}
 use Rattle.sa_explore.specs.Explored.{IsBeyond}
 use Rattle.sa_explore.specs.declared.search.Scope.{Scope}

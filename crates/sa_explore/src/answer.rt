@@ -7,10 +7,9 @@ ghost use Rattle.sa_explore.specs.Explored.{IsExplored};
 
 use crate::expand::Stopped;
 use crate::search::{Scope, Search};
-use sa_endless::endless;
 use sa_explore_model::{Explored, Extent, Found};
 use sa_keys::Keyed;
-use sa_states::{MAX_STATES, answer};
+use sa_states::{MAX_STATES, answer, endless};
 use std::alloc::{AllocError, Global};
 
 impl Search {

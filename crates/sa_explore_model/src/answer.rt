@@ -13,7 +13,7 @@ pub struct State {
 }
 
 /// How much a search has looked at.
-#[derive(Clone, Copy, Debug, PartialEq, Eq)]
+#[derive(Clone, Copy)]
 pub enum Extent {
     /// Every order of turns, of any length.
     All,
@@ -22,7 +22,7 @@ pub enum Extent {
 }
 
 /// What a search found of the states that are alike in one thing, as in their end.
-#[derive(Debug, Drop)]
+#[derive(Drop)]
 pub struct Found {
     /// The schedule of the shortest run that comes to such a state: whose turn each of its events is, with the workload's turn lines as
     /// its first. Of the shortest it is the first in order of processors.
@@ -32,7 +32,7 @@ pub struct Found {
 }
 
 /// What a search through every order of turns answers. States are different by their outlooks.
-#[derive(Debug, Drop)]
+#[derive(Drop)]
 pub struct Explored {
     pub extent: Extent,
     /// How many states it came to, the first and the ends among them: 1 to 10,000,000.

@@ -1,1 +1,3 @@
 pub mod Schedules
+pub mod Numbers
+pub mod Running

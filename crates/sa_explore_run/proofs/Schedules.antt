@@ -22,7 +22,7 @@ use Rattle.sa_explore_runs.specs.Runs.{end, LeadTo}
 use Rattle.sa_explore_runs.specs.Searching.{IsOpen}
 use Rattle.sa_explore_runs.proofs.Turns.{over-open, turns-split, IsOf, of-opening, of-one, of-lead, ends-alike, leads-alike}
 use Rattle.sa_explore.specs.Explored.{IsExplored}
-use Rattle.sa_given.specs.Given.{CanBeRun}
+use Rattle.sa_explore_run.specs.Behind.{CanBeRun}
 use Rattle.sa_explore_run.specs.Answer.{AreWithin}
 
 module _ {U C D : Type 0} (f : Calls U C) (plain : Option SpaceView → C → D) (IsMade : Option SpaceView → U → Type 0) (laws : IgnoresNumbers f plain IsMade)

@@ -6,8 +6,8 @@ use Rattle.sa_abstract.specs.Calls.{Calls}
 use Rattle.sa_explore_model.specs.declared.answer.Found.{Found}
 use Rattle.sa_explore_model.specs.declared.answer.Explored.{Explored}
 use Rattle.sa_explore.specs.Explored.{IsExplored}
-use Rattle.sa_given.specs.Given.{AreWaits}
-use Rattle.sa_waits.specs.declared.answer.Wait.{Wait}
+use Rattle.sa_explore_run.specs.Behind.{AreWaits}
+use Rattle.sa_explore_run.specs.declared.answer.Wait.{Wait}
 
 -- those that wait at the end of the schedule to a stuck end; none where no such end was found
 abbrev pub AreStuckWaits : {U C : Type 0} → Calls U C → WorkloadView → Option Found → List Wait → Type 0

@@ -1,1 +1,5 @@
 pub mod Answer
+pub mod Waits
+pub mod Text
+pub mod GivenText
+pub mod Behind

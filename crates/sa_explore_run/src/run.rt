@@ -3,21 +3,20 @@ ghost use Rattle.std.specs.Prelude.{◌≡◌, ◌≤◌, IfOk, IfSome};
 ghost use Rattle.std.specs.Option.{option_copied};
 ghost use Rattle.sa_base.specs.declared.limits.TheConstants.{MAX_EVENTS};
 ghost use Rattle.sa_debug.specs.Reached.{IsPlayable};
-ghost use Rattle.sa_given.specs.Given.{CanBeRun};
+ghost use Rattle.sa_explore_run.specs.Behind.{CanBeRun};
 ghost use Rattle.sa_explore_run.specs.Answer.{AreStuckWaits, IsAnswer};
 
+use crate::{Wait, waits_behind};
 use sa_abstract::UserLevel;
 use sa_explore::{Progress, explore};
 use sa_explore_model::{Explored, Found};
-use sa_given::waits_behind;
 use sa_keys::Keyed;
 use sa_spaces::Workload;
 use sa_states::MAX_STATES;
-use sa_waits::Wait;
 use std::alloc::{AllocError, Global};
 
 /// What is told of a search.
-#[derive(Debug, Drop)]
+#[derive(Drop)]
 pub struct Answer {
     /// What it found.
     pub explored: Explored,

@@ -19,7 +19,7 @@ use sa_spaces::SpaceDef;
 use sa_sync::{SyncAnswer, SyncState};
 
 /// What became of a thread with its instruction.
-#[derive(Clone, Copy, Debug, PartialEq, Eq)]
+#[derive(Clone, Copy)]
 pub enum Ran {
     /// It goes on.
     Goes,

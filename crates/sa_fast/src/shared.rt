@@ -5,7 +5,7 @@ use sa_code::PackageState;
 use sa_sync::SyncState;
 
 /// What the contexts of a space share.
-#[derive(Debug, Drop)]
+#[derive(Drop)]
 pub struct Shared {
     /// The ready lists and the package's code.
     pub state: PackageState,

@@ -10,7 +10,7 @@ use std::alloc::{AllocError, Global};
 use std::marker::Model;
 
 /// Where a thread is.
-#[derive(Clone, Copy, Debug, PartialEq, Eq)]
+#[derive(Clone, Copy)]
 pub enum KeptPlace {
     /// It was not made.
     Unmade,
@@ -55,7 +55,7 @@ impl KeptPlace {
 }
 
 /// What a space keeps of one thread.
-#[derive(Clone, Copy, Debug, PartialEq, Eq)]
+#[derive(Clone, Copy)]
 pub struct Block {
     /// The number of its program in the space.
     pub program: u16,
@@ -68,7 +68,7 @@ pub struct Block {
 /// The blocks of the 512 threads that a space can have, by their numbers.
 ///
 /// Each call but `new` takes constant time and cannot fail for want of memory.
-#[derive(Debug, Drop)]
+#[derive(Drop)]
 pub struct Threads {
     blocks: Vec<Block>,
     // how many are of the load, active, and done

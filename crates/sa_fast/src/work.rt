@@ -12,7 +12,7 @@ use std::marker::Model;
 ///
 /// A context names its list by the first thread in it, and names none while its list is empty. Each call but `new`
 /// takes constant time and cannot fail for want of memory.
-#[derive(Debug, Drop)]
+#[derive(Drop)]
 pub struct WorkLists {
     // a list that is not empty has the number of its first thread
     chains: Links,

@@ -8,7 +8,7 @@ use crate::limits::{LAST_PAGE, MAX_IO_LENGTH};
 use sa_base::FIRST_THREAD_PAGE;
 
 /// What an operand of an instruction is.
-#[derive(Clone, Copy, Debug, PartialEq, Eq)]
+#[derive(Clone, Copy)]
 pub enum OperandKind {
     /// A register.
     Register,
@@ -31,7 +31,7 @@ pub enum OperandKind {
 }
 
 /// An operand of an instruction.
-#[derive(Clone, Copy, Debug, PartialEq, Eq)]
+#[derive(Clone, Copy)]
 pub enum Operand {
     Register(Reg),
     Value(u64),

@@ -5,7 +5,7 @@ ghost use Rattle.sa_instr.specs.Operation.{form_of, IsNoWord};
 use crate::operand::OperandKind;
 
 /// What an instruction does, named as the instruction is.
-#[derive(Clone, Copy, Debug, PartialEq, Eq)]
+#[derive(Clone, Copy)]
 pub enum Operation {
     Compute,
     Set,
@@ -48,7 +48,7 @@ pub const OPERATIONS: [Operation; 17] = [
 ];
 
 /// How the instructions of an operation are written.
-#[derive(Clone, Copy, Debug, PartialEq, Eq)]
+#[derive(Clone, Copy)]
 pub struct OperationForm {
     pub word: &'static [u8],
     /// What the operands are, in order; at most 2.

@@ -8,14 +8,14 @@ use crate::operation::Operation;
 use std::marker::Model;
 
 /// An instruction as its operation and its operands.
-#[derive(Debug, Drop)]
+#[derive(Drop)]
 pub struct InstrParts {
     operation: Operation,
     operands: Operands,
 }
 
 // The operands, as many as there are.
-#[derive(Debug, Drop)]
+#[derive(Drop)]
 enum Operands {
     None,
     One([Operand; 1]),

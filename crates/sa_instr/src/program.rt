@@ -11,7 +11,7 @@ use std::alloc::{AllocError, Global};
 use std::marker::Model;
 
 /// A program: its instructions, in the order of their places from 0.
-#[derive(Debug, Drop)]
+#[derive(Drop)]
 pub struct Program {
     instrs: Vec<Instr>,
 }

@@ -7,7 +7,7 @@ use crate::limits::REGISTERS;
 use std::marker::Model;
 
 /// The eight registers of a thread, in the order of their numbers.
-#[derive(Clone, Copy, Debug, PartialEq, Eq)]
+#[derive(Clone, Copy, PartialEq, Eq)]
 pub struct Regs {
     values: [u64; REGISTERS],
 }

@@ -8,7 +8,7 @@ use std::io::{ErrorKind, Read, Write};
 use std::marker::Model;
 
 /// A reader of std's as a source. It tells the bytes that the reader tells.
-#[derive(Debug, Drop)]
+#[derive(Drop)]
 pub struct StdSource<R> {
     reader: R,
     faults: u64,
@@ -69,7 +69,7 @@ impl<R: Read> Source for StdSource<R> {
 }
 
 /// A writer of std's as a sink. It tells the bytes that the writer tells.
-#[derive(Debug, Drop)]
+#[derive(Drop)]
 pub struct StdSink<W> {
     writer: W,
     faults: u64,

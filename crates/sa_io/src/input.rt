@@ -9,7 +9,7 @@ use crate::traits::{Failed, Source};
 use std::alloc::{AllocError, Global};
 
 /// Why an input was not read.
-#[derive(Clone, Copy, Debug, PartialEq, Eq)]
+#[derive(Clone, Copy)]
 pub enum ReadError {
     Fault,
     OutOfMemory,

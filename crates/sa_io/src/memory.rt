@@ -9,7 +9,7 @@ use std::alloc::{AllocError, Global};
 use std::marker::Model;
 
 /// A source of bytes in memory. Chosen reads fail.
-#[derive(Debug, Drop)]
+#[derive(Drop)]
 pub struct MemSource {
     bytes: Vec<u8>,
     at: usize,
@@ -115,7 +115,7 @@ fn is_next_listed(numbers: &[u64], calls: u64) -> bool
 }
 
 /// A sink in memory, of a fixed size. Chosen writes fail.
-#[derive(Debug, Drop)]
+#[derive(Drop)]
 pub struct MemSink {
     bytes: Vec<u8>,
     room: usize,

@@ -7,7 +7,7 @@ use std::error::Error;
 use std::fmt;
 
 /// A read or a write failed.
-#[derive(Clone, Copy, Debug, PartialEq, Eq)]
+#[derive(Clone, Copy, Debug)]
 pub struct Failed;
 
 impl fmt::Display for Failed {

@@ -22,7 +22,7 @@ use std::marker::Model;
 /// The kernel of a machine, over contexts that it keeps and does not look into. It says who runs where, what each
 /// space is to be told, and what is under way. No call but `start` and `reserve` can fail for
 /// want of memory.
-#[derive(Debug, Drop)]
+#[derive(Drop)]
 pub struct Kernel<C: Drop> {
     parts: Parts<C>,
     // It changes at closings alone.

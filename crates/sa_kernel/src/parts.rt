@@ -11,7 +11,7 @@ use sa_devices::{Devices, IoKind};
 use sa_kernel_model::Given;
 
 /// The parts of the kernel.
-#[derive(Debug, Drop)]
+#[derive(Drop)]
 pub(crate) struct Parts<C: Drop> {
     pub(crate) fetch: u32,
     pub(crate) slice: u32,

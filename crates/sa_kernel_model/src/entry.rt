@@ -6,7 +6,7 @@ use sa_base::{ActNo, IoNo, ProcNo, Stopped};
 pub const ENTRY_ITEMS: usize = 80;
 
 /// Why the kernel is entered on a processor, and what is handed over.
-#[derive(Debug, Drop)]
+#[derive(Drop)]
 pub enum Entry<C> {
     /// The processor's raised line. The context that ran there is handed over, if one did.
     Interrupt(Option<Stopped<C>>),
@@ -29,7 +29,7 @@ pub enum Entry<C> {
 }
 
 /// What an entry gave.
-#[derive(Clone, Copy, Debug, PartialEq, Eq)]
+#[derive(Clone, Copy, PartialEq, Eq)]
 pub enum Given {
     /// No upcall.
     Nothing,

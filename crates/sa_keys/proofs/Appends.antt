@@ -3,8 +3,8 @@ use Rattle.std.proofs.Common.{◌≡◌, ℕ, ◌+◌, ◌≤◌, List, ◌++◌
 use Rattle.std.proofs.lemmas.List.{length-map}
 use Rattle.std.specs.List.{flat_map, range_with_len}
 use Rattle.sa_lemmas.proofs.Texts.{appended_twice}
-use Rattle.sa_codes.specs.Codes.{number, list}
-use Rattle.sa_codes.proofs.Loops.{range_more, list_more, flat_map_map}
+use Rattle.sa_package_keys.specs.Codes.{number, list}
+use Rattle.sa_package_keys.proofs.Loops.{range_more, list_more, flat_map_map}
 
 -- of the numbers below n, and of n
 pub range-step : (f : ℕ → List ℕ) (old now after : List ℕ) (n : ℕ) → now ≡ old ++ flat_map f (range_with_len 0 n) → after ≡ now ++ f n

@@ -6,9 +6,9 @@ use Rattle.sa_base.specs.declared.number.ThreadNo.{ThreadNo}
 use Rattle.sa_base.specs.declared.limits.TheConstants.{MAX_SPACES}
 use Rattle.sa_outlook.specs.Nameless.{PlainStopped, NamelessNote, NamelessKind, NamelessIo}
 use Rattle.sa_outlook.specs.Outlook.{Outlook}
-use Rattle.sa_codes.specs.Codes.{IsPrefixCode, number, flag, number_or_none, thread_key, space_no_key, optional, list}
+use Rattle.sa_package_keys.specs.Codes.{IsPrefixCode, number, flag, number_or_none, thread_key, space_no_key, optional, list}
 use Rattle.sa_keys.specs.Key.{stopped_key, note_key, kind_key, io_key, processor_key, space_key, taken_key, key_of}
-use Rattle.sa_codes.proofs.Codes.{number-code, flag-code, number_or_none-code, thread-code, space_no-code, optional-code, list-code, tagged-code, apart4}
+use Rattle.sa_package_keys.proofs.Codes.{number-code, flag-code, number_or_none-code, thread-code, space_no-code, optional-code, list-code, tagged-code, apart4}
 
 -- codes of n numbers, each of which tells a fact
 pub each-tells : (f g : ℕ → List ℕ) (P : ℕ → Type 0) → ((p : ℕ) (r s : List ℕ) → f p ++ r ≡ g p ++ s → P p × (r ≡ s))

@@ -20,9 +20,9 @@ use Rattle.sa_outlook.specs.Outlook.{outlook, look_in, untold_notes, nameless_io
 use Rattle.sa_outlook.proofs.Invariant.{Invariant}
 use Rattle.sa_outlook.proofs.outlooks.AlikeOutlooks.{outlook-of-key}
 use Rattle.sa_outlook.proofs.outlooks.Runs.{of-run}
-use Rattle.sa_codes.specs.Codes.{IsPrefixCode}
+use Rattle.sa_package_keys.specs.Codes.{IsPrefixCode}
 use Rattle.sa_keys.specs.Key.{key_of}
-use Rattle.sa_codes.specs.Values.{TellsValues}
+use Rattle.sa_package_keys.specs.Values.{TellsValues}
 use Rattle.sa_keys.specs.Laws.{KeysTellOutlooks}
 use Rattle.sa_keys.proofs.Outlooks.{key-tells}
 

@@ -8,7 +8,7 @@ use Rattle.sa_kernel_model.specs.Sound.{AreIos}
 use Rattle.sa_core_model.specs.Machine.{Machine}
 use Rattle.sa_core_model.specs.Run.{setting}
 use Rattle.sa_core_model.specs.Standing.{IsBetween, contexts_of}
-use Rattle.sa_codes.specs.Values.{IsStood}
+use Rattle.sa_package_keys.specs.Values.{IsStood}
 use Rattle.sa_lemmas.proofs.ListReads.{read-at}
 
 module _ {U C : Type 0} (stands : Standing U C) (m : Machine U C) (between : IsBetween stands m) where

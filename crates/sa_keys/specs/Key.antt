@@ -4,7 +4,7 @@ use Rattle.std.specs.List.{flat_map, range_with_len}
 use Rattle.sa_base.specs.declared.limits.TheConstants.{MAX_SPACES}
 use Rattle.sa_outlook.specs.Nameless.{PlainStopped, NamelessNote, NamelessKind, NamelessIo}
 use Rattle.sa_outlook.specs.Outlook.{Outlook}
-use Rattle.sa_codes.specs.Codes.{number, flag, number_or_none, thread_key, space_no_key, optional, list}
+use Rattle.sa_package_keys.specs.Codes.{number, flag, number_or_none, thread_key, space_no_key, optional, list}
 
 -- `ctx` is the code of what matters of a context
 module _ {D : Type 0} (ctx : D → List ℕ) where

@@ -9,7 +9,7 @@ use Rattle.sa_devices.specs.declared.under_way.Entry.{Entry}
 use Rattle.sa_core_model.specs.Machine.{Machine}
 use Rattle.sa_outlook.specs.Nameless.{plain_stopped, plain_held, nameless_note, nameless_kind}
 use Rattle.sa_outlook.specs.Outlook.{held_by, look_in}
-use Rattle.sa_codes.specs.Codes.{number, optional}
+use Rattle.sa_package_keys.specs.Codes.{number, optional}
 use Rattle.sa_keys.specs.Key.{stopped_key, note_key, kind_key}
 
 module _ {U C D : Type 0} (plain : Option SpaceView → C → D) (ctx : D → List ℕ) (m : Machine U C) where

@@ -3,13 +3,13 @@
 
 ghost use Rattle.std.specs.Prelude.{◌≡◌, ◌<◌, ◌++◌, length, OnOk};
 ghost use Rattle.sa_core.specs.View.{machine};
-ghost use Rattle.sa_codes.specs.Codes.{number};
+ghost use Rattle.sa_package_keys.specs.Codes.{number};
 ghost use Rattle.sa_keys.specs.Parts.{context_bytes, stopped_bytes, held_bytes};
 
 use crate::keyed::Keyed;
 use sa_base::{ActNo, SpaceNo, Stopped};
-use sa_codes::{put_flag, put_number, put_thread};
 use sa_core::Core;
+use sa_package_keys::{put_flag, put_number, put_thread};
 use std::alloc::AllocError;
 
 /// Adds the bytes of what matters of a context of the space. Fails only where memory runs out.

@@ -5,16 +5,16 @@ ghost use Rattle.std.specs.Prelude.{◌≡◌, ◌<◌, ◌++◌, length, OnOk};
 ghost use Rattle.sa_devices.specs.Pages.{IsKind};
 ghost use Rattle.sa_core.specs.View.{machine};
 ghost use Rattle.sa_outlook.specs.Outlook.{outlook};
-ghost use Rattle.sa_codes.specs.Codes.{list};
+ghost use Rattle.sa_package_keys.specs.Codes.{list};
 ghost use Rattle.sa_keys.specs.Key.{io_key};
 ghost use Rattle.sa_keys.specs.Parts.{kind_bytes, entry_bytes};
 
 use crate::contexts::put_held;
 use crate::due_order::in_due_order;
 use crate::keyed::Keyed;
-use sa_codes::put_number;
 use sa_core::Core;
 use sa_devices::{Entry, IoKind};
+use sa_package_keys::put_number;
 use std::alloc::{AllocError, Global};
 
 /// Adds the bytes of the I/Os under way, in the order in which they are due. Fails only where memory runs out.

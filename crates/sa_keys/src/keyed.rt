@@ -4,8 +4,8 @@ ghost use Rattle.sa_spaces.specs.Space.{SpaceView};
 ghost use Rattle.sa_abstract.specs.Setting.{Setting};
 ghost use Rattle.sa_abstract.specs.Calls.{Contexts};
 ghost use Rattle.sa_outlook.specs.UserLevels.{IgnoresNumbers};
-ghost use Rattle.sa_codes.specs.Codes.{IsPrefixCode};
-ghost use Rattle.sa_codes.specs.Values.{IsStood, TellsValues};
+ghost use Rattle.sa_package_keys.specs.Codes.{IsPrefixCode};
+ghost use Rattle.sa_package_keys.specs.Values.{IsStood, TellsValues};
 
 use sa_abstract::UserLevel;
 use std::alloc::{AllocError, Global};

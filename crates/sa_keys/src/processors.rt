@@ -5,15 +5,15 @@ ghost use Rattle.std.specs.Prelude.{◌≡◌, ◌<◌, ◌++◌, false, None, i
 ghost use Rattle.std.specs.List.{flat_map, range_with_len};
 ghost use Rattle.sa_core.specs.View.{machine};
 ghost use Rattle.sa_outlook.specs.Outlook.{outlook, see_at};
-ghost use Rattle.sa_codes.specs.Codes.{flag, optional, space_no_key};
+ghost use Rattle.sa_package_keys.specs.Codes.{flag, optional, space_no_key};
 ghost use Rattle.sa_keys.specs.Key.{processor_key};
 
 use crate::contexts::put_context_of;
 use crate::keyed::Keyed;
 use sa_assign::Assign;
 use sa_base::ProcNo;
-use sa_codes::{put_flag, put_number, put_space};
 use sa_core::Core;
+use sa_package_keys::{put_flag, put_number, put_space};
 use std::alloc::AllocError;
 
 /// Adds the bytes of each processor. Fails only where memory runs out.

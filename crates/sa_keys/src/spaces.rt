@@ -5,15 +5,15 @@ ghost use Rattle.std.specs.Prelude.{◌≡◌, ◌<◌, ◌++◌, length, OnOk};
 ghost use Rattle.std.specs.List.{flat_map, range_with_len};
 ghost use Rattle.sa_core.specs.View.{machine};
 ghost use Rattle.sa_outlook.specs.Outlook.{outlook};
-ghost use Rattle.sa_codes.specs.Codes.{list};
+ghost use Rattle.sa_package_keys.specs.Codes.{list};
 ghost use Rattle.sa_keys.specs.Key.{note_key, space_key, taken_key};
 ghost use Rattle.sa_keys.specs.Parts.{note_bytes};
 
 use crate::contexts::put_held;
 use crate::keyed::Keyed;
 use sa_base::{MAX_SPACES, Note, SpaceNo};
-use sa_codes::put_number;
 use sa_core::Core;
+use sa_package_keys::put_number;
 use std::alloc::AllocError;
 
 /// Adds the bytes of each space. Fails only where memory runs out.

@@ -7,11 +7,11 @@ ghost use Rattle.sa_spaces.specs.Workload.{IsBefore};
 ghost use Rattle.sa_kernel_model.specs.Closing.{first_space};
 ghost use Rattle.sa_core.specs.View.{machine};
 ghost use Rattle.sa_outlook.specs.Outlook.{beat, is_to_come, until};
-ghost use Rattle.sa_codes.specs.Codes.{number, number_or_none};
+ghost use Rattle.sa_package_keys.specs.Codes.{number, number_or_none};
 
 use crate::keyed::Keyed;
-use sa_codes::put_number;
 use sa_core::Core;
+use sa_package_keys::put_number;
 use sa_spaces::Evict;
 use std::alloc::AllocError;
 

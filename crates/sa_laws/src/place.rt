@@ -1,7 +1,7 @@
 use sa_base::ProcNo;
 
 /// Where a thread is. Each thread that was made is in exactly one place.
-#[derive(Clone, Copy, Debug, PartialEq, Eq)]
+#[derive(Clone, Copy, PartialEq, Eq)]
 pub enum Place {
     /// An activation carries it on this processor.
     Running(ProcNo),

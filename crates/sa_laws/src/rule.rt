@@ -1,5 +1,5 @@
 /// A rule of legal runs. The rules are in the order in which they are looked at.
-#[derive(Clone, Copy, Debug, PartialEq, Eq)]
+#[derive(Clone, Copy)]
 pub enum Rule {
     /// Event 0 is the opening, and the events after it are numbered one by one.
     Numbered,

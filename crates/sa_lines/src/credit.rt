@@ -6,7 +6,7 @@ ghost use Rattle.sa_base.specs.declared.limits.TheConstants.{MAX_EVENTS};
 use sa_base::{End, MAX_EVENTS};
 
 /// What was credited to a processor.
-#[derive(Clone, Copy, Debug, PartialEq, Eq)]
+#[derive(Clone, Copy)]
 pub struct Account {
     /// How many turns, 0 to 1,000,000.
     pub count: u64,
@@ -15,7 +15,7 @@ pub struct Account {
 }
 
 /// What the keeper hands over to a poller.
-#[derive(Clone, Copy, Debug, PartialEq, Eq)]
+#[derive(Clone, Copy)]
 pub enum Credit {
     /// So many turns, 1 to 1,000,000.
     Turns(u64),

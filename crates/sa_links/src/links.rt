@@ -12,7 +12,7 @@ use std::marker::Model;
 ///
 /// Nodes and lists are numbered from 0, each below a count that `new` is given. A node is in at most one
 /// list. Every call takes constant time, and none but `new` can fail for want of memory.
-#[derive(Debug, Drop)]
+#[derive(Drop)]
 pub struct Links {
     // the nodes, and after them the heads of the lists
     nodes: Vec<Node>,

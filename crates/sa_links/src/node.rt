@@ -7,7 +7,7 @@ ghost use Rattle.sa_links.specs.Wiring.{AreLinked, IsNodeSlot, IsRelinked, node_
 use crate::block::{Slot, at, put, slot_at};
 
 // A node is in a ring of nodes. A ring of one node is closed in itself.
-#[derive(Clone, Copy, Debug)]
+#[derive(Clone, Copy)]
 pub(crate) struct Node {
     pub(crate) prev: Slot<Node>,
     pub(crate) next: Slot<Node>,

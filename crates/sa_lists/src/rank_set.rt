@@ -10,7 +10,7 @@ const WORD: u16 = 64;
 const WORDS: usize = 4;
 
 /// A set of ranks below `MAX_RANKS`.
-#[derive(Clone, Copy, Debug)]
+#[derive(Clone, Copy)]
 pub(crate) struct RankSet {
     words: [u64; WORDS],
 }

@@ -14,7 +14,7 @@ use std::marker::Model;
 
 /// Lists of threads: those of the greatest rank first, and of one rank the newest first. Every call takes constant time, and
 /// none but `new` takes memory.
-#[derive(Debug, Drop)]
+#[derive(Drop)]
 pub(crate) struct RankedLists {
     // the chain of rank k of list l is number l * width + k, where there are `width` ranks
     chains: Links,

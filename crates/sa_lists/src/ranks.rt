@@ -4,7 +4,7 @@
 pub const MAX_RANKS: u16 = 256;
 
 /// How many ranks the threads of ready lists have.
-#[derive(Clone, Copy, Debug, PartialEq, Eq)]
+#[derive(Clone, Copy)]
 pub enum Ranks {
     /// All threads have the same one.
     One,

@@ -16,7 +16,7 @@ use std::marker::Model;
 /// A thread is in at most one list. In a list the threads of the greatest rank come first, and of one rank the newest.
 /// Each list has a lock, which whoever changes the list holds. Every call takes constant time, for any number of ready
 /// threads, but for `seek`, which looks at each list where some thread is ready.
-#[derive(Debug, Drop)]
+#[derive(Drop)]
 pub struct ReadyLists {
     lists: RankedLists,
     locked: Vec<bool>,

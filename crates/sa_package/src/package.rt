@@ -5,7 +5,7 @@ use sa_package_model::Package;
 use std::marker::Model;
 
 /// The FastThreads package of one address space (SOSP 1991, section 4).
-#[derive(Debug, Drop)]
+#[derive(Drop)]
 pub struct FastThreads {
     pub(crate) package: Package,
 }

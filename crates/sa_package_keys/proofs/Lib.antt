@@ -4,3 +4,6 @@ pub mod Made
 pub mod Unmade
 pub mod Tests
 pub mod FirstRanks
+pub mod Codes
+pub mod Loops
+pub mod Trimmed

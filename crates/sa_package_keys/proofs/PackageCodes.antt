@@ -26,10 +26,10 @@ use Rattle.sa_abstract.specs.Setting.{Setting}
 use Rattle.sa_package_model.specs.Laws.{IsMadeFor}
 use Rattle.sa_package_model.specs.Stands.{fast_stands}
 use Rattle.sa_prio_model.specs.Stands.{prio_stands}
-use Rattle.sa_codes.specs.Codes.{IsPrefixCode, number, flag, thread_key, list, trimmed, padded}
-use Rattle.sa_codes.specs.Values.{TellsValues}
+use Rattle.sa_package_keys.specs.Codes.{IsPrefixCode, number, flag, thread_key, list, trimmed, padded}
+use Rattle.sa_package_keys.specs.Values.{TellsValues}
 use Rattle.sa_package_keys.specs.Packages.{list_no_key, frame_key, state_key, fast_context_key, prio_context_key, is_empty, is_zero, lists_key, mutex_key, semaphore_key, sync_key, place_no, block_key, is_new, shared_key, fast_value_key, prio_value_key, ranks_key, IsFast, IsPrio}
-use Rattle.sa_codes.proofs.Codes.{thread-code, number-code, flag-code, number_or_none-code, list-code, padded-code, tagged-code, trimmed-same, apart3, apart5}
+use Rattle.sa_package_keys.proofs.Codes.{thread-code, number-code, flag-code, number_or_none-code, list-code, padded-code, tagged-code, trimmed-same, apart3, apart5}
 
 -- CONTEXTS
 list_no-code : IsPrefixCode list_no_key

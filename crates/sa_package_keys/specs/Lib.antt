@@ -1,1 +1,3 @@
 pub mod Packages
+pub mod Codes
+pub mod Values

@@ -22,7 +22,7 @@ use Rattle.sa_prio_model.specs.declared.context.PrioContext.{PrioContext}
 use Rattle.sa_prio_model.specs.Prio.{Prio}
 use Rattle.sa_spaces.specs.Space.{SpaceView}
 use Rattle.sa_package_outlook.specs.Contexts.{IsMade, IsMadeFor}
-use Rattle.sa_codes.specs.Codes.{number, flag, number_or_none, thread_key, list, trimmed, padded}
+use Rattle.sa_package_keys.specs.Codes.{number, flag, number_or_none, thread_key, list, trimmed, padded}
 
 -- CONTEXTS
 abbrev pub list_no_key : Option ProcNo → List ℕ

@@ -4,11 +4,11 @@ ghost use Rattle.std.specs.List.{list_all};
 ghost use Rattle.sa_base.specs.declared.limits.TheConstants.{MAX_THREADS};
 ghost use Rattle.sa_instr.specs.declared.limits.TheConstants.{REGISTERS};
 ghost use Rattle.sa_fast.specs.Rest.{is_unmade};
-ghost use Rattle.sa_codes.specs.Codes.{number, list, padded, trimmed};
+ghost use Rattle.sa_package_keys.specs.Codes.{number, list, padded, trimmed};
 ghost use Rattle.sa_package_keys.specs.Packages.{place_no, block_key, is_new, is_zero};
 
+use crate::put_number;
 use sa_base::MAX_THREADS;
-use sa_codes::put_number;
 use sa_fast::{Block, KeptPlace, Threads};
 use sa_instr::{REGISTERS, Reg, Regs};
 use std::alloc::AllocError;
@@ -61,7 +61,7 @@ fn are_zero(regs: &Regs) -> bool
 }
 
 // Adds the bytes of blocks.
-#[tactic(auto, using(std::proofs::Common::append_assoc, sa_codes::proofs::Loops::list_more), unfolding(sa_codes::specs::Codes::list))]
+#[tactic(auto, using(std::proofs::Common::append_assoc, crate::proofs::Loops::list_more), unfolding(crate::specs::Codes::list))]
 fn put_blocks(blocks: &[Block], key: &mut Vec<u8>) -> Result<(), AllocError>
     ensures { OnOk result (key.new.items ≡ key.old.items ++ list block_key blocks.now) }
 {

@@ -1,12 +1,12 @@
 // The bytes of contexts.
 ghost use Rattle.std.specs.Prelude.{◌≡◌, ◌++◌, OnOk};
 ghost use Rattle.sa_package_outlook.specs.Contexts.{plain_state};
-ghost use Rattle.sa_codes.specs.Codes.{list};
+ghost use Rattle.sa_package_keys.specs.Codes.{list};
 ghost use Rattle.sa_package_keys.specs.Packages.{list_no_key, frame_key, state_key};
 
+use crate::{put_flag, put_number, put_optional_number, put_thread};
 use sa_base::ProcNo;
 use sa_code::Frame;
-use sa_codes::{put_flag, put_number, put_optional_number, put_thread};
 use sa_package_model::ContextState;
 use std::alloc::AllocError;
 
@@ -65,7 +65,7 @@ pub(crate) fn put_state(
 }
 
 /// Adds the bytes of critical sections that are to be continued.
-#[tactic(auto, using(std::proofs::Common::append_assoc, sa_codes::proofs::Loops::list_more), unfolding(sa_codes::specs::Codes::list))]
+#[tactic(auto, using(std::proofs::Common::append_assoc, crate::proofs::Loops::list_more), unfolding(crate::specs::Codes::list))]
 pub(crate) fn put_sections(frames: &[Frame], key: &mut Vec<u8>) -> Result<(), AllocError>
     ensures { OnOk result (key.new.items ≡ key.old.items ++ list frame_key frames.now) }
 {

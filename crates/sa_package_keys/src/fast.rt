@@ -2,12 +2,12 @@
 ghost use Rattle.std.specs.Prelude.{◌≡◌, ◌++◌, Some, OnOk};
 ghost use Rattle.sa_package_model.specs.Stands.{fast_stands};
 ghost use Rattle.sa_package_outlook.specs.Contexts.{plain};
-ghost use Rattle.sa_codes.specs.Values.{IsStood};
+ghost use Rattle.sa_package_keys.specs.Values.{IsStood};
 ghost use Rattle.sa_package_keys.specs.Packages.{fast_value_key, fast_context_key};
 
 use crate::contexts::{put_sections, put_state};
+use crate::put_thread;
 use crate::shared::put_shared;
-use sa_codes::put_thread;
 use sa_package::FastThreads;
 use sa_package_model::Context;
 use std::alloc::{AllocError, Global};

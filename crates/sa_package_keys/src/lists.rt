@@ -1,11 +1,11 @@
 // The bytes of ready lists and their locks.
 ghost use Rattle.std.specs.Prelude.{◌≡◌, ◌<◌, ◌++◌, length, OnOk};
 ghost use Rattle.sa_lists.specs.ReadyView.{list_of};
-ghost use Rattle.sa_codes.specs.Codes.{number, flag, list};
+ghost use Rattle.sa_package_keys.specs.Codes.{number, flag, list};
 ghost use Rattle.sa_package_keys.specs.Packages.{lists_key};
 
+use crate::{put_flag, put_number, put_numbers};
 use sa_base::ProcNo;
-use sa_codes::{put_flag, put_number, put_numbers};
 use sa_lists::ReadyLists;
 use std::alloc::AllocError;
 

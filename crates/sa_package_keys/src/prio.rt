@@ -2,12 +2,12 @@
 ghost use Rattle.std.specs.Prelude.{◌≡◌, ◌++◌, Some, OnOk};
 ghost use Rattle.sa_prio_model.specs.Stands.{prio_stands};
 ghost use Rattle.sa_package_outlook.specs.Contexts.{plain_prio};
-ghost use Rattle.sa_codes.specs.Values.{IsStood};
+ghost use Rattle.sa_package_keys.specs.Values.{IsStood};
 ghost use Rattle.sa_package_keys.specs.Packages.{prio_value_key, prio_context_key};
 
 use crate::fast::{put_fast_context, put_fast_value};
 use crate::ranks::put_ranks;
-use sa_codes::{put_flag, put_threads};
+use crate::{put_flag, put_threads};
 use sa_prio::PrioThreads;
 use sa_prio_model::PrioContext;
 use std::alloc::{AllocError, Global};

@@ -2,11 +2,11 @@
 ghost use Rattle.std.specs.Prelude.{◌≡◌, ◌≤◌, ◌++◌, map, take, OnOk};
 ghost use Rattle.std.specs.List.{range_with_len};
 ghost use Rattle.sa_lists.specs.ReadyView.{rank_of};
-ghost use Rattle.sa_codes.specs.Codes.{trimmed};
+ghost use Rattle.sa_package_keys.specs.Codes.{trimmed};
 ghost use Rattle.sa_package_keys.specs.Packages.{is_zero, ranks_key};
 
+use crate::put_number;
 use sa_base::ThreadNo;
-use sa_codes::put_number;
 use sa_lists::ReadyLists;
 use std::alloc::AllocError;
 

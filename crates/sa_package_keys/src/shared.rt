@@ -1,15 +1,15 @@
 // The bytes of what the contexts of a space share.
 ghost use Rattle.std.specs.Prelude.{◌≡◌, ◌++◌, is_none, length, OnOk};
 ghost use Rattle.sa_base.specs.declared.limits.TheConstants.{MAX_THREADS};
-ghost use Rattle.sa_codes.specs.Codes.{thread_key, padded};
+ghost use Rattle.sa_package_keys.specs.Codes.{thread_key, padded};
 ghost use Rattle.sa_package_keys.specs.Packages.{shared_key, HasThreads, HasUnmade};
 
 use crate::blocks::put_all_blocks;
 use crate::lists::put_lists;
 use crate::sync::put_sync;
 use crate::works::put_works;
+use crate::{kept_threads, put_number, put_threads};
 use sa_base::ThreadNo;
-use sa_codes::{kept_threads, put_number, put_threads};
 use sa_fast::Shared;
 use std::alloc::{AllocError, Global};
 

@@ -2,11 +2,11 @@
 ghost use Rattle.std.specs.Prelude.{◌≡◌, ℕ, ◌<◌, ◌≤◌, ◌++◌, not, false, length, take, slice_index_or, OnOk};
 ghost use Rattle.sa_base.specs.declared.limits.TheConstants.{MAX_THREADS};
 ghost use Rattle.sa_sync.specs.Sync.{mutex_at, semaphore_at, joiners_at, is_done};
-ghost use Rattle.sa_codes.specs.Codes.{number, flag, list, padded, trimmed};
+ghost use Rattle.sa_package_keys.specs.Codes.{number, flag, list, padded, trimmed};
 ghost use Rattle.sa_package_keys.specs.Packages.{mutex_key, semaphore_key, sync_key, is_empty};
 
+use crate::{kept_flags, put_flags, put_number, put_numbers, put_thread, put_words};
 use sa_base::{MAX_THREADS, ThreadNo};
-use sa_codes::{kept_flags, put_flags, put_number, put_numbers, put_thread, put_words};
 use sa_sync::SyncState;
 use std::alloc::AllocError;
 

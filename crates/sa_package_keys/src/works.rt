@@ -2,11 +2,11 @@
 ghost use Rattle.std.specs.Prelude.{◌≡◌, ℕ, ◌<◌, ◌≤◌, ◌++◌, [], length, take, OnOk};
 ghost use Rattle.sa_base.specs.declared.limits.TheConstants.{MAX_THREADS};
 ghost use Rattle.sa_links.specs.Lists.{list_at};
-ghost use Rattle.sa_codes.specs.Codes.{number, list, padded, trimmed};
+ghost use Rattle.sa_package_keys.specs.Codes.{number, list, padded, trimmed};
 ghost use Rattle.sa_package_keys.specs.Packages.{is_empty};
 
+use crate::{put_number, put_numbers};
 use sa_base::{MAX_THREADS, ThreadNo};
-use sa_codes::{put_number, put_numbers};
 use sa_fast::WorkLists;
 use std::alloc::AllocError;
 

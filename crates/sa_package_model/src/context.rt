@@ -7,7 +7,7 @@ use sa_base::ThreadNo;
 use sa_code::Frame;
 
 /// Where a context is, with the thread that it carries.
-#[derive(Clone, Copy, Debug, PartialEq, Eq)]
+#[derive(Clone, Copy)]
 pub enum ContextState {
     /// At a place of the package's code.
     Code(Frame),
@@ -59,7 +59,7 @@ impl ContextState {
 }
 
 /// What an activation runs, in the package or at a thread's instruction.
-#[derive(Debug, Drop)]
+#[derive(Drop)]
 pub struct Context {
     pub state: ContextState,
     /// The critical sections that it has to continue.

@@ -2,7 +2,7 @@ use sa_fast::Shared;
 use sa_spaces::SpaceDef;
 
 /// What the package of one address space keeps.
-#[derive(Debug, Drop)]
+#[derive(Drop)]
 pub struct Package {
     pub def: SpaceDef,
     /// How many processors the space has at most, 1 to 16.

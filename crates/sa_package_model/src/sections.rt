@@ -8,7 +8,7 @@ use std::marker::Model;
 
 /// Critical sections that were interrupted and are still to be continued, in order: each with its thread, and at the
 /// place of its copy. There are at most 16, since each holds the lock of a ready list.
-#[derive(Debug, Drop)]
+#[derive(Drop)]
 pub struct Sections {
     frames: ArrayVec<Frame, MAX_LISTS>,
 }

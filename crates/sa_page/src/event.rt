@@ -9,7 +9,7 @@ use sa_check_shapes::parted;
 use std::alloc::{AllocError, Global};
 
 /// An event of a trace: its number, its processor, and its records in order.
-#[derive(Clone, Copy, Debug)]
+#[derive(Clone, Copy)]
 pub(crate) struct TraceEvent<'a> {
     pub(crate) number: u64,
     pub(crate) proc: ProcNo,
@@ -17,7 +17,7 @@ pub(crate) struct TraceEvent<'a> {
 }
 
 /// The event with which some items begin, and the items after it.
-#[derive(Debug, Drop)]
+#[derive(Drop)]
 pub(crate) struct Gathered<'a> {
     pub(crate) first: Item,
     pub(crate) records: Vec<Record>,

@@ -17,7 +17,7 @@ use std::alloc::{AllocError, Global};
 pub const MAX_EVENTS: u64 = 100_000;
 
 /// Why there is no page.
-#[derive(Clone, Copy, Debug, PartialEq, Eq)]
+#[derive(Clone, Copy)]
 pub enum PageError {
     /// The bytes are no trace text.
     BadTrace(Bad),

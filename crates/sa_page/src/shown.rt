@@ -11,7 +11,7 @@ use std::alloc::{AllocError, Global};
 pub(crate) use walk::push_shown;
 
 /// One moment twice: the one goes along an event, and the other follows once the cells of both were compared.
-#[derive(Debug, Drop)]
+#[derive(Drop)]
 pub(crate) struct Pair {
     pub(crate) before: View,
     pub(crate) now: View,

@@ -7,7 +7,7 @@ use sa_svg::{DEFAULT_WIDTH, MAX_WIDTH, MIN_WIDTH};
 use sa_text::read_number;
 
 /// What is made of a trace alone.
-#[derive(Clone, Copy, Debug, PartialEq, Eq)]
+#[derive(Clone, Copy)]
 pub enum Drawing {
     /// A picture.
     Picture,
@@ -16,14 +16,14 @@ pub enum Drawing {
 }
 
 /// What is written: what is made of a trace alone, or a page of a workload and its trace, by the rules of this package.
-#[derive(Clone, Copy, Debug, PartialEq, Eq)]
+#[derive(Clone, Copy)]
 pub enum Form {
     Drawn(Drawing),
     Page(Rules),
 }
 
 /// The word of a form.
-#[derive(Clone, Copy, Debug, PartialEq, Eq)]
+#[derive(Clone, Copy)]
 pub(crate) enum FormWord {
     Svg,
     Events,
@@ -32,7 +32,7 @@ pub(crate) enum FormWord {
 
 /// What the program is asked to draw: in this form, and for a picture the events from one to another, each as it is where none
 /// is named, so wide in pixels.
-#[derive(Clone, Copy, Debug, PartialEq, Eq)]
+#[derive(Clone, Copy)]
 pub struct Request {
     pub form: Form,
     pub from: Option<u64>,
@@ -41,7 +41,7 @@ pub struct Request {
 }
 
 /// What the words set.
-#[derive(Clone, Copy, Debug)]
+#[derive(Clone, Copy)]
 pub(crate) struct Settings {
     pub(crate) form: Option<FormWord>,
     pub(crate) rules: Option<Rules>,

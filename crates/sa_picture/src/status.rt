@@ -6,7 +6,7 @@ use sa_base::Bad;
 use sa_io::ReadError;
 
 /// How the top call ended. `code` is the program's exit status.
-#[derive(Clone, Copy, Debug, PartialEq, Eq)]
+#[derive(Clone, Copy)]
 pub enum Status {
     /// The picture or page was written, whole.
     Drawn,

@@ -12,7 +12,7 @@ use std::marker::Model;
 
 /// The package with thread priorities of one address space: FastThreads with one ready list, in which the threads are in the order
 /// of their ranks. The rank of a thread is the number of its program.
-#[derive(Debug, Drop)]
+#[derive(Drop)]
 pub struct PrioThreads {
     pub(crate) base: FastThreads,
     // of each processor, the thread that the space's context there carries

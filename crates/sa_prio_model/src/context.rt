@@ -5,7 +5,7 @@ ghost use Rattle.sa_prio_model.specs.Urge.{unmarked};
 use sa_package_model::Context;
 
 /// What an activation runs: a context of FastThreads, and its mark.
-#[derive(Debug, Drop)]
+#[derive(Drop)]
 pub struct PrioContext {
     pub base: Context,
     /// A ready thread outranked a running one when the context came to an instruction or a look, so it has a pair to serve.

@@ -1,9 +1,11 @@
 //! What a legal run promises its reader, whatever made it: the headline, what follows at each moment, and the readings in plain
 //! words. The theorems are over any user level's rules, with named needs; the
-//! functions here say them of FastThreads and of the package with thread priorities.
+//! functions here say them of FastThreads and of the package with thread priorities. Short histories are examples: a legal one, and for
+//! each rule one that breaks it first.
 #![tactic(auto)]
 
 mod consequences;
+mod examples;
 mod headline;
 mod laws;
 mod needs;
@@ -14,6 +16,9 @@ pub use consequences::{
     claims_have_one_sharing, closings_add_no_line, closings_add_nothing, demands_cover_loads,
     legal_runs_announce_demand, legal_runs_keep_lives_apart, legal_runs_lock_lists_once,
     low_lines_are_aimed,
+};
+pub use examples::{
+    ranked_races_can_be_broken, ranks_can_be_broken, rules_can_be_broken, smallest_run_is_legal,
 };
 pub use headline::{
     legal_runs_cover_shares, legal_runs_ready_no_holder, legal_runs_tell_at_most_once,

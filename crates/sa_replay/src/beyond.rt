@@ -1,7 +1,7 @@
 use sa_base::{Record, SpaceNo, ThreadNo};
 
 /// What the needs of a record look at beyond the abstract machine's state.
-#[derive(Clone, Copy, Debug)]
+#[derive(Clone, Copy)]
 pub struct Beyond {
     /// The record of the same event that comes directly before.
     pub last: Option<Record>,
@@ -14,7 +14,7 @@ pub struct Beyond {
 }
 
 /// What the needs of a record look at of a life.
-#[derive(Clone, Copy, Debug)]
+#[derive(Clone, Copy)]
 pub struct LifeSeen {
     pub space: SpaceNo,
     /// The thread with which it was stopped or has blocked.

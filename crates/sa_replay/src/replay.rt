@@ -27,7 +27,7 @@ use std::marker::Model;
 ///
 /// Each call but `start` takes constant time, but for the record of an instruction `end`, whose time is that of waking
 /// those that join its thread, and none but `start` needs memory.
-#[derive(Debug, Drop)]
+#[derive(Drop)]
 pub struct Replay {
     workload: Workload,
     spaces: Spaces,

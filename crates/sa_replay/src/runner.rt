@@ -5,7 +5,7 @@ use sa_base::{SpaceNo, ThreadNo};
 use std::marker::Model;
 
 /// A thread of a space, which runs on some processor.
-#[derive(Clone, Copy, Debug, PartialEq, Eq)]
+#[derive(Clone, Copy)]
 pub struct RunningThread {
     space: SpaceNo,
     thread: ThreadNo,

@@ -24,7 +24,7 @@ use std::marker::Model;
 ///
 /// Each call but `new` takes constant time, but for the instruction `end`, whose time is that of waking those that join
 /// its thread, and none but `new` needs memory.
-#[derive(Debug, Drop)]
+#[derive(Drop)]
 pub struct SpaceThreads {
     threads: Threads,
     sync: SyncState,

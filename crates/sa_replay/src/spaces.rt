@@ -19,7 +19,7 @@ use std::alloc::{AllocError, Global};
 use std::marker::Model;
 
 // The threads of the spaces of a workload, by the numbers of the spaces; at most 16.
-#[derive(Debug, Drop)]
+#[derive(Drop)]
 pub(crate) struct Spaces {
     spaces: Vec<SpaceThreads>,
     // how many spaces have a thread that is not done, and how many one that is ready, runs or is carried

@@ -18,7 +18,7 @@ use std::marker::Model;
 /// The threads that a space has made, by their numbers; at most 512.
 ///
 /// Each call but `new` takes constant time and cannot fail for want of memory.
-#[derive(Debug, Drop)]
+#[derive(Drop)]
 pub struct Threads {
     threads: Vec<ThreadState>,
     // how many are ready or run, how many are ready, how many are not done, and how many are ready, run or are carried

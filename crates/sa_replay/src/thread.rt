@@ -10,7 +10,7 @@ use sa_laws::Place;
 use std::marker::Model;
 
 /// A thread that was made: its program, the place of its next instruction, its registers, and where it is.
-#[derive(Clone, Copy, Debug, PartialEq, Eq)]
+#[derive(Clone, Copy)]
 pub struct ThreadState {
     program: u16,
     pc: u16,

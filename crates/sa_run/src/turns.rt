@@ -11,7 +11,7 @@ use sa_spaces::Workload;
 use std::alloc::Global;
 
 /// A run that ended.
-#[derive(Debug, Drop)]
+#[derive(Drop)]
 pub struct Ended {
     pub trace: Trace,
     pub end: End,

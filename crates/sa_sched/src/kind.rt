@@ -1,7 +1,7 @@
 use sa_base::ProcNo;
 
 /// What kind of order a schedule has.
-#[derive(Debug, Drop)]
+#[derive(Drop)]
 pub enum Kind {
     /// Each processor in turn, from processor 0 on.
     RoundRobin,

@@ -12,7 +12,7 @@ use sa_base::{MAX_PROCESSORS, ProcNo};
 use std::marker::Model;
 
 // What is left of an order.
-#[derive(Debug, Drop)]
+#[derive(Drop)]
 enum Order {
     RoundRobin,
     Seed(Lcg64Xsh32),
@@ -28,7 +28,7 @@ enum Order {
 }
 
 /// Whose turn each event is. It cannot fail for want of memory.
-#[derive(Debug, Drop)]
+#[derive(Drop)]
 pub struct Schedule {
     order: Order,
     // whose turn is next by round robin

@@ -2,7 +2,7 @@
 use sa_base::{ProcNo, SpaceNo, ThreadNo};
 
 /// A breakpoint: a place of a thread of a space.
-#[derive(Clone, Copy, Debug, PartialEq, Eq)]
+#[derive(Clone, Copy)]
 pub struct Point {
     pub space: SpaceNo,
     pub thread: ThreadNo,
@@ -11,7 +11,7 @@ pub struct Point {
 }
 
 /// A command of a session.
-#[derive(Clone, Copy, Debug, PartialEq, Eq)]
+#[derive(Clone, Copy)]
 pub enum DebugCommand {
     /// Adds the breakpoint.
     Break(Point),

@@ -5,7 +5,7 @@ use sa_instr::Regs;
 use sa_laws::Place;
 
 /// A thread, as it is shown.
-#[derive(Clone, Copy, Debug, PartialEq, Eq)]
+#[derive(Clone, Copy)]
 pub struct View {
     pub place: Place,
     /// The place of its next instruction, from 0.
@@ -14,7 +14,7 @@ pub struct View {
 }
 
 /// The answer to a command.
-#[derive(Clone, Copy, Debug, PartialEq, Eq)]
+#[derive(Clone, Copy)]
 pub enum Reply {
     /// It was done.
     Accepted,

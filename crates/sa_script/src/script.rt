@@ -10,7 +10,7 @@ use std::marker::Model;
 pub const MAX_LINES: u64 = 10_000;
 
 /// The commands of a script, in order, without the `quit` that ends it.
-#[derive(Debug, Drop)]
+#[derive(Drop)]
 pub struct Script {
     commands: Vec<DebugCommand>,
 }

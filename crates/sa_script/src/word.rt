@@ -5,7 +5,7 @@ ghost use Rattle.sa_script.specs.Words.{word_text, has_text, word_in};
 use sa_base::Cause;
 
 /// The first word of a line.
-#[derive(Clone, Copy, Debug, PartialEq, Eq)]
+#[derive(Clone, Copy)]
 pub(crate) enum Word {
     Break,
     Clear,

@@ -3,7 +3,7 @@ use sa_abstract::SeatState;
 use sa_base::End;
 
 /// Why a burst ended.
-#[derive(Clone, Copy, Debug, PartialEq, Eq)]
+#[derive(Clone, Copy, PartialEq, Eq)]
 pub enum BurstEnd {
     /// The next instruction is not local.
     Shared,
@@ -16,7 +16,7 @@ pub enum BurstEnd {
 }
 
 /// What an entry of a seat came to.
-#[derive(Clone, Copy, Debug, PartialEq, Eq)]
+#[derive(Clone, Copy, PartialEq, Eq)]
 pub enum Entered {
     /// So many events of its processor were made, 1 to 64: the burst, or else one turn.
     Turned(u16),

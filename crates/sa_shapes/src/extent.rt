@@ -12,7 +12,7 @@ pub const MAX_LINES: u32 = 40_000;
 
 /// How much there is to draw: how many lanes and spaces, and how many items of the window, counted up to one more than
 /// `MAX_LINES`.
-#[derive(Clone, Copy, Debug, PartialEq, Eq)]
+#[derive(Clone, Copy)]
 pub struct Extent {
     pub lanes: u32,
     pub spaces: u32,

@@ -5,7 +5,7 @@ ghost use Rattle.sa_shapes.specs.Look.{owner, working, continued, announcing, ow
 use sa_base::{ProcNo, Record, SpaceNo, ThreadNo};
 
 /// What a processor does from one of its turns to the next.
-#[derive(Clone, Copy, Debug, PartialEq, Eq)]
+#[derive(Clone, Copy)]
 pub enum Look {
     /// No space owns it.
     Unowned,

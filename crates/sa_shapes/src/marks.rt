@@ -8,7 +8,7 @@ use sa_base::{Item, ProcNo, Record};
 use std::alloc::AllocError;
 
 /// The marks of one event so far above a lane.
-#[derive(Clone, Copy, Debug)]
+#[derive(Clone, Copy)]
 pub(crate) struct Stack {
     pub(crate) event: u64,
     // The row of the next mark of that event.

@@ -11,7 +11,7 @@ use sa_base::{Item, ProcNo, SpaceNo};
 use std::alloc::{AllocError, Global};
 
 /// A picture of a trace.
-#[derive(Debug, Drop)]
+#[derive(Drop)]
 pub struct Picture {
     pub window: Window,
     /// How many lanes there are, one for each processor from 0 on, and how many spaces; at most `MAX_LANES`.

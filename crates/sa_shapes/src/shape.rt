@@ -10,7 +10,7 @@ pub const MAX_LANES: usize = 16;
 pub const TOP_ROW: u16 = 11;
 
 /// A line of the picture along which things are shown.
-#[derive(Clone, Copy, Debug, PartialEq, Eq)]
+#[derive(Clone, Copy)]
 pub enum Track {
     /// What the processor does.
     Lane(ProcNo),
@@ -21,7 +21,7 @@ pub enum Track {
 }
 
 /// What a track shows.
-#[derive(Clone, Copy, Debug)]
+#[derive(Clone, Copy)]
 pub enum Shown {
     /// Of a lane: what the processor does.
     Look(Look),
@@ -32,7 +32,7 @@ pub enum Shown {
 }
 
 /// A part of a track along which it shows one thing.
-#[derive(Clone, Copy, Debug)]
+#[derive(Clone, Copy)]
 pub struct Stretch {
     pub track: Track,
     /// The place of its first event, counted from the first event that is drawn.
@@ -46,7 +46,7 @@ pub struct Stretch {
 }
 
 /// A mark of one item above a lane.
-#[derive(Clone, Copy, Debug)]
+#[derive(Clone, Copy)]
 pub struct Mark {
     pub lane: ProcNo,
     /// The place of its event, counted from the first event that is drawn.
@@ -57,7 +57,7 @@ pub struct Mark {
 }
 
 /// A shape of the picture.
-#[derive(Clone, Copy, Debug)]
+#[derive(Clone, Copy)]
 pub enum Shape {
     Stretch(Stretch),
     Mark(Mark),

@@ -8,7 +8,7 @@ use sa_base::{Item, Record};
 use std::alloc::AllocError;
 
 /// A stretch that goes on.
-#[derive(Clone, Copy, Debug)]
+#[derive(Clone, Copy)]
 pub(crate) struct Going {
     // The place at which it begins, what it shows, and the index of the item that made it show that.
     pub(crate) from: u16,

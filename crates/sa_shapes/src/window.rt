@@ -6,7 +6,7 @@ ghost use Rattle.sa_shapes.specs.Window.{place, is_inside, window_to};
 pub const MAX_COUNT: u16 = 10_000;
 
 /// The events that are drawn: `count` of them, from `from` on.
-#[derive(Clone, Copy, Debug, PartialEq, Eq)]
+#[derive(Clone, Copy)]
 pub struct Window {
     pub from: u64,
     pub count: u16,

@@ -11,7 +11,7 @@ pub mod laws;
 pub use sa_base::{MAX_PROCESSORS, MAX_SPACES};
 
 /// What one space claims; by default nothing.
-#[derive(Clone, Copy, Debug, Default, PartialEq, Eq)]
+#[derive(Clone, Copy, Default)]
 pub struct Claim {
     /// 0 to 255; a space of higher priority is served first.
     pub priority: u8,

@@ -13,7 +13,7 @@ use std::alloc::{AllocError, Global};
 use std::marker::Model;
 
 /// A space as a workload declares it: its mutexes, semaphores, cells and programs are numbered from 0.
-#[derive(Debug, Drop)]
+#[derive(Drop)]
 pub struct SpaceDef {
     priority: u8,
     mutexes: u16,

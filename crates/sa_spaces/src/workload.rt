@@ -10,7 +10,7 @@ use std::alloc::{AllocError, Global};
 use std::marker::Model;
 
 /// From this event on, the page of the space is absent until it is fetched.
-#[derive(Clone, Copy, Debug, PartialEq, Eq)]
+#[derive(Clone, Copy)]
 pub struct Evict {
     /// The event, 1 to 1,000,000.
     pub event: u64,
@@ -71,7 +71,7 @@ impl Evict {
 }
 
 /// What a run is given: the machine, its spaces, and what comes to them from outside.
-#[derive(Debug, Drop)]
+#[derive(Drop)]
 pub struct Workload {
     processors: u16,
     fetch: u32,

@@ -1,2 +1,4 @@
 pub mod Store
 pub mod Answers
+pub mod Marks
+pub mod Sweep

@@ -12,7 +12,7 @@ use sa_shapes::Window;
 use std::alloc::AllocError;
 
 /// A sample of the legend.
-#[derive(Clone, Copy, Debug)]
+#[derive(Clone, Copy)]
 pub enum Sample {
     /// A thread that runs.
     Thread,

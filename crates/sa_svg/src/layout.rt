@@ -43,7 +43,7 @@ pub(crate) const MARK_HEIGHT: u16 = 13;
 pub(crate) const LANE_GAP: u16 = 32;
 
 /// The measures of a picture. Its events are folded into bands, one below another.
-#[derive(Clone, Copy, Debug)]
+#[derive(Clone, Copy)]
 pub struct Layout {
     /// How many pixels an event is wide, and how many events are beside each other in a band, each at least 1.
     pub unit: u16,

@@ -6,7 +6,7 @@ use sa_text::print_number;
 use std::alloc::AllocError;
 
 /// Where a rectangle is, and how large it is.
-#[derive(Clone, Copy, Debug)]
+#[derive(Clone, Copy)]
 pub struct Rect {
     pub x: u64,
     pub y: u64,

@@ -1,7 +1,7 @@
 use sa_base::ThreadNo;
 
 /// What a call did to threads.
-#[derive(Clone, Copy, Debug, PartialEq, Eq)]
+#[derive(Clone, Copy)]
 pub enum SyncAnswer {
     /// The calling thread goes on, and none was woken.
     Goes,

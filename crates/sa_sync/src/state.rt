@@ -14,7 +14,7 @@ use std::marker::Model;
 /// What the threads of one space wait on, and the cells that they share.
 ///
 /// Every call takes constant time, and none but `new` can fail for want of memory. A queue is first in, first out.
-#[derive(Debug, Drop)]
+#[derive(Drop)]
 pub struct SyncState {
     holders: Vec<Option<ThreadNo>>,
     counts: Vec<u32>,

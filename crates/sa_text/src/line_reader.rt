@@ -5,7 +5,7 @@ use crate::scan::length_before;
 use std::marker::Model;
 
 /// Where a line is in a text: its bytes are `text[start..end]`.
-#[derive(Clone, Copy, Debug, PartialEq, Eq)]
+#[derive(Clone, Copy)]
 pub struct Line {
     /// The line's number, from 1.
     pub number: u64,
@@ -20,7 +20,7 @@ pub struct Line {
 /// A reader of the lines of a text. It cannot fail for want of memory.
 ///
 /// A line feed ends a line, and what follows the last one is a line where it is not empty.
-#[derive(Debug, Drop)]
+#[derive(Drop)]
 pub struct Lines<'a> {
     text: &'a [u8],
     // where the next line begins

@@ -33,7 +33,7 @@ pub fn token(text: &[u8], line: &Line, from: usize) -> Option<(usize, usize)>
 }
 
 /// The pieces of a line that are still to be read. Contracts see the list of their bytes.
-#[derive(Debug, Drop)]
+#[derive(Drop)]
 pub struct Pieces<'a> {
     text: &'a [u8],
     line: Line,

@@ -3,7 +3,7 @@ ghost use Rattle.std.specs.Prelude.{◌≡◌, ◌↔◌, IsTrue};
 ghost use Rattle.sa_trace.specs.Field.{range_of, FitsField};
 
 /// What a field of a record is. An `Optional` one may be absent, which the trace text writes as `-`.
-#[derive(Clone, Copy, Debug, PartialEq, Eq)]
+#[derive(Clone, Copy)]
 pub enum Field {
     /// A space.
     Space,
@@ -28,7 +28,7 @@ pub enum Field {
 }
 
 /// What a field may hold.
-#[derive(Clone, Copy, Debug, PartialEq, Eq)]
+#[derive(Clone, Copy)]
 pub struct FieldRange {
     /// The greatest number; the least is 0.
     pub greatest: u64,

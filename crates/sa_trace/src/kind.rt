@@ -15,7 +15,7 @@ pub const MAX_WORD: usize = 14;
 
 /// The kind of a record, named as the record is, or as the notice. There are 23, of which the four
 /// notices are one, though each has its own word.
-#[derive(Clone, Copy, Debug, PartialEq, Eq)]
+#[derive(Clone, Copy)]
 pub enum Kind {
     Ins,
     Out,
@@ -76,7 +76,7 @@ pub const KINDS: [Kind; 26] = [
 ];
 
 /// How the records of a kind are written.
-#[derive(Clone, Copy, Debug, PartialEq, Eq)]
+#[derive(Clone, Copy)]
 pub struct Form {
     /// The kind's number, from 1 to 23, in the order of the trace text's counts. The notices have
     /// one number.

@@ -12,7 +12,7 @@ use sa_base::{Cause, End, Item, ProcNo, Record};
 use sa_text::{Line, Pieces};
 
 /// What a line says.
-#[derive(Clone, Copy, Debug)]
+#[derive(Clone, Copy)]
 pub enum Said {
     /// The next item.
     Next(Item),

@@ -10,7 +10,7 @@ use sa_base::{ActNo, IoNo, Note, ProcNo, Record, SpaceNo, ThreadNo};
 use std::marker::Model;
 
 /// A record as its kind and its fields, of which each is a number or absent.
-#[derive(Debug, Drop)]
+#[derive(Drop)]
 pub struct Parts {
     kind: Kind,
     // The fields that the kind has, and after them none.

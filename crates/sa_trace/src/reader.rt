@@ -13,7 +13,7 @@ use sa_text::Line;
 use std::marker::Model;
 
 /// Reads a trace text line by line. It cannot fail for want of memory.
-#[derive(Debug, Drop)]
+#[derive(Drop)]
 pub struct Reader<'a> {
     // The text from the next line on.
     rest: &'a [u8],

@@ -8,7 +8,7 @@ use sa_base::{End, Trace, Unread};
 use std::alloc::Global;
 
 /// What a trace text tells: the items, how the run ended, and its number of events.
-#[derive(Debug, Drop)]
+#[derive(Drop)]
 pub struct TraceText {
     pub trace: Trace,
     pub end: End,

@@ -8,7 +8,7 @@ use crate::kind::RECORD_KINDS;
 use sa_base::Item;
 
 /// The last of the items so far, and how many there are of each kind, in the order of their numbers.
-#[derive(Clone, Copy, Debug)]
+#[derive(Clone, Copy)]
 pub(crate) struct SoFar {
     pub(crate) last: Option<Item>,
     pub(crate) counts: [u64; RECORD_KINDS],

@@ -9,7 +9,7 @@ use sa_base::{Item, ProcNo, Record, SpaceNo, ThreadNo};
 use std::alloc::{AllocError, Global};
 
 /// What an arrow leads from, and to.
-#[derive(Clone, Copy, Debug)]
+#[derive(Clone, Copy)]
 pub enum Arrow {
     /// From where the line of the processor is raised to the next upcall there.
     Line(ProcNo),

@@ -9,7 +9,7 @@ use sa_shapes::{Look, MAX_LANES};
 use std::alloc::AllocError;
 
 /// What a track shows, and what it needs to go on.
-#[derive(Clone, Copy, Debug)]
+#[derive(Clone, Copy)]
 pub enum State {
     Context(Context),
     Doing(Doing),
@@ -18,7 +18,7 @@ pub enum State {
 }
 
 /// A part of a track along which it shows one thing.
-#[derive(Clone, Copy, Debug)]
+#[derive(Clone, Copy)]
 pub struct Slice {
     pub track: Track,
     /// Its first event, and the one after its last.
@@ -32,7 +32,7 @@ pub struct Slice {
 }
 
 /// A slice that goes on.
-#[derive(Clone, Copy, Debug)]
+#[derive(Clone, Copy)]
 pub struct Going {
     /// The event from which on it is shown, and the one at which the track is.
     pub from: u64,
@@ -45,7 +45,7 @@ pub struct Going {
 }
 
 /// The events of a trace: the first, and the one after the last.
-#[derive(Clone, Copy, Debug)]
+#[derive(Clone, Copy)]
 pub struct Span {
     pub begin: u64,
     pub end: u64,

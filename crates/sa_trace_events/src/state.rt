@@ -8,7 +8,7 @@ use sa_base::{ActNo, IoNo, Item, Note, ProcNo, Record, SpaceNo, ThreadNo};
 use sa_shapes::{Look, MAX_LANES};
 
 /// What is on a processor.
-#[derive(Clone, Copy, Debug)]
+#[derive(Clone, Copy)]
 pub struct Context {
     /// What it does, and for which space.
     pub look: Look,
@@ -17,7 +17,7 @@ pub struct Context {
 }
 
 /// What a thread does.
-#[derive(Clone, Copy, Debug)]
+#[derive(Clone, Copy)]
 pub enum Doing {
     /// No record has named it.
     Unseen,
@@ -40,7 +40,7 @@ pub enum Doing {
 }
 
 /// Who holds a lock, and on which processor it was taken.
-#[derive(Clone, Copy, Debug)]
+#[derive(Clone, Copy)]
 pub enum Holder {
     Nobody,
     Handler(ProcNo),
@@ -48,7 +48,7 @@ pub enum Holder {
 }
 
 /// A count of a space.
-#[derive(Clone, Copy, Debug)]
+#[derive(Clone, Copy)]
 pub struct Tally {
     pub n: u64,
     /// Whether the last upcall was one of the space.

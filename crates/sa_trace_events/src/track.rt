@@ -5,7 +5,7 @@ ghost use Rattle.sa_trace_events.specs.Track.{count_number, pid_of, tid_of};
 use sa_base::{ProcNo, SpaceNo, ThreadNo};
 
 /// The slices of a processor, one kind within another.
-#[derive(Clone, Copy, Debug)]
+#[derive(Clone, Copy)]
 pub enum Level {
     /// The space that owns it.
     Owner,
@@ -16,7 +16,7 @@ pub enum Level {
 }
 
 /// What is counted of a space.
-#[derive(Clone, Copy, Debug)]
+#[derive(Clone, Copy)]
 pub enum Count {
     /// How many processors it can use.
     Demand,
@@ -31,7 +31,7 @@ pub enum Count {
 }
 
 /// A track, along which slices are shown; the three of a processor are one within another.
-#[derive(Clone, Copy, Debug)]
+#[derive(Clone, Copy)]
 pub enum Track {
     Processor(ProcNo, Level),
     Thread(SpaceNo, ThreadNo),

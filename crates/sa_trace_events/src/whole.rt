@@ -15,7 +15,7 @@ use sa_shapes::{Window, measure};
 use std::alloc::{AllocError, Global};
 
 /// How many processors and spaces there are, and threads of a space.
-#[derive(Clone, Copy, Debug)]
+#[derive(Clone, Copy)]
 pub struct Shape {
     pub lanes: u16,
     pub spaces: u16,

@@ -14,7 +14,7 @@ use std::alloc::{AllocError, Global};
 use std::marker::Model;
 
 // A list at each place, the newest thread first. A thread is in at most one of them.
-#[derive(Debug, Drop)]
+#[derive(Drop)]
 pub(crate) struct Ready {
     lists: ReadyLists,
 }

@@ -9,7 +9,7 @@ pub trait Gate: Sync {
 }
 
 /// A gate that is open.
-#[derive(Clone, Copy, Debug)]
+#[derive(Clone, Copy)]
 pub struct FreeGate;
 
 impl Gate for FreeGate {

@@ -24,7 +24,7 @@ use std::sync::Wait;
 use std::thread::{self, Threads};
 
 /// Within how many events a run is made, and in bursts of how many instructions at most.
-#[derive(Clone, Copy, Debug)]
+#[derive(Clone, Copy)]
 pub struct Limits {
     /// 1 to 1,000,000.
     pub budget: u64,

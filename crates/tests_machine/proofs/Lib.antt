@@ -1,2 +1,3 @@
 mod PlainLemmas
 mod Rounds
+pub mod Pollers

@@ -2,3 +2,4 @@ pub mod Asks
 pub mod Plain
 pub mod OneThread
 pub mod Kept
+pub mod Fine

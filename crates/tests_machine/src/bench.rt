@@ -29,12 +29,8 @@ fn has_one(rt: &impl Abort, items: &[Item], event: &Event) {
     let mut left = event.records.iter();
     for item in items {
         if item.event == event.number {
-            assert_eq!(rt;
-                Some(item.what),
-                left.next().copied(),
-                "at {}",
-                event.number
-            );
+            let next = left.next().copied();
+            assert!(rt; Some(item.what) == next, "at {}", event.number);
             assert_eq!(rt; item.proc.0, event.p, "at {}", event.number);
         }
     }
@@ -130,7 +126,7 @@ fn commit<U: UserLevel>(
 // No context stands at an instruction on the processor, whose line is low.
 fn is_away<U: UserLevel>(rt: &impl Abort, core: &Core<U>, p: ProcNo) {
     assert!(rt; p.0 < core.workload().processors());
-    assert_eq!(rt; core.context(p), SeatState::Away);
+    assert!(rt; core.context(p) == SeatState::Away);
     assert_eq!(rt; core.line(p), None);
 }
 
@@ -154,7 +150,7 @@ fn do_one<U: UserLevel>(rt: &impl Abort, core: &mut Core<U>, act: Act) -> Result
         Act::Turns(p, n) => turns(rt, core, p, n)?,
         Act::Commit(p, n, made) => commit(rt, core, p, n, made)?,
         Act::Ends(end, events) => {
-            assert_eq!(rt; core.end(), end);
+            assert!(rt; core.end() == end);
             assert_eq!(rt; core.events(), events);
         }
         Act::IsAway(p) => is_away(rt, core, p),

@@ -11,12 +11,12 @@ ghost use Rattle.sa_check_moment.specs.declared.rules.Rules.TheVariants.{Priorit
 ghost use Rattle.sa_check_moment.specs.Urged.{asks_last};
 ghost use Rattle.sa_check_moment.specs.Ending.{IsOver, is_inside_at, owes_by, owes_pair, is_in, is_in_if, settles_by, scan_by, step_with, step_by, up_by, stepped_if, arisen_if};
 
+use crate::has_entry;
 use crate::moment::{Moment, Parts};
 use crate::rules::Rules;
 use crate::start::Start;
 use sa_base::{ActNo, ProcNo, Record};
 use sa_check_lives::{KeptLife, Lives, Scan, Stepped};
-use sa_check_ranks::has_entry;
 use sa_check_shapes::{closing_part, is_step};
 use sa_laws::Place;
 use std::alloc::AllocError;

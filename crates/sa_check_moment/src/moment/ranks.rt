@@ -6,7 +6,7 @@ ghost use Rattle.sa_laws.specs.State.{space_at};
 ghost use Rattle.sa_laws.specs.Readings.{life_if};
 ghost use Rattle.sa_ranks.specs.Pairs.{is_outranked, outranked_on, is_pair_on, has_pair, IsLowest};
 ghost use Rattle.sa_ranks.specs.Locks.{next_by_rank};
-ghost use Rattle.sa_check_ranks.specs.Ranked.{is_below};
+ghost use Rattle.sa_check_moment.specs.Ranked.{is_below};
 ghost use Rattle.sa_check_moment.specs.declared.rules.Rules.TheVariants.{Priorities};
 ghost use Rattle.sa_check_moment.specs.Seen.{seen};
 ghost use Rattle.sa_check_moment.specs.Urged.{is_lower, urged_by};

@@ -28,7 +28,7 @@ use std::alloc::AllocError;
 use std::marker::Model;
 
 // What a block or a fetch is for, and how many events it takes.
-#[derive(Clone, Copy, Debug)]
+#[derive(Clone, Copy)]
 struct NewIo {
     kind: IoKind,
     length: u32,
@@ -45,7 +45,7 @@ impl Model for NewIo {
 }
 
 // What is read of the moment before a record, for the parts that the record changes.
-#[derive(Clone, Copy, Debug)]
+#[derive(Clone, Copy)]
 struct Before {
     // A take of the life that runs on the processor is for a push, where the record is one.
     for_push: bool,

@@ -1,7 +1,7 @@
 use Rattle.std.proofs.Common.{Option, sym, subst}
 use Rattle.std.specs.Prelude.{IfSome}
 use Rattle.sa_explore_model.specs.declared.answer.Found.{Found}
-use Rattle.sa_given.specs.Given.{CanBeRun}
+use Rattle.sa_explore_run.specs.Behind.{CanBeRun}
 use Rattle.sa_explore_run.specs.Answer.{AreStuckWaits}
 use Rattle.sa_explore_run.proofs.Schedules.{stuck-run, are-within}
 use Rattle.sa_explore_run.proofs.run.search.Goals as goal

@@ -1,6 +1,6 @@
 use Rattle.std.proofs.Common.{◌≡◌, ◌++◌, Option, None, Some, ap, ◌∙◌}
 use Rattle.sa_base.specs.declared.context.Stopped.{Stopped}
-use Rattle.sa_codes.specs.Codes.{number, optional}
+use Rattle.sa_package_keys.specs.Codes.{number, optional}
 use Rattle.sa_kernel_model.specs.State.{KernelState}
 use Rattle.sa_core.specs.View.{machine}
 use Rattle.sa_outlook.specs.Nameless.{plain_held}

@@ -4,7 +4,7 @@ use Rattle.sa_devices.specs.Ios.{Io}
 use Rattle.sa_devices.specs.Kept.{entry_of}
 use Rattle.sa_devices.specs.Pages.{IsKind}
 use Rattle.sa_kernel_model.specs.State.{KernelState}
-use Rattle.sa_codes.specs.Codes.{list}
+use Rattle.sa_package_keys.specs.Codes.{list}
 use Rattle.sa_core.specs.View.{machine}
 use Rattle.sa_outlook.specs.DueOrder.{in_order}
 use Rattle.sa_outlook.specs.Nameless.{nameless_io}

@@ -1,6 +1,6 @@
 use Rattle.std.proofs.Common.{◌≡◌, ◌++◌, length, take}
 use Rattle.std.specs.List.{flat_map}
-use Rattle.sa_codes.specs.Codes.{number}
+use Rattle.sa_package_keys.specs.Codes.{number}
 use Rattle.sa_core.specs.View.{machine}
 use Rattle.sa_keys.specs.Parts.{entry_bytes}
 use Rattle.sa_keys.proofs.ios.put_ios.Given as goal

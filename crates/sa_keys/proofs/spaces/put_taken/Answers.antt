@@ -1,5 +1,5 @@
 use Rattle.std.proofs.Common.{◌≡◌, ℕ, ◌++◌, length, ap, ◌∙◌}
-use Rattle.sa_codes.specs.Codes.{number}
+use Rattle.sa_package_keys.specs.Codes.{number}
 use Rattle.sa_kernel_model.specs.State.{KernelState, taken_of}
 use Rattle.sa_core.specs.View.{machine}
 use Rattle.sa_outlook.specs.Outlook.{outlook}

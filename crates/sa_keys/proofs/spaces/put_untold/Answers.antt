@@ -1,7 +1,7 @@
 use Rattle.std.proofs.Common.{◌≡◌, List, ◌++◌, sym, ap, ◌∙◌, arith, ℕ}
 use Rattle.sa_base.specs.declared.record.Note.{Note}
 use Rattle.sa_kernel_model.specs.State.{KernelState, untold_of}
-use Rattle.sa_codes.specs.Codes.{list}
+use Rattle.sa_package_keys.specs.Codes.{list}
 use Rattle.sa_core.specs.View.{machine}
 use Rattle.sa_outlook.specs.Nameless.{nameless_note}
 use Rattle.sa_outlook.specs.Outlook.{held_by, look_in}

@@ -1,7 +1,7 @@
 use Rattle.std.proofs.Common.{◌-◌, length, refl, sym, ap, ◌∙◌, arith}
 use Rattle.std.proofs.lemmas.List.{get_or_read_under}
 use Rattle.sa_fast.specs.Threads.{unmade}
-use Rattle.sa_codes.proofs.Trimmed.{trimmed-kept, trimmed-none}
+use Rattle.sa_package_keys.proofs.Trimmed.{trimmed-kept, trimmed-none}
 use Rattle.sa_package_keys.specs.Packages.{is_new}
 use Rattle.sa_package_keys.proofs.blocks.kept_blocks.Goals as goal
 

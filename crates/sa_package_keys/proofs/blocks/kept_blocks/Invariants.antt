@@ -1,5 +1,5 @@
 use Rattle.sa_fast.specs.Threads.{unmade}
-use Rattle.sa_codes.proofs.Trimmed.{PassFrom}
+use Rattle.sa_package_keys.proofs.Trimmed.{PassFrom}
 use Rattle.sa_package_keys.specs.Packages.{is_new}
 use Rattle.sa_package_keys.proofs.blocks.kept_blocks.Given as goal
 

@@ -1,9 +1,9 @@
 use Rattle.std.proofs.Common.{◌≡◌, ◌++◌, length, take, sym, ap, ◌∙◌, arith}
 use Rattle.std.proofs.lemmas.List.{take-take}
 use Rattle.sa_fast.specs.Threads.{unmade}
-use Rattle.sa_codes.specs.Codes.{number, trimmed, list}
-use Rattle.sa_codes.proofs.Loops.{padded-all}
-use Rattle.sa_codes.proofs.Trimmed.{trimmed-front}
+use Rattle.sa_package_keys.specs.Codes.{number, trimmed, list}
+use Rattle.sa_package_keys.proofs.Loops.{padded-all}
+use Rattle.sa_package_keys.proofs.Trimmed.{trimmed-front}
 use Rattle.sa_package_keys.specs.Packages.{is_new, block_key}
 use Rattle.sa_package_keys.proofs.blocks.put_all_blocks.Goals as goal
 

@@ -1,6 +1,6 @@
 use Rattle.std.proofs.Common.{◌≡◌, ◌++◌, length, take}
 use Rattle.std.specs.List.{flat_map}
-use Rattle.sa_codes.specs.Codes.{number}
+use Rattle.sa_package_keys.specs.Codes.{number}
 use Rattle.sa_package_keys.specs.Packages.{block_key}
 use Rattle.sa_package_keys.proofs.blocks.put_blocks.Given as goal
 

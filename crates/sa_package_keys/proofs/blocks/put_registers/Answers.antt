@@ -1,6 +1,6 @@
 use Rattle.std.proofs.Common.{◌++◌, sym, ap, ◌∙◌, arith}
-use Rattle.sa_codes.specs.Codes.{number}
-use Rattle.sa_codes.proofs.Loops.{so_far-none, so_far-more, so_far-all}
+use Rattle.sa_package_keys.specs.Codes.{number}
+use Rattle.sa_package_keys.proofs.Loops.{so_far-none, so_far-more, so_far-all}
 use Rattle.sa_package_keys.proofs.blocks.put_registers.Goals as goal
 
 pub loop-n-init : goal.loop-n-init

@@ -1,6 +1,6 @@
 use Rattle.std.proofs.Common.{[], arith}
-use Rattle.sa_codes.specs.Codes.{number, list}
-use Rattle.sa_codes.proofs.Loops.{so_far-none, so_far-more, so_far-all}
+use Rattle.sa_package_keys.specs.Codes.{number, list}
+use Rattle.sa_package_keys.proofs.Loops.{so_far-none, so_far-more, so_far-all}
 use Rattle.sa_package_keys.proofs.lists.put_all_ready.Goals as goal
 
 pub loop-l-init : goal.loop-l-init

@@ -1,6 +1,6 @@
 use Rattle.std.proofs.Common.{◌≡◌, ◌++◌}
-use Rattle.sa_codes.specs.Codes.{number, list}
-use Rattle.sa_codes.proofs.Loops.{so_far}
+use Rattle.sa_package_keys.specs.Codes.{number, list}
+use Rattle.sa_package_keys.proofs.Loops.{so_far}
 use Rattle.sa_package_keys.proofs.lists.put_all_ready.Given as goal
 
 abbrev pub invariant-loop-l : goal.invariant-loop-l

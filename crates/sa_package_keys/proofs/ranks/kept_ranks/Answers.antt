@@ -1,7 +1,7 @@
 use Rattle.std.proofs.Common.{◌≡◌, ◌-◌, inl, inr, sym, ap, ◌∙◌, arith}
 use Rattle.std.proofs.lemmas.Bool.{cases_lt, eq-eqb}
 use Rattle.sa_lists.specs.ReadyView.{rank_of}
-use Rattle.sa_codes.proofs.Trimmed.{trimmed-kept, trimmed-none}
+use Rattle.sa_package_keys.proofs.Trimmed.{trimmed-kept, trimmed-none}
 use Rattle.sa_package_keys.specs.Packages.{is_zero}
 use Rattle.sa_package_keys.proofs.FirstRanks.{first_ranks, length-first_ranks, get_or-first_ranks}
 use Rattle.sa_package_keys.proofs.Tests.{nonzero}

@@ -1,7 +1,7 @@
 use Rattle.std.proofs.Common.{map}
 use Rattle.std.specs.List.{range_with_len}
 use Rattle.sa_lists.specs.ReadyView.{rank_of}
-use Rattle.sa_codes.proofs.Trimmed.{PassFrom}
+use Rattle.sa_package_keys.proofs.Trimmed.{PassFrom}
 use Rattle.sa_package_keys.specs.Packages.{is_zero}
 use Rattle.sa_package_keys.proofs.ranks.kept_ranks.Given as goal
 

@@ -1,7 +1,7 @@
 use Rattle.std.proofs.Common.{take, ◌∙◌, ap, sym, ◌++◌, arith}
 use Rattle.std.proofs.lemmas.List.{length-take-le}
-use Rattle.sa_codes.specs.Codes.{number, list}
-use Rattle.sa_codes.proofs.Loops.{so_far-none, so_far-kept, so_far-all}
+use Rattle.sa_package_keys.specs.Codes.{number, list}
+use Rattle.sa_package_keys.proofs.Loops.{so_far-none, so_far-kept, so_far-all}
 use Rattle.sa_package_keys.proofs.FirstRanks.{first_ranks, length-first_ranks, get_or-first_ranks}
 use Rattle.sa_package_keys.proofs.ranks.put_ranks.Goals as goal
 

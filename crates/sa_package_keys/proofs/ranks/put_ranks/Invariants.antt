@@ -1,8 +1,8 @@
 use Rattle.std.proofs.Common.{◌≡◌, ◌++◌, map, take}
 use Rattle.std.specs.List.{range_with_len}
 use Rattle.sa_lists.specs.ReadyView.{rank_of}
-use Rattle.sa_codes.specs.Codes.{number}
-use Rattle.sa_codes.proofs.Loops.{so_far}
+use Rattle.sa_package_keys.specs.Codes.{number}
+use Rattle.sa_package_keys.proofs.Loops.{so_far}
 use Rattle.sa_package_keys.proofs.ranks.put_ranks.Given as goal
 
 abbrev pub invariant-loop-t : goal.invariant-loop-t

@@ -1,6 +1,6 @@
 use Rattle.std.proofs.Common.{is_none, ◌∙◌, ◌++◌, take, ap, refl}
-use Rattle.sa_codes.specs.Codes.{thread_key, list}
-use Rattle.sa_codes.proofs.Loops.{padded-all}
+use Rattle.sa_package_keys.specs.Codes.{thread_key, list}
+use Rattle.sa_package_keys.proofs.Loops.{padded-all}
 use Rattle.sa_package_keys.proofs.shared.put_holders.Goals as goal
 
 pub returns : goal.returns

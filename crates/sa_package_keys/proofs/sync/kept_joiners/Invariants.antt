@@ -1,5 +1,5 @@
 use Rattle.std.proofs.Common.{[]}
-use Rattle.sa_codes.proofs.Trimmed.{PassFrom}
+use Rattle.sa_package_keys.proofs.Trimmed.{PassFrom}
 use Rattle.sa_package_keys.specs.Packages.{is_empty}
 use Rattle.sa_package_keys.proofs.sync.kept_joiners.Given as goal
 

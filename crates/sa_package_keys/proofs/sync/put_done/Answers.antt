@@ -1,8 +1,8 @@
 use Rattle.std.proofs.Common.{not, false, ◌++◌, take, refl, ap, ◌∙◌, arith}
 use Rattle.std.proofs.lemmas.List.{length-take-le}
-use Rattle.sa_codes.specs.Codes.{flag, list}
-use Rattle.sa_codes.proofs.Loops.{padded-all}
-use Rattle.sa_codes.proofs.Trimmed.{trimmed-front}
+use Rattle.sa_package_keys.specs.Codes.{flag, list}
+use Rattle.sa_package_keys.proofs.Loops.{padded-all}
+use Rattle.sa_package_keys.proofs.Trimmed.{trimmed-front}
 use Rattle.sa_package_keys.proofs.sync.put_done.Goals as goal
 
 pub returns : goal.returns

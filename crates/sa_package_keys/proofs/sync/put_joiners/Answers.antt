@@ -1,7 +1,7 @@
 use Rattle.std.proofs.Common.{◌++◌, [], take, ap, ◌∙◌, arith}
 use Rattle.std.proofs.lemmas.List.{length-take-le}
-use Rattle.sa_codes.specs.Codes.{number, list}
-use Rattle.sa_codes.proofs.Loops.{so_far-none, so_far-kept, so_far-all, padded-all}
+use Rattle.sa_package_keys.specs.Codes.{number, list}
+use Rattle.sa_package_keys.proofs.Loops.{so_far-none, so_far-kept, so_far-all, padded-all}
 use Rattle.sa_package_keys.specs.Packages.{is_empty}
 use Rattle.sa_package_keys.proofs.sync.put_joiners.Goals as goal
 

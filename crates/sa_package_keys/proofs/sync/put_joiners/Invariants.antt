@@ -1,7 +1,7 @@
 use Rattle.std.proofs.Common.{◌≡◌, ◌++◌, take}
 use Rattle.sa_base.specs.declared.limits.TheConstants.{MAX_THREADS}
-use Rattle.sa_codes.specs.Codes.{number, list}
-use Rattle.sa_codes.proofs.Loops.{so_far}
+use Rattle.sa_package_keys.specs.Codes.{number, list}
+use Rattle.sa_package_keys.proofs.Loops.{so_far}
 use Rattle.sa_package_keys.proofs.sync.put_joiners.Given as goal
 
 abbrev pub invariant-loop-t : goal.invariant-loop-t

@@ -1,7 +1,7 @@
 use Rattle.std.proofs.Common.{arith}
 use Rattle.sa_sync.specs.Sync.{free_mutex}
 use Rattle.sa_package_keys.specs.Packages.{mutex_key}
-use Rattle.sa_codes.proofs.Loops.{so_far-none, so_far-more, so_far-all}
+use Rattle.sa_package_keys.proofs.Loops.{so_far-none, so_far-more, so_far-all}
 use Rattle.sa_package_keys.proofs.sync.put_mutexes.Goals as goal
 
 pub loop-m-init : goal.loop-m-init

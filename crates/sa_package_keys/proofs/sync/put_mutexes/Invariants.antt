@@ -1,5 +1,5 @@
 use Rattle.std.proofs.Common.{◌≡◌, ◌++◌}
-use Rattle.sa_codes.proofs.Loops.{so_far}
+use Rattle.sa_package_keys.proofs.Loops.{so_far}
 use Rattle.sa_package_keys.specs.Packages.{mutex_key}
 use Rattle.sa_package_keys.proofs.sync.put_mutexes.Given as goal
 

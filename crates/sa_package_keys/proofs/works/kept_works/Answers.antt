@@ -1,7 +1,7 @@
 use Rattle.std.proofs.Common.{◌-◌, [], sym, ◌∙◌, arith}
 use Rattle.std.proofs.lemmas.Bool.{true≢false}
 use Rattle.sa_links.specs.Lists.{list_at}
-use Rattle.sa_codes.proofs.Trimmed.{trimmed-kept, trimmed-none}
+use Rattle.sa_package_keys.proofs.Trimmed.{trimmed-kept, trimmed-none}
 use Rattle.sa_package_keys.specs.Packages.{is_empty}
 use Rattle.sa_package_keys.proofs.Tests.{filled}
 use Rattle.sa_package_keys.proofs.works.kept_works.Goals as goal

@@ -1,7 +1,7 @@
 use Rattle.std.proofs.Common.{◌≡◌, ℕ, ◌∙◌, sym, ap, subst}
 use Rattle.sa_laws.specs.State.{space_at}
 use Rattle.sa_ranks.specs.Pairs.{is_outranked}
-use Rattle.sa_check_ranks.specs.Ranked.{is_below}
+use Rattle.sa_check_moment.specs.Ranked.{is_below}
 use Rattle.sa_check_moment.specs.declared.moment.Parts.{Parts}
 use Rattle.sa_check_moment.specs.Level.{IsKeptFor}
 use Rattle.sa_check_moment.specs.Seen.{Kept, seen}

@@ -1,4 +1,0 @@
-pub mod Each
-pub mod Prompt
-pub mod Reaimed
-pub mod Wanting

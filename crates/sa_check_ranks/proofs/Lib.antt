@@ -1,4 +1,0 @@
-pub mod Keeping
-pub mod Rows
-pub mod Histories
-pub mod Best

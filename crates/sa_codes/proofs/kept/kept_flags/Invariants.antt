@@ -1,6 +1,0 @@
-use Rattle.std.proofs.Common.{not, false}
-use Rattle.sa_codes.proofs.Trimmed.{PassFrom}
-use Rattle.sa_codes.proofs.kept.kept_flags.Given as goal
-
-abbrev pub invariant-loop-i : goal.invariant-loop-i
-invariant-loop-i l = PassFrom not false l.i l.flags

@@ -1,6 +1,0 @@
-use Rattle.std.proofs.Common.{is_none, None}
-use Rattle.sa_codes.proofs.Trimmed.{PassFrom}
-use Rattle.sa_codes.proofs.kept.kept_threads.Given as goal
-
-abbrev pub invariant-loop-i : goal.invariant-loop-i
-invariant-loop-i l = PassFrom is_none None l.i l.threads

@@ -1,7 +1,0 @@
-use Rattle.std.proofs.Common.{◌≡◌, ◌++◌, length, take}
-use Rattle.std.specs.List.{flat_map}
-use Rattle.sa_codes.specs.Codes.{number}
-use Rattle.sa_codes.proofs.put.put_numbers.Given as goal
-
-abbrev pub invariant-loop-n : goal.invariant-loop-n
-invariant-loop-n l = l.key.items ≡ l.fn.key.items ++ number (length l.numbers) ++ flat_map number (take l.n-index l.numbers)

@@ -1,0 +1,33 @@
+-- What a schedule leads to.
+use Rattle.std.specs.Prelude.{◌≡◌, ℕ, ◌<◌, ◌≤◌, List, length, take, All}
+use Rattle.sa_base.specs.declared.limits.TheConstants.{MAX_EVENTS}
+use Rattle.sa_base.specs.declared.number.ProcNo.{ProcNo}
+use Rattle.sa_base.specs.declared.record.Item.{Item}
+use Rattle.sa_spaces.specs.Workload.{WorkloadView}
+use Rattle.sa_abstract.specs.Calls.{Calls}
+use Rattle.sa_core_model.specs.Machine.{Machine}
+use Rattle.sa_laws.specs.State.{opening_state}
+use Rattle.sa_debug.specs.Views.{state_behind}
+use Rattle.sa_explore_runs.specs.Runs.{LeadTo}
+use Rattle.sa_explore_runs.specs.Searching.{IsOpen}
+use Rattle.sa_explore_run.specs.declared.answer.Wait.{Wait}
+use Rattle.sa_explore_run.specs.Waits.{waits_of}
+
+module _ {U C : Type 0} (f : Calls U C) (w : WorkloadView) where
+  -- the turns are of the workload's processors, as many as a run may have, and no run ends before the last of them
+  pub record CanBeRun (turns : List ProcNo) : Type 0 where
+    pub few : length turns ≤ MAX_EVENTS
+    pub within : All (λ p. p.0 < w.processors) turns
+    pub open_before : (n : ℕ) → n < length turns → IsOpen f w (take n turns)
+
+  -- the items are the history of a machine to which the turns lead
+  pub record IsHistory (turns : List ProcNo) (items : List Item) : Type 0 where
+    pub machine : Machine U C
+    pub lead : LeadTo f w turns machine
+    pub is : items ≡ machine.items
+
+  -- these are the threads that wait in a machine to which the turns lead
+  pub record AreWaits (turns : List ProcNo) (waits : List Wait) : Type 0 where
+    pub machine : Machine U C
+    pub lead : LeadTo f w turns machine
+    pub are : waits ≡ waits_of (state_behind w (opening_state w) machine.items)

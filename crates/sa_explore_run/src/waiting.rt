@@ -1,0 +1,28 @@
+// The threads that wait at the end of a schedule.
+ghost use Rattle.std.specs.Prelude.{IfOk};
+ghost use Rattle.sa_base.specs.declared.limits.TheConstants.{MAX_EVENTS};
+ghost use Rattle.sa_debug.specs.Reached.{IsPlayable};
+ghost use Rattle.sa_explore_run.specs.Behind.{CanBeRun, AreWaits};
+
+use crate::history::history;
+use crate::replayed::replayed;
+use crate::{Wait, waits};
+use sa_abstract::UserLevel;
+use sa_base::ProcNo;
+use sa_spaces::Workload;
+use std::alloc::{AllocError, Global};
+
+/// The threads that wait after these turns of the workload, in order of spaces and threads. Fails only where memory runs out.
+pub fn waits_behind<U: UserLevel>(
+    alloc: Global,
+    workload: &Workload,
+    turns: &[ProcNo],
+) -> Result<Vec<Wait>, AllocError>
+    requires run { CanBeRun U.calls workload.now turns.now }
+    requires playable { IsPlayable U.calls workload.now MAX_EVENTS }
+    ensures { IfOk result (λ waits. AreWaits U.calls workload.now turns.now waits.items) }
+{
+    let trace = history::<U>(alloc, workload, turns)?;
+    let replay = replayed(alloc, workload, trace.items())?;
+    waits(alloc, &replay)
+}
