@@ -12,7 +12,7 @@ use Rattle.sa_abstract.specs.Calls.{Calls}
 use Rattle.sa_core_model.specs.Machine.{Machine}
 use Rattle.sa_core_model.specs.End.{end_of, all_done, is_stuck}
 use Rattle.sa_core_model.specs.Turn.{next_event, more_events}
-use Rattle.sa_core.specs.Users.{one_unless}
+use Rattle.sa_users.specs.Users.{one_unless}
 
 pub all-over : {X : Type 0} (test : X → Bool) (xs : List X) → sum_by (λ x. one_unless (test x)) xs ≡ 0 → list_all test xs ≡ true
 all-over test [] none = refl

@@ -1,4 +1,3 @@
-pub mod CountLemmas
 pub mod EndLemmas
 pub mod EnterLemmas
 pub mod CallLemmas

@@ -1,4 +1,3 @@
-pub mod Users
 pub mod View
 pub mod Room
 pub mod Needs

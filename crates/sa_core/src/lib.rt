@@ -4,6 +4,5 @@
 mod machine;
 mod room;
 mod run;
-mod users;
 
 pub use run::Core;

@@ -1,7 +1,7 @@
 use Rattle.std.proofs.Common.{◌++◌, ap, ◌∙◌, arith, ◌<◌, List, length}
 use Rattle.sa_base.specs.Items.{items_from}
-use Rattle.sa_core.proofs.CountLemmas.{counted-few, counted-left, counted-work, counted-set, user-is, set-by}
-use Rattle.sa_core.proofs.users.Users.went.Goals as goal
+use Rattle.sa_users.proofs.CountLemmas.{counted-few, counted-left, counted-work, counted-set, user-at, user-is, set-by}
+use Rattle.sa_users.proofs.users.Users.went.Goals as goal
 
 pub after-self-inside-requires-clause-few : goal.after-self-inside-requires-clause-few
 after-self-inside-requires-clause-few g c =
@@ -51,3 +51,14 @@ invariant_of-self g c =
     counted-set g.U.UserLevel.calls c.self.inside.levels.items c.from.result c.self.inside.counts.unfinished c.self.inside.counts.active c.index_mut-level.result.now c.went.new.self
     c.tally-was.result c.tally-is.result c.after-self-inside.result.unfinished c.after-self-inside.result.active
     c.self.invariant within c.index_mut-level.ensures.value c.tally-was.ensures c.tally-is.ensures c.after-self-inside.ensures.unfinished c.after-self-inside.ensures.active
+
+pub index_mut-level-requires : goal.index_mut-level-requires
+index_mut-level-requires g c =
+    let len = ap (λ (zs : List g.row.U.Denot). length zs) c.self.view_is in
+    omega (arith, len, c.from.ensures, c.requires.within)
+
+pub went-requires-clause-going : goal.went-requires-clause-going
+went-requires-clause-going g c =
+    c.requires.going c.index_mut-level.result.now
+    (user-at c.self.inside.levels.items c.args.self.now c.args.s.0 c.from.result c.index_mut-level.result.now c.index_mut-level.result.now c.self.view_is
+    c.from.ensures c.index_mut-level.ensures.value c.requires.within)

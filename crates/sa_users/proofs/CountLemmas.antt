@@ -1,15 +1,17 @@
 -- The user levels of a list, one of which changes, and how many have something to do.
-use Rattle.std.proofs.Common.{◌≡◌, ℕ, ◌+◌, ◌<◌, ◌≤◌, Bool, true, false, Some, List, [], ◌∷◌, ◌++◌, length, get_or, set, slice_get, slice_set, drop, append_assoc, refl, sym, ap, subst, ◌∙◌, arith}
+use Rattle.std.proofs.Common.{◌≡◌, ℕ, ◌+◌, ◌<◌, ◌≤◌, Bool, true, false, Option, Some, List, [], ◌∷◌, ◌++◌, length, get_or, set, slice_get, slice_set, drop, append_assoc, refl, sym, ap, subst, ◌∙◌, arith}
 use Rattle.std.proofs.lemmas.List.{length-set}
 use Rattle.std.proofs.lemmas.Option.{slice_get_read}
 use Rattle.std.proofs.lemmas.List.Sums.{sum_by-cons, sum_by-set, get_or-le-sum_by}
 use Rattle.std.specs.Prelude.{sum_by, zero, suc}
+use Rattle.sa_base.specs.declared.number.ThreadNo.{ThreadNo}
+use Rattle.sa_base.specs.declared.context.Stopped.{Stopped}
 use Rattle.sa_spaces.specs.Space.{SpaceView}
 use Rattle.sa_spaces.specs.Workload.{WorkloadView}
 use Rattle.sa_abstract.specs.Calls.{Calls}
 use Rattle.sa_abstract.specs.declared.answer.Tally.{Tally}
 use Rattle.sa_core_model.specs.Run.{setting, started_from}
-use Rattle.sa_core.specs.Users.{one_unless, is_over, is_still, Counted}
+use Rattle.sa_users.specs.Users.{one_unless, is_over, is_still, Counted, stopped_of}
 
 sum-few : {X : Type 0} (test : X → Bool) (xs : List X) → sum_by (λ x. one_unless (test x)) xs ≤ length xs
 sum-few test [] = omega arith
@@ -64,14 +66,23 @@ module _ {U C : Type 0} (f : Calls U C) (xs : List U) (i n k : ℕ) (u v : U) (w
 
 -- one of a list, as it was read there
 module _ {U : Type 0} (xs ys : List U) (i j : ℕ) (x u : U) where
+  pub user-at : xs ≡ ys → j ≡ i → x ≡ get_or xs j x → i < length ys → slice_get ys i ≡ Some x
+  user-at same here read within = slice_get_read ys (length ys) i x refl within (read ∙ ap (λ zs. get_or zs j x) same ∙ ap (λ n. get_or ys n x) here)
+
   pub user-is : xs ≡ ys → j ≡ i → x ≡ get_or xs j x → i < length ys → slice_get ys i ≡ Some u → x ≡ u
   user-is same here read within at =
-      let got : slice_get ys i ≡ Some x = slice_get_read ys (length ys) i x refl within (read ∙ ap (λ zs. get_or zs j x) same ∙ ap (λ n. get_or ys n x) here) in
-      let e : Some x ≡ Some u = sym got ∙ at in
+      let e : Some x ≡ Some u = sym (user-at same here read within) ∙ at in
       cc
 
   pub set-by : (g : U → U) (v : U) → xs ≡ ys → j ≡ i → x ≡ u → v ≡ g x → slice_set xs j v ≡ slice_set ys i (g u)
   set-by g v same here is new = ap (λ zs. slice_set zs j v) same ∙ ap (λ n. slice_set ys n v) here ∙ ap (slice_set ys i) (new ∙ ap g is)
+
+-- a context as it is handed over, by what is read of its user level
+pub stopped-as : {U C : Type 0} (f : Calls U C) (x u : U) (ctx : C) (thread : Option ThreadNo) (idle : Bool) → x ≡ u → thread ≡ f.thread x ctx
+    → idle ≡ f.idle x ctx → ◌≡◌ {A = Stopped C} (record { ctx = ctx; thread = thread; idle = idle }) (stopped_of f u ctx)
+stopped-as {U} {C} f x u ctx thread idle is thread-is idle-is =
+    let of : Option ThreadNo → Bool → Stopped C = λ t i. record { ctx = ctx; thread = t; idle = i } in
+    ap (λ t. of t idle) thread-is ∙ ap (λ i. of (f.thread x ctx) i) idle-is ∙ ap (λ (v : U). stopped_of f v ctx) is
 
 -- the user level of one space more
 pub started-next : {U C : Type 0} (f : Calls U C) (w : WorkloadView) (s m n : ℕ) (defs : List SpaceView) (def : SpaceView)

@@ -3,8 +3,8 @@ use Rattle.std.proofs.lemmas.List.{length_push}
 use Rattle.sa_spaces.specs.Space.{SpaceView}
 use Rattle.sa_lemmas.proofs.ListReads.{read-at}
 use Rattle.sa_core_model.specs.Run.{setting, started_from}
-use Rattle.sa_core.proofs.CountLemmas.{started-more}
-use Rattle.sa_core.proofs.users.Users.start.Goals as goal
+use Rattle.sa_users.proofs.CountLemmas.{started-more}
+use Rattle.sa_users.proofs.users.Users.start.Goals as goal
 
 pub loop-s-preserved : goal.loop-s-preserved
 loop-s-preserved g c =

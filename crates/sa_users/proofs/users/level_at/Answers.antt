@@ -1,6 +1,6 @@
 use Rattle.std.proofs.Common.{refl, ◌∙◌}
-use Rattle.sa_core.proofs.CountLemmas.{user-is}
-use Rattle.sa_core.proofs.users.level_at.Goals as goal
+use Rattle.sa_users.proofs.CountLemmas.{user-is}
+use Rattle.sa_users.proofs.users.level_at.Goals as goal
 
 pub returns : goal.returns
 returns g c = λ def at.

@@ -1,6 +1,6 @@
 use Rattle.std.proofs.Common.{List, length, ap, arith}
-use Rattle.sa_core.proofs.CountLemmas.{counted-few}
-use Rattle.sa_core.proofs.users.Users.add.Goals as goal
+use Rattle.sa_users.proofs.CountLemmas.{counted-few}
+use Rattle.sa_users.proofs.users.Users.add.Goals as goal
 
 pub with-self-inside-requires : goal.with-self-inside-requires
 with-self-inside-requires g c =

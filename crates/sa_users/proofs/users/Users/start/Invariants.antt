@@ -1,6 +1,6 @@
 use Rattle.std.proofs.Common.{◌≡◌, ◌++◌, drop, length}
 use Rattle.sa_core_model.specs.Run.{started_from}
-use Rattle.sa_core.proofs.users.Users.start.Given as goal
+use Rattle.sa_users.proofs.users.Users.start.Given as goal
 
 -- what is left to be started makes up the rest
 abbrev pub invariant-loop-s : goal.invariant-loop-s

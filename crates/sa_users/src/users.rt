@@ -5,8 +5,7 @@ ghost use Rattle.sa_base.specs.Items.{items_at, items_from};
 ghost use Rattle.sa_spaces.specs.Space.{SpaceView};
 ghost use Rattle.sa_abstract.specs.Keeps.{IsBefore, IsOf, IsSeenOf, IsTelling, IsStep, IsGoing};
 ghost use Rattle.sa_core_model.specs.Run.{setting, started_from};
-ghost use Rattle.sa_core.specs.declared.machine.TheConstants.{STEP_ITEMS};
-ghost use Rattle.sa_core.specs.Users.{one_unless, is_over, is_still, unfinished, active, stopped_of};
+ghost use Rattle.sa_users.specs.Users.{one_unless, is_over, is_still, unfinished, active, stopped_of};
 
 use sa_abstract::{SeatState, Step, Tally, UserLevel};
 use sa_base::{Note, Seen, SpaceNo, Stopped, Trace};
@@ -14,11 +13,16 @@ use sa_spaces::{SpaceDef, Workload};
 use std::alloc::{AllocError, Global};
 use std::marker::Model;
 
-/// In how many spaces some thread is not done, and in how many some thread is active.
+/// The items of a step at most.
+pub const STEP_ITEMS: usize = 4;
+
+/// How many spaces have something to do.
 #[derive(Clone, Copy)]
-pub(crate) struct Counts {
-    pub(crate) unfinished: usize,
-    pub(crate) active: usize,
+pub struct Counts {
+    /// In how many spaces some thread is not done, at most 16.
+    pub unfinished: usize,
+    /// In how many some thread is active, at most 16.
+    pub active: usize,
 }
 
 // A count with one space more.
@@ -35,8 +39,11 @@ fn recounted(count: usize, was_over: bool, is_over: bool) -> usize
     requires few { count ≤ MAX_SPACES }
     ensures { result + one_unless was_over ≡ count + one_unless is_over }
 {
-    let others = if was_over { count } else { count - 1 };
-    if is_over { others } else { others + 1 }
+    match (was_over, is_over) {
+        (false, true) => count - 1,
+        (true, false) => count + 1,
+        _ => count,
+    }
 }
 
 impl Counts {
@@ -82,14 +89,14 @@ fn level_at<U: UserLevel>(alloc: Global, s: usize, w: &Workload) -> Result<U, Al
 
 /// The user level of each space, and how many of them still have something to do.
 #[derive(Drop)]
-pub(crate) struct Users<U: UserLevel> {
+pub struct Users<U: UserLevel> {
     levels: Vec<U>,
     counts: Counts,
 }
 
 impl<U: UserLevel> Model for Users<U> {
     ghost use Rattle.std.specs.Prelude.{List};
-    ghost use Rattle.sa_core.specs.Users.{Counted};
+    ghost use Rattle.sa_users.specs.Users.{Counted};
 
     ghost Value = { List U };
 
@@ -100,7 +107,7 @@ impl<U: UserLevel> Model for Users<U> {
 
 impl<U: UserLevel> Users<U> {
     /// The user levels at the opening of a workload. Fails only where memory runs out.
-    pub(crate) fn start(alloc: Global, w: &Workload) -> Result<Self, AllocError>
+    pub fn start(alloc: Global, w: &Workload) -> Result<Self, AllocError>
         ensures { IfOk result (λ users. users ≡ started_from U.calls w.now 0 w.now.spaces) }
     {
         let mut users = Users {
@@ -129,7 +136,7 @@ impl<U: UserLevel> Users<U> {
     }
 
     /// In how many spaces something is still to be done.
-    pub(crate) fn counts(&self) -> Counts
+    pub fn counts(&self) -> Counts
         ensures unfinished { result.unfinished ≡ unfinished U.calls self.now }
         ensures active { result.active ≡ active U.calls self.now }
     {
@@ -137,7 +144,7 @@ impl<U: UserLevel> Users<U> {
     }
 
     /// The context of a fresh activation.
-    pub(crate) fn begin(&mut self, s: SpaceNo, seen: &Seen) -> U::Ctx
+    pub fn begin(&mut self, s: SpaceNo, seen: &Seen) -> U::Ctx
         requires within { s.0 < length self.old }
         requires before { (u : U) → slice_get self.old s.0 ≡ Some u → IsBefore U.stands u seen.now }
         ensures user { (u : U) → slice_get self.old s.0 ≡ Some u
@@ -154,13 +161,7 @@ impl<U: UserLevel> Users<U> {
     }
 
     /// A context is told a notice.
-    pub(crate) fn told(
-        &mut self,
-        s: SpaceNo,
-        ctx: &mut U::Ctx,
-        note: Note,
-        held: Option<Stopped<U::Ctx>>,
-    )
+    pub fn told(&mut self, s: SpaceNo, ctx: &mut U::Ctx, note: Note, held: Option<Stopped<U::Ctx>>)
         requires within { s.0 < length self.old }
         requires telling { (u : U) → slice_get self.old s.0 ≡ Some u
             → IsTelling U.stands u ctx.old note held }
@@ -177,7 +178,7 @@ impl<U: UserLevel> Users<U> {
     }
 
     /// A context goes on after an upcall or an entry.
-    pub(crate) fn answered(&mut self, s: SpaceNo, seen: &Seen, ctx: &mut U::Ctx)
+    pub fn answered(&mut self, s: SpaceNo, seen: &Seen, ctx: &mut U::Ctx)
         requires within { s.0 < length self.old }
         requires sees { (u : U) → slice_get self.old s.0 ≡ Some u
             → IsSeenOf U.stands u seen.now ctx.old }
@@ -194,13 +195,7 @@ impl<U: UserLevel> Users<U> {
     }
 
     /// One step of a context.
-    pub(crate) fn step(
-        &mut self,
-        s: SpaceNo,
-        seen: &Seen,
-        ctx: &mut U::Ctx,
-        trace: &mut Trace,
-    ) -> Step
+    pub fn step(&mut self, s: SpaceNo, seen: &Seen, ctx: &mut U::Ctx, trace: &mut Trace) -> Step
         requires within { s.0 < length self.old }
         requires room { STEP_ITEMS ≤ trace.old.spare }
         requires turn { (u : U) → slice_get self.old s.0 ≡ Some u
@@ -227,14 +222,7 @@ impl<U: UserLevel> Users<U> {
     }
 
     /// `n` local instructions of a context.
-    pub(crate) fn went(
-        &mut self,
-        s: SpaceNo,
-        seen: &Seen,
-        ctx: &mut U::Ctx,
-        n: u16,
-        trace: &mut Trace,
-    )
+    pub fn went(&mut self, s: SpaceNo, seen: &Seen, ctx: &mut U::Ctx, n: u16, trace: &mut Trace)
         requires within { s.0 < length self.old }
         requires room { n ≤ trace.old.spare }
         requires going { (u : U) → slice_get self.old s.0 ≡ Some u
@@ -256,7 +244,7 @@ impl<U: UserLevel> Users<U> {
     }
 
     /// A context as the kernel keeps it.
-    pub(crate) fn stopped(&self, s: SpaceNo, ctx: U::Ctx) -> Stopped<U::Ctx>
+    pub fn stopped(&self, s: SpaceNo, ctx: U::Ctx) -> Stopped<U::Ctx>
         requires within { s.0 < length self.now }
         ensures { (u : U) → slice_get self.now s.0 ≡ Some u
             → result ≡ stopped_of U.calls u ctx }
@@ -268,7 +256,7 @@ impl<U: UserLevel> Users<U> {
     }
 
     /// The user level of a space.
-    pub(crate) fn level(&self, s: SpaceNo) -> &U
+    pub fn level(&self, s: SpaceNo) -> &U
         requires { s.0 < length self.now }
         ensures { slice_get self.now s.0 ≡ Some result.now }
     {
@@ -276,7 +264,7 @@ impl<U: UserLevel> Users<U> {
     }
 
     /// Whether a context is inside the package.
-    pub(crate) fn owes(&self, s: SpaceNo, ctx: &U::Ctx) -> bool
+    pub fn owes(&self, s: SpaceNo, ctx: &U::Ctx) -> bool
         requires within { s.0 < length self.now }
         ensures { (u : U) → slice_get self.now s.0 ≡ Some u → result ≡ U.calls.owes u ctx.now }
     {
@@ -284,7 +272,7 @@ impl<U: UserLevel> Users<U> {
     }
 
     /// Where a context stands.
-    pub(crate) fn local(&self, s: SpaceNo, ctx: &U::Ctx) -> SeatState
+    pub fn local(&self, s: SpaceNo, ctx: &U::Ctx) -> SeatState
         requires within { s.0 < length self.now }
         requires of { (u : U) → slice_get self.now s.0 ≡ Some u → IsOf U.stands u ctx.now }
         ensures { (u : U) → slice_get self.now s.0 ≡ Some u → result ≡ U.calls.local u ctx.now }
