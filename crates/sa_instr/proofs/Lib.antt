@@ -1,3 +1,4 @@
 pub mod OperationLemmas
+pub mod Operands
 pub mod PartsLemmas
 pub mod PlaceLemmas

@@ -55,15 +55,6 @@ pub struct OperationForm {
     pub operands: &'static [OperandKind],
 }
 
-impl OperationForm {
-    const fn new(word: &'static [u8], operands: &'static [OperandKind]) -> OperationForm
-        ensures word { result.word.now ≡ word.now }
-        ensures operands { result.operands.now ≡ operands.now }
-    {
-        OperationForm { word, operands }
-    }
-}
-
 impl Operation {
     /// The operation of this word, or `None` where it is no operation's.
     pub fn of_word(word: &[u8]) -> Option<Operation>
@@ -91,25 +82,35 @@ impl Operation {
         ensures operands { result.operands.now ≡ (form_of self).operands }
         ensures few { length result.operands.now ≤ 2 }
     {
+        let (word, operands) = self.written();
+        OperationForm { word, operands }
+    }
+
+    // The word and the operands of this operation.
+    #[inline(always)]
+    fn written(self) -> (&'static [u8], &'static [OperandKind])
+        ensures { (result.0.now ≡ (form_of self).word)
+            × (result.1.now ≡ (form_of self).operands) }
+    {
         use OperandKind::{Cell, Length, Mutex, Page, Place, Program, Register, Semaphore, Value};
         match self {
-            Operation::Compute => OperationForm::new(b"compute", &[]),
-            Operation::Set => OperationForm::new(b"set", &[Register, Value]),
-            Operation::Add => OperationForm::new(b"add", &[Register, Register]),
-            Operation::Sub => OperationForm::new(b"sub", &[Register, Register]),
-            Operation::Jnz => OperationForm::new(b"jnz", &[Register, Place]),
-            Operation::Load => OperationForm::new(b"load", &[Register, Cell]),
-            Operation::Store => OperationForm::new(b"store", &[Register, Cell]),
-            Operation::Out => OperationForm::new(b"out", &[Register]),
-            Operation::Fork => OperationForm::new(b"fork", &[Register, Program]),
-            Operation::Join => OperationForm::new(b"join", &[Register]),
-            Operation::Lock => OperationForm::new(b"lock", &[Mutex]),
-            Operation::Unlock => OperationForm::new(b"unlock", &[Mutex]),
-            Operation::Wait => OperationForm::new(b"wait", &[Semaphore]),
-            Operation::Signal => OperationForm::new(b"signal", &[Semaphore]),
-            Operation::Io => OperationForm::new(b"io", &[Length]),
-            Operation::Touch => OperationForm::new(b"touch", &[Page]),
-            Operation::End => OperationForm::new(b"end", &[]),
+            Operation::Compute => (b"compute", &[]),
+            Operation::Set => (b"set", &[Register, Value]),
+            Operation::Add => (b"add", &[Register, Register]),
+            Operation::Sub => (b"sub", &[Register, Register]),
+            Operation::Jnz => (b"jnz", &[Register, Place]),
+            Operation::Load => (b"load", &[Register, Cell]),
+            Operation::Store => (b"store", &[Register, Cell]),
+            Operation::Out => (b"out", &[Register]),
+            Operation::Fork => (b"fork", &[Register, Program]),
+            Operation::Join => (b"join", &[Register]),
+            Operation::Lock => (b"lock", &[Mutex]),
+            Operation::Unlock => (b"unlock", &[Mutex]),
+            Operation::Wait => (b"wait", &[Semaphore]),
+            Operation::Signal => (b"signal", &[Semaphore]),
+            Operation::Io => (b"io", &[Length]),
+            Operation::Touch => (b"touch", &[Page]),
+            Operation::End => (b"end", &[]),
         }
     }
 }

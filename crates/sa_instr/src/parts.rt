@@ -1,5 +1,5 @@
 // An instruction as its operation and its operands, and back.
-ghost use Rattle.std.specs.Prelude.{◌≡◌, ◌↔◌, ◌≤◌, [], ◌∷◌, length, IsSome, IfSome};
+ghost use Rattle.std.specs.Prelude.{◌≡◌, ◌↔◌, ◌≤◌, [], ◌∷◌, length, slice_get, IsSome, IfSome};
 ghost use Rattle.sa_instr.specs.Parts.{parts, parts_of, instr_from, instr_of, FitTheOperation, read_at, register_in, value_in, place_in, cell_in, program_in, mutex_in, semaphore_in, length_in, page_in};
 
 use crate::instr::{Instr, Reg};
@@ -159,13 +159,20 @@ fn two(operation: Operation, a: Operand, b: Operand) -> InstrParts
     }
 }
 
+// The operand at a place.
+fn operand_at(operands: &[Operand], k: usize) -> Option<Operand>
+    ensures { result ≡ slice_get operands.now k }
+{
+    operands.get(k).copied()
+}
+
 // What the operand at a place is, if it is of this kind.
 
 fn register(operands: &[Operand], k: usize) -> Option<Reg>
     ensures { result ≡ read_at register_in operands.now k }
 {
-    match operands.get(k) {
-        Some(Operand::Register(reg)) => Some(*reg),
+    match operand_at(operands, k)? {
+        Operand::Register(reg) => Some(reg),
         _ => None,
     }
 }
@@ -173,8 +180,8 @@ fn register(operands: &[Operand], k: usize) -> Option<Reg>
 fn value(operands: &[Operand], k: usize) -> Option<u64>
     ensures { result ≡ read_at value_in operands.now k }
 {
-    match operands.get(k) {
-        Some(Operand::Value(n)) => Some(*n),
+    match operand_at(operands, k)? {
+        Operand::Value(n) => Some(n),
         _ => None,
     }
 }
@@ -182,8 +189,8 @@ fn value(operands: &[Operand], k: usize) -> Option<u64>
 fn place(operands: &[Operand], k: usize) -> Option<u16>
     ensures { result ≡ read_at place_in operands.now k }
 {
-    match operands.get(k) {
-        Some(Operand::Place(place)) => Some(*place),
+    match operand_at(operands, k)? {
+        Operand::Place(place) => Some(place),
         _ => None,
     }
 }
@@ -191,8 +198,8 @@ fn place(operands: &[Operand], k: usize) -> Option<u16>
 fn cell(operands: &[Operand], k: usize) -> Option<u16>
     ensures { result ≡ read_at cell_in operands.now k }
 {
-    match operands.get(k) {
-        Some(Operand::Cell(cell)) => Some(*cell),
+    match operand_at(operands, k)? {
+        Operand::Cell(cell) => Some(cell),
         _ => None,
     }
 }
@@ -200,8 +207,8 @@ fn cell(operands: &[Operand], k: usize) -> Option<u16>
 fn program(operands: &[Operand], k: usize) -> Option<u16>
     ensures { result ≡ read_at program_in operands.now k }
 {
-    match operands.get(k) {
-        Some(Operand::Program(program)) => Some(*program),
+    match operand_at(operands, k)? {
+        Operand::Program(program) => Some(program),
         _ => None,
     }
 }
@@ -209,8 +216,8 @@ fn program(operands: &[Operand], k: usize) -> Option<u16>
 fn mutex(operands: &[Operand], k: usize) -> Option<u16>
     ensures { result ≡ read_at mutex_in operands.now k }
 {
-    match operands.get(k) {
-        Some(Operand::Mutex(mutex)) => Some(*mutex),
+    match operand_at(operands, k)? {
+        Operand::Mutex(mutex) => Some(mutex),
         _ => None,
     }
 }
@@ -218,8 +225,8 @@ fn mutex(operands: &[Operand], k: usize) -> Option<u16>
 fn semaphore(operands: &[Operand], k: usize) -> Option<u16>
     ensures { result ≡ read_at semaphore_in operands.now k }
 {
-    match operands.get(k) {
-        Some(Operand::Semaphore(semaphore)) => Some(*semaphore),
+    match operand_at(operands, k)? {
+        Operand::Semaphore(semaphore) => Some(semaphore),
         _ => None,
     }
 }
@@ -227,8 +234,8 @@ fn semaphore(operands: &[Operand], k: usize) -> Option<u16>
 fn length(operands: &[Operand], k: usize) -> Option<u32>
     ensures { result ≡ read_at length_in operands.now k }
 {
-    match operands.get(k) {
-        Some(Operand::Length(length)) => Some(*length),
+    match operand_at(operands, k)? {
+        Operand::Length(length) => Some(length),
         _ => None,
     }
 }
@@ -236,8 +243,8 @@ fn length(operands: &[Operand], k: usize) -> Option<u32>
 fn page(operands: &[Operand], k: usize) -> Option<u16>
     ensures { result ≡ read_at page_in operands.now k }
 {
-    match operands.get(k) {
-        Some(Operand::Page(page)) => Some(*page),
+    match operand_at(operands, k)? {
+        Operand::Page(page) => Some(page),
         _ => None,
     }
 }
