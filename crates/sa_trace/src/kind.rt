@@ -87,20 +87,6 @@ pub struct Form {
     pub fields: &'static [Field],
 }
 
-impl Form {
-    const fn new(number: u8, word: &'static [u8], fields: &'static [Field]) -> Form
-        ensures number { result.number ≡ number }
-        ensures word { result.word.now ≡ word.now }
-        ensures fields { result.fields.now ≡ fields.now }
-    {
-        Form {
-            number,
-            word,
-            fields,
-        }
-    }
-}
-
 impl Kind {
     /// The kind whose word this is, or `None` where it is no kind's.
     pub fn of_word(word: &[u8]) -> Option<Kind>
@@ -132,16 +118,31 @@ impl Kind {
         ensures few { length result.fields.now ≤ MAX_FIELDS }
         ensures short { length result.word.now ≤ MAX_WORD }
     {
+        let (number, word, fields) = self.written();
+        Form {
+            number,
+            word,
+            fields,
+        }
+    }
+
+    // The number, the word and the fields of this kind.
+    #[inline(always)]
+    fn written(self) -> (u8, &'static [u8], &'static [Field])
+        ensures { (result.0 ≡ (form_of self).number)
+            × (result.1.now ≡ (form_of self).word)
+            × (result.2.now ≡ (form_of self).fields) }
+    {
         match self {
-            Kind::Ins => Form::new(1, b"ins", &[Field::Space, Field::Thread, Field::Place]),
-            Kind::Out => Form::new(2, b"out", &[Field::Space, Field::Thread, Field::Value]),
-            Kind::Run => Form::new(3, b"run", &[Field::Space, Field::Thread]),
-            Kind::Stop => Form::new(
+            Kind::Ins => (1, b"ins", &[Field::Space, Field::Thread, Field::Place]),
+            Kind::Out => (2, b"out", &[Field::Space, Field::Thread, Field::Value]),
+            Kind::Run => (3, b"run", &[Field::Space, Field::Thread]),
+            Kind::Stop => (
                 4,
                 b"stop",
                 &[Field::Space, Field::OptionalThread, Field::Activation],
             ),
-            Kind::Block => Form::new(
+            Kind::Block => (
                 5,
                 b"block",
                 &[
@@ -151,39 +152,39 @@ impl Kind {
                     Field::Io,
                 ],
             ),
-            Kind::Unblock => Form::new(
+            Kind::Unblock => (
                 6,
                 b"unblock",
                 &[Field::Space, Field::OptionalThread, Field::Activation],
             ),
-            Kind::Cont => Form::new(7, b"cont", &[Field::Space, Field::OptionalThread]),
-            Kind::Back => Form::new(8, b"back", &[Field::Space, Field::OptionalThread]),
-            Kind::Ready => Form::new(9, b"ready", &[Field::Space, Field::Thread]),
-            Kind::Take => Form::new(
+            Kind::Cont => (7, b"cont", &[Field::Space, Field::OptionalThread]),
+            Kind::Back => (8, b"back", &[Field::Space, Field::OptionalThread]),
+            Kind::Ready => (9, b"ready", &[Field::Space, Field::Thread]),
+            Kind::Take => (
                 10,
                 b"take",
                 &[Field::Space, Field::Processor, Field::OptionalThread],
             ),
-            Kind::Free => Form::new(
+            Kind::Free => (
                 11,
                 b"free",
                 &[Field::Space, Field::Processor, Field::OptionalThread],
             ),
-            Kind::Up => Form::new(12, b"up", &[Field::Space, Field::Activation]),
-            Kind::ToldAdd => Form::new(13, b"told add", &[Field::Processor]),
-            Kind::ToldPreempted => Form::new(13, b"told preempted", &[Field::Activation]),
-            Kind::ToldBlocked => Form::new(13, b"told blocked", &[Field::Activation]),
-            Kind::ToldUnblocked => Form::new(13, b"told unblocked", &[Field::Activation]),
-            Kind::Move => Form::new(14, b"move", &[Field::OptionalSpace, Field::OptionalSpace]),
-            Kind::Want => Form::new(15, b"want", &[Field::Space, Field::Demand]),
-            Kind::Aim => Form::new(16, b"aim", &[Field::Processor, Field::OptionalSpace]),
-            Kind::Line => Form::new(17, b"line", &[Field::Processor]),
-            Kind::Fetch => Form::new(18, b"fetch", &[Field::Space]),
-            Kind::Fetched => Form::new(19, b"fetched", &[Field::Space]),
-            Kind::GiveBack => Form::new(20, b"giveback", &[Field::Activation]),
-            Kind::Idle => Form::new(21, b"idle", &[]),
-            Kind::Spin => Form::new(22, b"spin", &[Field::Processor]),
-            Kind::Tick => Form::new(23, b"tick", &[]),
+            Kind::Up => (12, b"up", &[Field::Space, Field::Activation]),
+            Kind::ToldAdd => (13, b"told add", &[Field::Processor]),
+            Kind::ToldPreempted => (13, b"told preempted", &[Field::Activation]),
+            Kind::ToldBlocked => (13, b"told blocked", &[Field::Activation]),
+            Kind::ToldUnblocked => (13, b"told unblocked", &[Field::Activation]),
+            Kind::Move => (14, b"move", &[Field::OptionalSpace, Field::OptionalSpace]),
+            Kind::Want => (15, b"want", &[Field::Space, Field::Demand]),
+            Kind::Aim => (16, b"aim", &[Field::Processor, Field::OptionalSpace]),
+            Kind::Line => (17, b"line", &[Field::Processor]),
+            Kind::Fetch => (18, b"fetch", &[Field::Space]),
+            Kind::Fetched => (19, b"fetched", &[Field::Space]),
+            Kind::GiveBack => (20, b"giveback", &[Field::Activation]),
+            Kind::Idle => (21, b"idle", &[]),
+            Kind::Spin => (22, b"spin", &[Field::Processor]),
+            Kind::Tick => (23, b"tick", &[]),
         }
     }
 }

@@ -242,10 +242,10 @@ fn record(bytes: &[u8]) -> Option<Told<'_>>
     match first {
         b'i' => ins_or_idle(rest),
         b'r' => run_or_ready(rest),
-        b't' => take(behind(behind_two(rest, b'a', b'k')?, b'e')?),
-        b'f' => free(behind(behind_two(rest, b'r', b'e')?, b'e')?),
-        b'w' => want(behind(behind_two(rest, b'a', b'n')?, b't')?),
-        b's' => spin(behind(behind_two(rest, b'p', b'i')?, b'n')?),
+        b't' => take(behind_three(rest, b'a', b'k', b'e')?),
+        b'f' => free(behind_three(rest, b'r', b'e', b'e')?),
+        b'w' => want(behind_three(rest, b'a', b'n', b't')?),
+        b's' => spin(behind_three(rest, b'p', b'i', b'n')?),
         _ => None,
     }
 }
@@ -262,7 +262,7 @@ fn ins_or_idle(bytes: &[u8]) -> Option<Told<'_>>
     if let Some(fields) = behind_two(bytes, b'n', b's') {
         return ins(fields);
     }
-    let rest = behind(behind_two(bytes, b'd', b'l')?, b'e')?;
+    let rest = behind_three(bytes, b'd', b'l', b'e')?;
     let what = Record::Idle;
     Some(Told { what, rest })
 }
@@ -312,6 +312,16 @@ fn behind_two(bytes: &[u8], one: u8, two: u8) -> Option<&[u8]>
     ensures length { IfSome result (λ rest. length bytes.now ≡ length rest.now + 2) }
 {
     behind(behind(bytes, one)?, two)
+}
+
+// The same of three bytes.
+#[inline]
+fn behind_three(bytes: &[u8], one: u8, two: u8, three: u8) -> Option<&[u8]>
+    requires { 3 ≤ length bytes.now }
+    ensures bytes { IfSome result (λ rest. bytes.now ≡ one ∷ two ∷ three ∷ rest.now) }
+    ensures length { IfSome result (λ rest. length bytes.now ≡ length rest.now + 3) }
+{
+    behind(behind_two(bytes, one, two)?, three)
 }
 
 // The records whose fields are at the front of these bytes.
