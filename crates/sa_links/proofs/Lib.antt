@@ -6,3 +6,4 @@ pub mod Joining
 pub mod LinksSteps
 pub mod CallerLemmas
 pub mod Copying
+pub mod Numbering

@@ -5,3 +5,4 @@ mod Shows
 mod Marked
 mod Lanes
 pub mod Ranges
+pub mod Walks

@@ -6,7 +6,7 @@ use Rattle.sa_spaces.specs.Space.{SpaceView}
 use Rattle.sa_links.specs.Lists.{Lists}
 use Rattle.sa_base.specs.declared.limits.TheConstants.{MAX_THREADS}
 use Rattle.sa_sync.specs.Sync.{opening, free_mutex, semaphore_of as unwaited}
-use Rattle.sa_sync.specs.Parts.{mutex_of, semaphore_of, shown}
+use Rattle.sa_sync.specs.Parts.{mutex_of, semaphore_of, shown, HasQueues}
 use Rattle.sa_sync.proofs.Lists.{zip2-replicate, map-replicate, drop-replicate, take-replicate}
 use Rattle.std.proofs.lemmas.List.{length-replicate}
 
@@ -39,3 +39,8 @@ shown-new space holders counts queues many done cells nobody starts empty all un
     ∙ ap (λ x. shown (replicate space.mutexes None) space.sems (replicate many []) x cells) undone
     ∙ ap (λ x. shown (replicate space.mutexes None) space.sems (replicate many []) (replicate MAX_THREADS false) x) zeros
     ∙ shown-opening space many all
+
+-- a new state has a queue for each thread, mutex and semaphore
+pub queues-new : (holders : List (Option ThreadNo)) (counts : List ℕ) (queues : Lists) (many : ℕ) → queues ≡ record { nodes = MAX_THREADS; lists = replicate many [] }
+    → many ≡ MAX_THREADS + length holders + length counts → HasQueues holders counts queues.lists
+queues-new holders counts queues many empty all = ap (λ (x : Lists). length x.lists) empty ∙ length-replicate many [] ∙ all

@@ -1,6 +1,6 @@
 -- What a state shows after each call is what the call's definition says.
 use Rattle.std.proofs.Common.{◌≡◌, ◌≢◌, ℕ, suc, ◌+◌, ◌-◌, ◌≤◌, ◌<◌, true, false, cond, not, ◌&&◌, List, [], ◌∷◌, ◌++◌, length, drop, set, get_or, Option, Some, None, slice_get, nat_lt, sym, ap, ◌∙◌, subst, arith, length-drop}
-use Rattle.std.proofs.lemmas.Bool.{lt-ltb}
+use Rattle.std.proofs.lemmas.Bool.{le-ltb, lt-ltb}
 use Rattle.std.proofs.lemmas.List.{get_or_default, get_or-take, set-get_or}
 use Rattle.std.specs.Option.{option_map}
 use Rattle.std.specs.Simd.Lanes.{zip2}
@@ -234,6 +234,17 @@ module _ (s : Inside) (v : Sync) (is : sync_of s ≡ v) (good : IsState s) where
       ap waits new
       ∙ sym (ap (λ b. cond b (waits (with_joiners v other (joiners_at v other ++ t.0 ∷ []))) (goes v)) test
       ∙ ap (λ x. waits (with_joiners v other (x ++ t.0 ∷ []))) (joiners_read other here))
+
+  -- who joins a thread that was not made, or is done, goes on
+  pub join_of_none : (t : ThreadNo) (other made : ℕ) → made ≤ other → goes v ≡ joined v t.0 other made
+  join_of_none t other made none =
+      sym (ap (λ b. cond (b && not (get_or v.done other false)) (waits (with_joiners v other (joiners_at v other ++ t.0 ∷ []))) (goes v)) (le-ltb other made none))
+
+  pub join_of_done : (t : ThreadNo) (other made : ℕ) → other < made → get_or s.done.items other false ≡ true → goes v ≡ joined v t.0 other made
+  join_of_done t other made there done =
+      let test : (nat_lt other made && not (get_or v.done other false)) ≡ false =
+      ap (λ b. nat_lt other made && not b) (ap (λ (x : Sync). get_or x.done other false) (sym is) ∙ done) ∙ ap (λ b. b && false) (lt-ltb other made there) in
+      sym (ap (λ b. cond b (waits (with_joiners v other (joiners_at v other ++ t.0 ∷ []))) (goes v)) test)
 
   -- next_joiner
   pub joiner_first : (t : ℕ) (first : Option ℕ) → t < MAX_THREADS → first ≡ slice_get (list_at s.queues.lists t) 0 → first ≡ first_joiner v t
