@@ -8,3 +8,5 @@ pub mod IndexLemmas
 pub mod ChangeLemmas
 pub mod ReplayLemmas
 pub mod NeedLemmas
+pub mod CountChanges
+pub mod SpaceChanges

@@ -1,7 +1,7 @@
 use Rattle.std.proofs.Common.{List, length, ap, arith}
 use Rattle.sa_base.specs.declared.number.ActNo.{ActNo}
 use Rattle.sa_acts.specs.Table.{acts_of, taken_in}
-use Rattle.sa_kernel.proofs.GivenBack.{one-back, items-one}
+use Rattle.sa_kernel.proofs.GivenBack.{one-back, items-one, some-left}
 use Rattle.sa_kernel.proofs.entries.give_one_back.Goals as goal
 
 pub returns : goal.returns
@@ -20,3 +20,8 @@ returns g c =
       used = one.used;
       room = c.say.ensures.room;
     }
+
+pub returns-in_default : goal.returns-in_default
+returns-in_default g c =
+    absurd
+    (some-left (taken_in (acts_of c.args.acts.now) c.args.s.0) c.give_back.result c.give_back.ensures.first c.in_default.is c.requires.some)

@@ -1,4 +1,5 @@
-use Rattle.std.proofs.Common.{◌≡◌, ◌∙◌, ap}
+use Rattle.std.proofs.lemmas.Grind.{common_steps}
+use Rattle.std.proofs.Common.{◌≡◌, ◌∙◌, ap, arith}
 use Rattle.sa_check_lives.specs.Rows.{without_last}
 use Rattle.sa_check_lives.specs.Table.{lives_in}
 use Rattle.sa_check_lives.specs.View.{Stored, lives_of}
@@ -16,3 +17,21 @@ returns-in-Err-clause-err c =
     (ap (λ (v : Stored). v.taken) c.self.view_is)
     (rows ∙ ap (λ (v : Stored). v.untold) c.self.view_is)
     (ap (λ (v : Stored). v.upped) c.self.view_is)
+
+pub returns-in_err-add-clause-ok : goal.returns-in_err-add-clause-ok
+returns-in_err-add-clause-ok c = grind (arith, common_steps)
+
+pub returns-in_err-add-clause-err : goal.returns-in_err-add-clause-err
+returns-in_err-add-clause-err c = grind (arith, common_steps)
+
+pub change-requires : goal.change-requires
+change-requires c = grind (arith, common_steps)
+
+pub returns-in-Ok-clause-ok : goal.returns-in-Ok-clause-ok
+returns-in-Ok-clause-ok c = grind (arith, common_steps)
+
+pub returns-in-Ok-clause-err : goal.returns-in-Ok-clause-err
+returns-in-Ok-clause-err c = grind (arith, common_steps)
+
+pub returns-in-Err-clause-ok : goal.returns-in-Err-clause-ok
+returns-in-Err-clause-ok c = grind (arith, common_steps)

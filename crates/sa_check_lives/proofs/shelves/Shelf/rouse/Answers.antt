@@ -1,3 +1,5 @@
+use Rattle.std.proofs.Common.{arith}
+use Rattle.std.proofs.lemmas.Grind.{common_steps}
 use Rattle.std.proofs.lemmas.Result.{on_ok_weaker, on_err_weaker}
 use Rattle.sa_laws.specs.Life.{with_hand}
 use Rattle.sa_check_lives.proofs.PlaceLemmas.{kept-absent, changed-there, kept-there}
@@ -20,3 +22,15 @@ returns-clause-err c = on_err_weaker c.rouse.result
     c.in-Some.place c.in-Some.is c.index_mut.result.now c.index_mut.ensures.value
     c.rouse.new.self)
     c.rouse.ensures.err
+
+pub place_of-requires : goal.place_of-requires
+place_of-requires c = grind (arith, common_steps)
+
+pub returns-in_default-clause-err : goal.returns-in_default-clause-err
+returns-in_default-clause-err c = grind (arith, common_steps)
+
+pub index_mut-requires : goal.index_mut-requires
+index_mut-requires c = grind (arith, common_steps)
+
+pub rouse-requires : goal.rouse-requires
+rouse-requires c = grind (arith, common_steps)

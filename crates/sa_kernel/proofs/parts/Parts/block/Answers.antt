@@ -1,4 +1,5 @@
-use Rattle.std.proofs.Common.{refl, sym, ◌∙◌, inl, inr}
+use Rattle.std.proofs.lemmas.Grind.{common_steps}
+use Rattle.std.proofs.Common.{refl, sym, ◌∙◌, inl, inr, arith}
 use Rattle.sa_kernel.specs.View.{state_of, scene_of}
 use Rattle.sa_kernel_model.specs.State.{owner_of, life_of}
 use Rattle.sa_kernel.proofs.FreshActivations.{running, vacant, vacant-unused, enters-no_block, enters-block}
@@ -27,3 +28,60 @@ returns-clause-exact g c =
     enters-block c.args.event c.args.p c.in-Some.s c.in-Some-life.a c.args.held c.args.len c.args.page x
     (scene_of c.begin_block.new.self c.begin_block.new.trace) _ c.tell_or_leave.result
     (sym c.owner.ensures ∙ c.in-Some.is) (sym c.life.ensures ∙ c.in-Some-life.is) c.begin_block.ensures.exact c.tell_or_leave.ensures.exact
+
+pub owner-requires : goal.owner-requires
+owner-requires g c = grind (arith, common_steps)
+
+pub returns-in_default-clause-room : goal.returns-in_default-clause-room
+returns-in_default-clause-room g c = grind (arith, common_steps)
+
+pub returns-in_default-clause-items : goal.returns-in_default-clause-items
+returns-in_default-clause-items g c = grind (arith, common_steps)
+
+pub life-requires : goal.life-requires
+life-requires g c = grind (arith, common_steps)
+
+pub returns-in_default-life-clause-room : goal.returns-in_default-life-clause-room
+returns-in_default-life-clause-room g c = grind (arith, common_steps)
+
+pub returns-in_default-life-clause-items : goal.returns-in_default-life-clause-items
+returns-in_default-life-clause-items g c = grind (arith, common_steps)
+
+pub begin_block-requires-clause-proc : goal.begin_block-requires-clause-proc
+begin_block-requires-clause-proc g c = grind (arith, common_steps)
+
+pub begin_block-requires-clause-space : goal.begin_block-requires-clause-space
+begin_block-requires-clause-space g c = grind (arith, common_steps)
+
+pub begin_block-requires-clause-page : goal.begin_block-requires-clause-page
+begin_block-requires-clause-page g c = grind (arith, common_steps)
+
+pub begin_block-requires-clause-notes : goal.begin_block-requires-clause-notes
+begin_block-requires-clause-notes g c = grind (arith, common_steps)
+
+pub begin_block-requires-clause-ios : goal.begin_block-requires-clause-ios
+begin_block-requires-clause-ios g c = grind (arith, common_steps)
+
+pub begin_block-requires-clause-trace : goal.begin_block-requires-clause-trace
+begin_block-requires-clause-trace g c = grind (arith, common_steps)
+
+pub tell_or_leave-requires-clause-proc : goal.tell_or_leave-requires-clause-proc
+tell_or_leave-requires-clause-proc g c = grind (arith, common_steps)
+
+pub tell_or_leave-requires-clause-space : goal.tell_or_leave-requires-clause-space
+tell_or_leave-requires-clause-space g c = grind (arith, common_steps)
+
+pub tell_or_leave-requires-clause-upcall : goal.tell_or_leave-requires-clause-upcall
+tell_or_leave-requires-clause-upcall g c = grind (arith, common_steps)
+
+pub tell_or_leave-requires-clause-ios : goal.tell_or_leave-requires-clause-ios
+tell_or_leave-requires-clause-ios g c = grind (arith, common_steps)
+
+pub tell_or_leave-requires-clause-trace : goal.tell_or_leave-requires-clause-trace
+tell_or_leave-requires-clause-trace g c = grind (arith, common_steps)
+
+pub returns-clause-room : goal.returns-clause-room
+returns-clause-room g c = grind (arith, common_steps)
+
+pub returns-clause-items : goal.returns-clause-items
+returns-clause-items g c = grind (arith, common_steps)
