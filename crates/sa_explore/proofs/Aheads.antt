@@ -1,5 +1,5 @@
 -- The turns that are made ahead are turns from the states that they name.
-use Rattle.std.proofs.Common.{◌≡◌, ℕ, ◌+◌, ◌<◌, inl, inr, Bool, true, Option, Some, None, IfSome, List, [], ◌∷◌, ◌++◌, length, All, get_or, slice_get, sym, ap, subst, ◌∙◌, arith, append_assoc, length-append}
+use Rattle.std.proofs.Common.{◌≡◌, ℕ, ◌+◌, ◌<◌, inl, inr, Bool, true, false, Result, Ok, Err, IfOk, Option, Some, None, IfSome, List, [], ◌∷◌, ◌++◌, length, All, get_or, slice_get, sym, ap, subst, ◌∙◌, arith, append_assoc, length-append}
 use Rattle.std.proofs.lemmas.List.Elements.{All-push, All-drop}
 use Rattle.std.proofs.lemmas.Option.{same_Some, slice_get_within, slice_get-get_or}
 use Rattle.sa_lemmas.proofs.ListUpdates.{slice_get-append_seam}
@@ -19,7 +19,7 @@ use Rattle.sa_explore_runs.specs.Runs.{LeadTo}
 use Rattle.sa_explore_runs.specs.Searching.{IsTried}
 use Rattle.sa_explore_runs.proofs.Searched.{IsArrival, arrival}
 use Rattle.sa_explore.specs.Ahead.{IsRun, IsMadeFrom, AreFrom, IsLater, IsMore, IsAhead, AreAhead}
-use Rattle.sa_explore.specs.Doing.{states_of, turns_to, HasDone, HasMade}
+use Rattle.sa_explore.specs.Doing.{states_of, turns_to, HasDone, HasMade, IsMade}
 use Rattle.sa_explore.specs.declared.ahead.Tried.{Tried}
 use Rattle.sa_explore.specs.declared.search.Scope.{Scope}
 use Rattle.sa_explore.specs.declared.search.Search.{Search}
@@ -78,12 +78,33 @@ module _ {U C D : Type 0} (f : Calls U C) (plain : Option SpaceView → C → D)
       go (inr (inl fresh)) = subst (λ (x : StoreView). Is x.states t) (sym fresh.store) (more-states old.states (s ∷ []) linked t ahead)
       go (inr (inr full)) = subst (λ (x : StoreView). Is x.states t) (sym full.store) ahead
 
+  -- those that are left after some were taken
+  pub taken-on : (states : List State) (xs ys : List Tried) → IsLater xs ys → Are states xs → Are states ys
+  taken-on states xs ys later all = subst (Are states) (sym later.1) (All-drop (Is states) later.0 xs all)
+
   -- those that are left after some were taken, when a state was come to
   pub later-on : (most : ℕ) (bytes : List ℕ) (s : State) (old new : StoreView) (to : Option ℕ) (xs ys : List Tried) → AreLinked old.states
       → (new, to) ≡ arrived most bytes s old → IsLater xs ys → Are old.states xs → Are new.states ys
   later-on most bytes s old new to xs ys linked is later all =
-      let left : Are old.states ys = subst (Are old.states) (sym later.1) (All-drop (Is old.states) later.0 xs all) in
+      let left : Are old.states ys = taken-on old.states xs ys later all in
       λ k d within. arrived-on most bytes s old new to linked is (get_or ys k d) (left k d within)
+
+  -- a turn that was made is made beside other turns that were made ahead
+  made-beside : (old beside new : Search) (at next : ℕ) (made : Bool) → states_of beside ≡ states_of old
+      → IsMade f plain code scope made beside new at next → IsMade f plain code scope made old new at next
+  made-beside old beside new at next true same is = record {
+    done = is.done;
+    within = is.within;
+    turns = is.turns ∙ ap (λ (states : List State). scope.begun.items ++ way_to states at) same;
+    state = is.state ∙ ap (λ (states : List State). slice_get states at) same;
+  }
+  made-beside old beside new at next false same is = is
+
+  pub kept-beside : {E : Type 0} (old beside new : Search) (at next : ℕ) (result : Result Bool E) → states_of beside ≡ states_of old
+      → IfOk result (λ made. IsMade f plain code scope made beside new at next)
+      → IfOk result (λ made. IsMade f plain code scope made old new at next)
+  kept-beside old beside new at next (Ok made) same is = made-beside old beside new at next made same is
+  kept-beside old beside new at next (Err e) same is = is
 
   -- THE TURN AHEAD from a state that is new
   made-ahead : (states : List State) (from : Machine U C) (to : ℕ) (t : Tried) → to < length states

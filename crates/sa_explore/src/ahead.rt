@@ -127,20 +127,19 @@ pub(crate) fn turn_from<U: Keyed>(
 fn look_ahead<U: Keyed>(
     alloc: Global,
     workload: &Workload,
-    core: Core<U>,
+    core: &mut Core<U>,
     at: u32,
 ) -> Result<Option<Tried>, AllocError>
-    requires run { (turns : List ProcNo) × IsRun U.calls workload.now turns core }
+    requires run { (turns : List ProcNo) × IsRun U.calls workload.now turns core.old }
     ensures { IfOk result (λ ahead. IfSome ahead (IsMadeFrom U.calls U.plain
-        (key_of U.value_key U.context_key) (machine core) at)) }
+        (key_of U.value_key U.context_key) (machine core.old) at)) }
 {
     workload.ranges();
-    let mut run = core;
-    if run.end().is_some() {
+    if core.end().is_some() {
         return Ok(None);
     }
     let last = ProcNo(workload.processors() - 1);
-    let tried = make_turn::<U>(alloc, &mut run, at, last)?;
+    let tried = make_turn::<U>(alloc, core, at, last)?;
     Ok(Some(tried))
 }
 
@@ -150,13 +149,13 @@ pub(crate) fn keep_ahead<U: Keyed>(
     alloc: Global,
     workload: &Workload,
     ahead: &mut VecDeque<Tried>,
-    run: Option<Core<U>>,
+    run: &mut Option<Core<U>>,
     is_new: bool,
     to: u32,
 ) -> Result<(), AllocError>
-    requires run { IfSome run (λ core. (turns : List ProcNo) × IsRun U.calls workload.now turns core) }
+    requires run { IfSome run.old (λ core. (turns : List ProcNo) × IsRun U.calls workload.now turns core) }
     ensures { OnOk result (IsMore U.calls U.plain (key_of U.value_key U.context_key)
-        run is_new to ahead.old.items ahead.new.items) }
+        run.old is_new to ahead.old.items ahead.new.items) }
 {
     let Some(core) = run else {
         return Ok(());

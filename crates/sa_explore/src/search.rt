@@ -1,10 +1,11 @@
 // A search: what is searched, and what was done.
-ghost use Rattle.std.specs.Prelude.{◌≡◌, ◌<◌, ◌≤◌, length, IfOk};
+ghost use Rattle.std.specs.Prelude.{◌≡◌, ◌<◌, ◌≤◌, [], ◌∷◌, ◌++◌, length, IfOk, IfSome};
 ghost use Rattle.sa_base.specs.declared.limits.TheConstants.{MAX_EVENTS};
 ghost use Rattle.sa_core.specs.View.{machine};
 ghost use Rattle.sa_keys.specs.Key.{key_of};
 ghost use Rattle.sa_explore_runs.specs.Runs.{LeadTo};
-ghost use Rattle.sa_explore.specs.Ahead.{AreAhead};
+ghost use Rattle.sa_explore_runs.specs.Searching.{IsTried};
+ghost use Rattle.sa_explore.specs.Ahead.{IsRun, AreAhead};
 ghost use Rattle.sa_explore.specs.Doing.{turns_to, RunsGoOn, HasDone, IsMade};
 
 use crate::ahead::{Tried, keep_ahead, turn_from};
@@ -71,6 +72,43 @@ impl Search {
         })
     }
 
+    // Keeps where the turn of processor `p` from state `at` led to, by this run, where it was not made ahead; whether there was room for it. Fails only
+    // where memory runs out.
+    fn keep<U: Keyed>(
+        &mut self,
+        alloc: Global,
+        scope: &Scope,
+        turns: &[ProcNo],
+        at: u32,
+        p: ProcNo,
+        tried: Tried,
+        run: &mut Option<Core<U>>,
+    ) -> Result<bool, AllocError>
+        requires done { HasDone U.calls U.plain (key_of U.value_key U.context_key) scope.now self.old at p.0 }
+        requires ahead { AreAhead U.calls U.plain (key_of U.value_key U.context_key) scope.now self.old }
+        requires within { p.0 < scope.now.workload.processors }
+        requires goes { RunsGoOn self.old at }
+        requires turns { turns.now ≡ turns_to scope.now self.old at }
+        requires tried { IsTried U.calls U.plain (key_of U.value_key U.context_key)
+            scope.now.workload turns.now p at tried.key.items tried.state }
+        requires run { IfSome run.old (IsRun U.calls scope.now.workload (turns.now ++ p ∷ [])) }
+        ensures made { IfOk result (λ made. IsMade U.calls U.plain (key_of U.value_key U.context_key)
+            scope.now made self.old self.new at p.0) }
+        ensures ahead { IfOk result (λ _. AreAhead U.calls U.plain (key_of U.value_key U.context_key)
+            scope.now self.new) }
+    {
+        keys_tell_outlooks::<U>();
+        scope.workload.ranges();
+        let states = self.store.states().len();
+        let Some(to) = self.store.arrive(tried.key, tried.state, scope.most)? else {
+            return Ok(false);
+        };
+        self.nexts.push(to)?;
+        let is_new = to as usize == states;
+        keep_ahead::<U>(alloc, &scope.workload, &mut self.ahead, run, is_new, to)?;
+        Ok(true)
+    }
+
     /// Makes the turn of the next processor from state `at`, to which these turns lead, and keeps where it led to; whether there was room for it.
     /// Fails only where memory runs out.
     pub(crate) fn turn<U: Keyed>(
@@ -92,27 +130,9 @@ impl Search {
         ensures ahead { IfOk result (λ _. AreAhead U.calls U.plain (key_of U.value_key U.context_key)
             scope.now self.new) }
     {
-        keys_tell_outlooks::<U>();
         scope.workload.ranges();
         let ahead = &mut self.ahead;
-        let turned = turn_from::<U>(alloc, &scope.workload, ahead, turns, at, p)?;
-        let states = self.store.states().len();
-        let Some(to) = self
-            .store
-            .arrive(turned.tried.key, turned.tried.state, scope.most)?
-        else {
-            return Ok(false);
-        };
-        self.nexts.push(to)?;
-        let is_new = to as usize == states;
-        keep_ahead::<U>(
-            alloc,
-            &scope.workload,
-            &mut self.ahead,
-            turned.run,
-            is_new,
-            to,
-        )?;
-        Ok(true)
+        let mut turned = turn_from::<U>(alloc, &scope.workload, ahead, turns, at, p)?;
+        self.keep::<U>(alloc, scope, turns, at, p, turned.tried, &mut turned.run)
     }
 }

@@ -1,15 +1,13 @@
-use Rattle.std.proofs.Common.{◌≡◌, ℕ, Option, Some, None, List, [], ◌∷◌, ◌++◌, ◌==◌, length, refl, sym, ap, subst, arith}
-use Rattle.std.proofs.lemmas.Bool.Decides.{nat_tests}
+use Rattle.std.proofs.Common.{List, refl, sym, subst}
 use Rattle.std.proofs.lemmas.Option.{slice_get_within}
 use Rattle.sa_base.specs.declared.number.ProcNo.{ProcNo}
 use Rattle.sa_keys.specs.Key.{key_of}
-use Rattle.sa_states.specs.Store.{StoreView, store_of, arrived}
+use Rattle.sa_states.specs.Store.{store_of}
 use Rattle.sa_explore_runs.specs.Runs.{CanLead}
 use Rattle.sa_explore_runs.specs.Searching.{IsOpen}
-use Rattle.sa_explore.specs.Doing.{states_of, HasMade}
-use Rattle.sa_explore.proofs.Doings.{way-leads, way-open, made-some, made-none}
-use Rattle.sa_explore.specs.declared.search.Search.{Search}
-use Rattle.sa_explore.proofs.Aheads.{ahead-from, some-run, later-on, kept-ahead}
+use Rattle.sa_explore.specs.Doing.{states_of}
+use Rattle.sa_explore.proofs.Doings.{way-leads, way-open}
+use Rattle.sa_explore.proofs.Aheads.{ahead-from, taken-on, kept-beside}
 use Rattle.sa_explore.proofs.search.Search.turn.Goals as goal
 
 pub turn_from-requires-clause-leads : goal.turn_from-requires-clause-leads
@@ -38,80 +36,17 @@ pub turn_from-requires-clause-ahead : goal.turn_from-requires-clause-ahead
 turn_from-requires-clause-ahead g c =
     λ lt lives. ahead-from g.U.UserLevel.calls g.U.Keyed.plain (key_of g.U.Keyed.value_key g.U.Keyed.context_key) c.args.scope.now c.args.self.now c.args.turns.now c.args.at c.requires.turns c.requires.ahead
 
-pub keep_ahead-requires-clause-run : goal.keep_ahead-requires-clause-run
-keep_ahead-requires-clause-run g c =
-    λ lt lives. some-run g.U.UserLevel.calls c.args.scope.now.workload c.in_ok-turned.turned.run (c.args.turns.now ++ c.args.p ∷ []) c.in_ok-turned.ensures.run
+-- what was done is done beside other turns that were made ahead
+pub keep-requires-clause-done : goal.keep-requires-clause-done
+keep-requires-clause-done g c = λ lt lives. record { searching = c.requires.done.searching; room = c.requires.done.room }
+
+pub keep-requires-clause-ahead : goal.keep-requires-clause-ahead
+keep-requires-clause-ahead g c =
+    λ lt lives. taken-on g.U.UserLevel.calls g.U.Keyed.plain (key_of g.U.Keyed.value_key g.U.Keyed.context_key) c.args.scope.now (states_of c.args.self.now)
+    c.args.self.now.ahead.items c.turn_from.new.ahead.items c.in_ok-turned.ensures.rest c.requires.ahead
 
 pub returns-clause-made : goal.returns-clause-made
 returns-clause-made g c =
-    let level = (g.met.U.UserLevel g.world.𝓛 g.world.𝓜 g.world.𝓡 ((λ s x. x), (λ x. x), (λ x. x), λ x. x)) in
-    let keyed = (g.met.U.Keyed g.world.𝓛 g.world.𝓜 g.world.𝓡 ((λ s x. x), (λ x. x), (λ x. x), λ x. x)) in
     let old = c.args.self.now in
-    let scope = c.args.scope.now in
-    let goes = c.requires.goes in
-    let key = c.in_ok-turned.turned.tried.key.items in
-    let state = c.in_ok-turned.turned.tried.state in
-    let store : StoreView = store_of c.arrive.new.self in
-    let is : (store, Some c.in-Some.to) ≡ arrived scope.most key state (store_of old.store) =
-    subst (λ (o : Option ℕ). (store, o) ≡ arrived scope.most key state (store_of old.store)) c.in-Some.is c.in_ok-to.ensures.ok in
-    made-some g.U.UserLevel.calls g.U.Keyed.plain g.U.Keyed.is_made keyed.ignores_numbers g.U.UserLevel.stands level.keeps (key_of g.U.Keyed.value_key g.U.Keyed.context_key) c.keys_tell_outlooks.ensures scope c.ranges-2.ensures
-    old (record { store = c.arrive.new.self; nexts = c.push.new.self; ahead = c.keep_ahead.new.ahead }) c.args.at c.args.p.0 c.requires.done c.requires.within
-    (slice_get_within (states_of old) c.args.at goes.0 goes.1) c.args.turns.now key state c.in-Some.to c.requires.turns c.in_ok-turned.ensures.tried is
-    c.in_ok-push.ensures.items
-
-pub returns-clause-ahead : goal.returns-clause-ahead
-returns-clause-ahead g c =
-    let level = (g.met.U.UserLevel g.world.𝓛 g.world.𝓜 g.world.𝓡 ((λ s x. x), (λ x. x), (λ x. x), λ x. x)) in
-    let keyed = (g.met.U.Keyed g.world.𝓛 g.world.𝓜 g.world.𝓡 ((λ s x. x), (λ x. x), (λ x. x), λ x. x)) in
-    let old = c.args.self.now in
-    let scope = c.args.scope.now in
-    let goes = c.requires.goes in
-    let key = c.in_ok-turned.turned.tried.key.items in
-    let state = c.in_ok-turned.turned.tried.state in
-    let store : StoreView = store_of c.arrive.new.self in
-    let is : (store, Some c.in-Some.to) ≡ arrived scope.most key state (store_of old.store) =
-    subst (λ (o : Option ℕ). (store, o) ≡ arrived scope.most key state (store_of old.store)) c.in-Some.is c.in_ok-to.ensures.ok in
-    let new : Search = record { store = c.arrive.new.self; nexts = c.push.new.self; ahead = c.keep_ahead.new.ahead } in
-    let made : HasMade g.U.UserLevel.calls g.U.Keyed.plain (key_of g.U.Keyed.value_key g.U.Keyed.context_key) scope old new c.args.at c.args.p.0 =
-    made-some g.U.UserLevel.calls g.U.Keyed.plain g.U.Keyed.is_made keyed.ignores_numbers g.U.UserLevel.stands level.keeps (key_of g.U.Keyed.value_key g.U.Keyed.context_key) c.keys_tell_outlooks.ensures scope c.ranges-2.ensures
-    old new c.args.at c.args.p.0 c.requires.done c.requires.within
-    (slice_get_within (states_of old) c.args.at goes.0 goes.1) c.args.turns.now key state c.in-Some.to c.requires.turns c.in_ok-turned.ensures.tried is
-    c.in_ok-push.ensures.items in
-    kept-ahead g.U.UserLevel.calls g.U.Keyed.plain (key_of g.U.Keyed.value_key g.U.Keyed.context_key) scope old new c.args.at c.args.p.0 c.requires.done
-    (slice_get_within (states_of old) c.args.at goes.0 goes.1) made c.args.turns.now c.requires.turns scope.most c.in-Some.to key c.args.p state
-    c.in_ok-turned.turned.run (c.in-Some.to == length c.states-states.result.now) c.turn_from.new.ahead.items c.in_ok-turned.ensures.tried is
-    (λ yes. (let size = ap length c.states-states.ensures in grind (arith, nat_tests, yes, size))) c.in_ok-turned.ensures.run
-    (later-on g.U.UserLevel.calls g.U.Keyed.plain (key_of g.U.Keyed.value_key g.U.Keyed.context_key) scope scope.most key state (store_of old.store) store (Some c.in-Some.to) old.ahead.items
-    c.turn_from.new.ahead.items c.requires.done.searching.search.linked is c.in_ok-turned.ensures.rest c.requires.ahead)
-    c.in_ok-keep_ahead.ensures
-
-pub returns-in_default-clause-made : goal.returns-in_default-clause-made
-returns-in_default-clause-made g c =
-    let level = (g.met.U.UserLevel g.world.𝓛 g.world.𝓜 g.world.𝓡 ((λ s x. x), (λ x. x), (λ x. x), λ x. x)) in
-    let keyed = (g.met.U.Keyed g.world.𝓛 g.world.𝓜 g.world.𝓡 ((λ s x. x), (λ x. x), (λ x. x), λ x. x)) in
-    let old = c.args.self.now in
-    let scope = c.args.scope.now in
-    let goes = c.requires.goes in
-    let key = c.in_ok-turned.turned.tried.key.items in
-    let state = c.in_ok-turned.turned.tried.state in
-    let store : StoreView = store_of c.arrive.new.self in
-    let is : (store, None) ≡ arrived scope.most key state (store_of old.store) =
-    subst (λ (o : Option ℕ). (store, o) ≡ arrived scope.most key state (store_of old.store)) c.in_default.is c.in_ok-to.ensures.ok in
-    made-none g.U.UserLevel.calls g.U.Keyed.plain g.U.Keyed.is_made keyed.ignores_numbers g.U.UserLevel.stands level.keeps (key_of g.U.Keyed.value_key g.U.Keyed.context_key) c.keys_tell_outlooks.ensures scope c.ranges-2.ensures
-    old (record { store = c.arrive.new.self; nexts = old.nexts; ahead = c.turn_from.new.ahead }) c.args.at c.args.p.0 c.requires.done c.requires.within
-    (slice_get_within (states_of old) c.args.at goes.0 goes.1) c.args.turns.now key state c.requires.turns c.in_ok-turned.ensures.tried is refl
-
-pub returns-in_default-clause-ahead : goal.returns-in_default-clause-ahead
-returns-in_default-clause-ahead g c =
-    let level = (g.met.U.UserLevel g.world.𝓛 g.world.𝓜 g.world.𝓡 ((λ s x. x), (λ x. x), (λ x. x), λ x. x)) in
-    let keyed = (g.met.U.Keyed g.world.𝓛 g.world.𝓜 g.world.𝓡 ((λ s x. x), (λ x. x), (λ x. x), λ x. x)) in
-    let old = c.args.self.now in
-    let scope = c.args.scope.now in
-    let goes = c.requires.goes in
-    let key = c.in_ok-turned.turned.tried.key.items in
-    let state = c.in_ok-turned.turned.tried.state in
-    let store : StoreView = store_of c.arrive.new.self in
-    let is : (store, None) ≡ arrived scope.most key state (store_of old.store) =
-    subst (λ (o : Option ℕ). (store, o) ≡ arrived scope.most key state (store_of old.store)) c.in_default.is c.in_ok-to.ensures.ok in
-    later-on g.U.UserLevel.calls g.U.Keyed.plain (key_of g.U.Keyed.value_key g.U.Keyed.context_key) scope scope.most key state (store_of old.store) store None old.ahead.items
-    c.turn_from.new.ahead.items c.requires.done.searching.search.linked is c.in_ok-turned.ensures.rest c.requires.ahead
+    kept-beside g.U.UserLevel.calls g.U.Keyed.plain (key_of g.U.Keyed.value_key g.U.Keyed.context_key) c.args.scope.now old
+    (record { store = old.store; nexts = old.nexts; ahead = c.turn_from.new.ahead }) c.keep.new.self c.args.at c.args.p.0 c.keep.result refl c.keep.ensures.made

@@ -2,7 +2,7 @@ use Rattle.std.proofs.Common.{◌≡◌, ◌≤◌, ◌-◌, length, take}
 use Rattle.sa_base.specs.declared.limits.TheConstants.{MAX_EVENTS}
 use Rattle.sa_core.specs.View.{machine}
 use Rattle.sa_explore_runs.specs.Runs.{LeadTo}
-use Rattle.sa_explore.proofs.begin.begin.Given as goal
+use Rattle.sa_explore.proofs.begin.do_lines.Given as goal
 
 abbrev pub invariant-loop-made : goal.invariant-loop-made
 invariant-loop-made g l = record {
