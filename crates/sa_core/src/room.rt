@@ -69,4 +69,7 @@ impl<U: UserLevel> CoreParts<U> {
     {
         self.trace
     }
+
+    // Lets go of all that it holds.
+    pub(crate) fn discard(self) {}
 }

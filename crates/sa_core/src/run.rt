@@ -227,4 +227,10 @@ impl<U: UserLevel> Core<U> {
     {
         self.machine.into_trace()
     }
+
+    /// Lets go of the run with all that it holds. A run that goes out of scope is let go too, but by code that is made,
+    /// and proved, again in each crate where it does.
+    pub fn discard(self) {
+        self.machine.discard();
+    }
 }

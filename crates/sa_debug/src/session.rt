@@ -22,8 +22,7 @@ use std::alloc::{AllocError, Global};
 use std::marker::Model;
 
 /// A debugging session: a machine that has not run yet or was run by commands, of which processors are halted, and the
-/// breakpoints.
-#[derive(Drop)]
+/// breakpoints. A session ends with its history (`into_trace`), and is not dropped.
 pub struct Session<U: UserLevel> {
     core: Core<U>,
     follower: Follower,
@@ -109,7 +108,13 @@ impl<U: UserLevel> Session<U> {
     pub fn into_trace(self) -> Trace
         ensures { result.items ≡ (machine self.core).items }
     {
-        self.core.into_trace()
+        let Session {
+            core,
+            follower: _,
+            halts: _,
+            points: _,
+        } = self;
+        core.into_trace()
     }
 
     // Adds a breakpoint, but where it is there, or as many others are. An error changes nothing.

@@ -27,7 +27,6 @@ pub(crate) struct Tried {
 }
 
 /// Where a turn led to, and the run that made it, where it was not made ahead.
-#[derive(Drop)]
 pub(crate) struct Turned<U: UserLevel> {
     pub(crate) tried: Tried,
     pub(crate) run: Option<Core<U>>,
@@ -76,11 +75,16 @@ fn try_turn<U: Keyed>(
 {
     workload.ranges();
     let mut core = replay::<U>(alloc, workload, turns)?;
-    let tried = make_turn::<U>(alloc, &mut core, at, p)?;
-    Ok(Turned {
-        tried,
-        run: Some(core),
-    })
+    match make_turn::<U>(alloc, &mut core, at, p) {
+        Ok(tried) => Ok(Turned {
+            tried,
+            run: Some(core),
+        }),
+        Err(error) => {
+            core.discard();
+            Err(error)
+        }
+    }
 }
 
 // Takes the turn of the processor from state `at`, where it is the next that was made ahead.
@@ -167,4 +171,11 @@ pub(crate) fn keep_ahead<U: Keyed>(
         ahead.push_back(tried)?;
     }
     Ok(())
+}
+
+/// Lets go of a run that was made, if one was.
+pub(crate) fn discard<U: UserLevel>(run: Option<Core<U>>) {
+    if let Some(core) = run {
+        core.discard();
+    }
 }

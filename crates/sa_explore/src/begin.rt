@@ -13,7 +13,6 @@ use sa_spaces::Workload;
 use std::alloc::{AllocError, Global};
 
 /// A run that has just begun.
-#[derive(Drop)]
 pub(crate) struct Begun<U: UserLevel> {
     pub(crate) core: Core<U>,
     /// How many turn lines were done, 0 to 65,536: all, or those up to an end.
@@ -50,6 +49,11 @@ pub(crate) fn begin<U: Keyed>(alloc: Global, workload: &Workload) -> Result<Begu
         LeadTo U.calls workload.now (take begun.turns workload.now.turns) (machine begun.core)) }
 {
     let mut core = Core::<U>::start(alloc, workload.copy(alloc)?, MAX_EVENTS)?;
-    let turns = do_lines(workload, &mut core)?;
-    Ok(Begun { core, turns })
+    match do_lines(workload, &mut core) {
+        Ok(turns) => Ok(Begun { core, turns }),
+        Err(error) => {
+            core.discard();
+            Err(error)
+        }
+    }
 }

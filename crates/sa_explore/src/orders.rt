@@ -45,7 +45,7 @@ fn start_at<U: Keyed>(
     Ok((scope, search))
 }
 
-// The same of a run that begins and is over here, so that no later step has to let it go. Fails only where memory runs out.
+// The same of a run that begins and is over here. Fails only where memory runs out.
 fn start_search<U: Keyed>(
     alloc: Global,
     workload: &Workload,
@@ -61,7 +61,10 @@ fn start_search<U: Keyed>(
         started.0 started.1) }
 {
     let first = begin::<U>(alloc, workload)?;
-    start_at::<U>(alloc, workload, most, &first)
+    let started = start_at::<U>(alloc, workload, most, &first);
+    let Begun { core, turns: _ } = first;
+    core.discard();
+    started
 }
 
 /// Goes through every order of turns of a workload, after its turn lines, and keeps at most that many states, 1 to 10,000,000. Fails only

@@ -1,5 +1,7 @@
 // Runs of a workload that are made again.
-ghost use Rattle.std.specs.Prelude.{◌≡◌, IfOk};
+ghost use Rattle.std.specs.Prelude.{◌≡◌, IfOk, OnOk};
+ghost use Rattle.sa_base.specs.declared.limits.TheConstants.{MAX_EVENTS};
+ghost use Rattle.sa_core_model.specs.Run.{opening};
 ghost use Rattle.sa_core.specs.View.{machine};
 ghost use Rattle.sa_explore_runs.specs.Runs.{end, LeadTo, CanLead};
 
@@ -9,6 +11,26 @@ use sa_core::Core;
 use sa_keys::Keyed;
 use sa_spaces::Workload;
 use std::alloc::{AllocError, Global};
+
+// Makes these turns by this run, which is at the opening, and room for two turns more. Fails only where memory runs out.
+fn make_turns<U: Keyed>(
+    workload: &Workload,
+    turns: &[ProcNo],
+    core: &mut Core<U>,
+) -> Result<(), AllocError>
+    requires can { CanLead U.calls workload.now turns.now }
+    requires opens { machine core.old ≡ opening U.calls workload.now }
+    requires budget { core.old.budget ≡ MAX_EVENTS }
+    ensures leads { OnOk result (LeadTo U.calls workload.now turns.now (machine core.new)) }
+    ensures budget { core.new.budget ≡ MAX_EVENTS }
+{
+    workload.ranges();
+    core.reserve(turns.len() + 2)?;
+    for p in turns {
+        core.turn(*p)?;
+    }
+    Ok(())
+}
 
 /// The run of these turns, with room for two turns more. Fails only where memory runs out.
 pub(crate) fn replay<U: Keyed>(
@@ -20,13 +42,14 @@ pub(crate) fn replay<U: Keyed>(
     ensures leads { IfOk result (λ core. LeadTo U.calls workload.now turns.now (machine core)) }
     ensures budget { IfOk result (λ core. core.budget ≡ MAX_EVENTS) }
 {
-    workload.ranges();
     let mut core = Core::<U>::start(alloc, workload.copy(alloc)?, MAX_EVENTS)?;
-    core.reserve(turns.len() + 2)?;
-    for p in turns {
-        core.turn(*p)?;
+    match make_turns(workload, turns, &mut core) {
+        Ok(()) => Ok(core),
+        Err(error) => {
+            core.discard();
+            Err(error)
+        }
     }
-    Ok(core)
 }
 
 /// How runs end where this one is, however many events it has had; `None` where they go on.

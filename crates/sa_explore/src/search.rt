@@ -8,7 +8,7 @@ ghost use Rattle.sa_explore_runs.specs.Searching.{IsTried};
 ghost use Rattle.sa_explore.specs.Ahead.{IsRun, AreAhead};
 ghost use Rattle.sa_explore.specs.Doing.{turns_to, RunsGoOn, HasDone, IsMade};
 
-use crate::ahead::{Tried, keep_ahead, turn_from};
+use crate::ahead::{Tried, Turned, discard, keep_ahead, turn_from};
 use crate::replay::end_at;
 use sa_base::ProcNo;
 use sa_core::Core;
@@ -132,7 +132,16 @@ impl Search {
     {
         scope.workload.ranges();
         let ahead = &mut self.ahead;
-        let mut turned = turn_from::<U>(alloc, &scope.workload, ahead, turns, at, p)?;
-        self.keep::<U>(alloc, scope, turns, at, p, turned.tried, &mut turned.run)
+        let Turned { tried, mut run } = turn_from::<U>(
+            alloc,
+            &scope.workload,
+            ahead,
+            turns,
+            at,
+            p,
+        )?;
+        let made = self.keep::<U>(alloc, scope, turns, at, p, tried, &mut run);
+        discard(run);
+        made
     }
 }

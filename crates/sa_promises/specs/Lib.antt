@@ -3,6 +3,8 @@
 -- Lives: where the life of an activation number stands. Consequences: what follows at each moment.
 -- Along, Moments, Marks, Loads, Holdings, Ios, Pages, Steps: the other readings in plain words; Reads: that the fold reads them.
 -- Closings: what is due at a closing. Demands: what a space announced. Outranking: of thread priorities, that none is outranked.
+-- Examples: the run of the smallest workload, and for each rule a history that breaks it first. RankedExamples: histories that break
+-- what is thread priorities' own in a rule.
 pub mod Needs
 pub mod Packages
 pub mod Words
@@ -21,7 +23,5 @@ pub mod Reads
 pub mod Closings
 pub mod Demands
 pub mod Outranking
--- Examples: the run of the smallest workload, and for each rule a history that breaks it first. RankedExamples: histories that break
--- what is thread priorities' own in a rule.
 pub mod Examples
 pub mod RankedExamples

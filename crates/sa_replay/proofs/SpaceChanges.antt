@@ -1,6 +1,6 @@
 -- What a change of one space does to the list of spaces and to its counts.
 use Rattle.std.proofs.Common.{◌≡◌, ℕ, ◌+◌, ◌<◌, ◌≤◌, true, false, not, cond, List, length, get_or, set, sym, ap, subst, ◌∙◌, arith}
-use Rattle.std.proofs.lemmas.List.{length-set, get_or_read, get_or-set_same}
+use Rattle.std.proofs.lemmas.List.{length-set, get_or_read}
 use Rattle.std.proofs.lemmas.List.Sums.{count_by-le-length}
 use Rattle.sa_base.specs.declared.number.SpaceNo.{SpaceNo}
 use Rattle.sa_base.specs.declared.number.ThreadNo.{ThreadNo}
@@ -57,10 +57,6 @@ module _ (kept now : List SpaceState) (same : kept ≡ now) (i : ℕ) (s : Space
 
   pub set_is : (y : SpaceState) → set kept i y ≡ with_space_in now s y
   set_is y = ap (λ (spaces : List SpaceState). set spaces i y) same ∙ ap (λ (n : ℕ). set now n y) at
-
-  -- the space that is in its place after that
-  pub own_space : (y : SpaceState) → space_in (set kept i y) s ≡ y
-  own_space y = ap (λ (n : ℕ). get_or (set kept i y) n no_threads) (sym at) ∙ get_or-set_same kept i y no_threads place_within
 
   module _ (x : SpaceState) (is : x ≡ get_or kept i x) where
     pub space_is : x ≡ space_in now s

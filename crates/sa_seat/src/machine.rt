@@ -74,7 +74,10 @@ impl<U: UserLevel, K: Named> Machine<U, K> {
         requires pollers { pollers.items ≡ fresh_pollers K.table K.workload.processors }
         ensures { IfOk result (λ made. AreFresh K.table K.workload.processors made.1.items) }
     {
-        let (workload, seats) = copy_and_seat::<K>(alloc, core.workload(), pollers)?;
+        let Ok((workload, seats)) = copy_and_seat::<K>(alloc, core.workload(), pollers) else {
+            core.discard();
+            return Err(AllocError);
+        };
         workload.ranges();
         let held = Held::new(core, keeper, &words);
         let machine = Machine {

@@ -48,8 +48,8 @@ pub fn run<U: UserLevel, R: Threads + Wait + Sync, G: Gate>(
     ensures { IfOk result (HasRun U.calls workload limits.budget) }
 {
     let processors = workload.processors();
-    let core = Core::<U>::start(alloc, workload, limits.budget)?;
     let (words, keeper, pollers) = LineWords::new(alloc, processors)?;
+    let core = Core::<U>::start(alloc, workload, limits.budget)?;
     run_named::<U, Brand, R, G>(rt, alloc, core, words, keeper, pollers, limits, gate)
 }
 

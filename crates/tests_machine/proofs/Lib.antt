@@ -1,3 +1,2 @@
 mod PlainLemmas
 mod Rounds
-pub mod Pollers

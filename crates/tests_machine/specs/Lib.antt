@@ -2,4 +2,3 @@ pub mod Asks
 pub mod Plain
 pub mod OneThread
 pub mod Kept
-pub mod Fine

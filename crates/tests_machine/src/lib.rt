@@ -1,12 +1,8 @@
-//! A caller of the kernel that relies on its contracts alone; a second user level, and a run of it on the core; and what stands below
-//! the kernel: sources and sinks, the words of a refusal, seeded orders, and the workload of a probe. With a host thread for each
-//! processor: the interrupt and credit words, and a machine behind its lock.
+//! A caller of the kernel that relies on its contracts alone; a second user level, and runs of it on the core; and what stands below
+//! the kernel: sources and sinks, the words of a refusal, seeded orders, the workload of a probe, and what a line word holds. With a
+//! host thread for each processor: a machine behind its lock.
 #![tactic(auto)]
 
-#[cfg(test)]
-mod bench;
-#[cfg(test)]
-mod board;
 #[cfg(test)]
 mod fitting;
 #[cfg(test)]

@@ -19,7 +19,7 @@ use std::test::Fail;
 
 // What a seat does, and what comes of it.
 #[derive(Clone, Copy)]
-enum Act {
+pub(crate) enum Act {
     // The seat of this index enters so often, and is answered so each time.
     Enters(usize, u16, Entered),
     // It runs ahead, at most so many instructions; this ends it, and so many are pending.
@@ -34,6 +34,37 @@ const RAISED: &str =
 const SLICED: &str =
     "workload 2\nprocessors 1\nfetch 10\nslice 6\nspaces 1\nspace 0 0 0 0 1\nprogram 4\ncompute\ncompute\ncompute\nend\nclose\n";
 
+// The seat enters so often, and is answered so each time.
+fn enter<U: UserLevel, K: Named, R: Wait + Abort>(
+    rt: &R,
+    machine: &Machine<U, K>,
+    seat: &mut Seat<K>,
+    times: u16,
+    answer: Entered,
+) -> Result<(), Fail> {
+    for _time in 0..times {
+        let entered = machine.enter(rt, seat)?;
+        assert!(rt; entered == answer);
+    }
+    Ok(())
+}
+
+// The seat runs ahead, at most so many instructions; this ends it, and so many are pending.
+fn run_ahead<U: UserLevel, K: Named, R: Wait + Abort>(
+    rt: &R,
+    machine: &Machine<U, K>,
+    seat: &mut Seat<K>,
+    limit: u16,
+    why: BurstEnd,
+    pending: u16,
+) {
+    assert!(rt; 1 <= limit && limit <= 64);
+    assert_eq!(rt; seat.pending(), 0);
+    let end = seat.burst(machine, limit);
+    assert!(rt; end == why);
+    assert_eq!(rt; seat.pending(), pending);
+}
+
 // Does what one seat is to do.
 fn do_act<U: UserLevel, K: Named, R: Wait + Abort>(
     rt: &R,
@@ -44,22 +75,14 @@ fn do_act<U: UserLevel, K: Named, R: Wait + Abort>(
     match act {
         Act::Enters(p, times, answer) => {
             assert!(rt; p < seats.len());
-            for _time in 0..times {
-                let entered = machine.enter(rt, &mut seats[p])?;
-                assert!(rt; entered == answer);
-            }
+            enter(rt, machine, &mut seats[p], times, answer)
         }
         Act::Bursts(p, limit, why, pending) => {
             assert!(rt; p < seats.len());
-            let seat = &mut seats[p];
-            assert!(rt; 1 <= limit && limit <= 64);
-            assert_eq!(rt; seat.pending(), 0);
-            let end = seat.burst(machine, limit);
-            assert!(rt; end == why);
-            assert_eq!(rt; seat.pending(), pending);
+            run_ahead(rt, machine, &mut seats[p], limit, why, pending);
+            Ok(())
         }
     }
-    Ok(())
 }
 
 // The machine that K names, whose seats act so.
@@ -87,7 +110,7 @@ fn play_named<U: UserLevel, K: Named, R: Wait + Abort>(
 }
 
 // The seats of a machine for the workload of the text act so.
-fn play<U: UserLevel, R: Wait + Abort>(
+pub(crate) fn play<U: UserLevel, R: Wait + Abort>(
     rt: &R,
     alloc: Global,
     text: &str,
@@ -100,7 +123,7 @@ fn play<U: UserLevel, R: Wait + Abort>(
     play_named::<U, Brand, R>(rt, alloc, core, words, keeper, pollers, acts)
 }
 
-const TURN: Entered = Entered::Turned(1);
+pub(crate) const TURN: Entered = Entered::Turned(1);
 
 #[test]
 fn a_burst_becomes_as_many_events(rt: HostRuntime) -> Result<(), Fail> {

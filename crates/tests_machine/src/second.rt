@@ -1,7 +1,13 @@
-// A run of another user level on the same core.
-use crate::bench::{Act, Event, run};
+// Runs of another user level on the same core.
 use crate::one_thread::OneThread;
-use sa_base::{ActNo, End, Note, ProcNo, Record, SpaceNo, ThreadNo};
+use crate::rows::{Act, TURN, play};
+use sa_base::{ActNo, End, Item, Note, ProcNo, Record, SpaceNo};
+use sa_run::run;
+use sa_sched::Kind;
+use sa_seat::{BurstEnd, Entered};
+use sa_workload::read;
+use std::alloc::AllocError;
+use std::process::Abort;
 use std::test::Fail;
 
 // Two spaces with two cells and one, on one processor.
@@ -12,83 +18,50 @@ const LOOKS: &str =
 const LOOPS: &str =
     "workload 1\nprocessors 1\nfetch 10\nspaces 1\nspace 0 0 0 0 1\nprogram 2\njnz r0 0\nend\nclose\n";
 
-const OFFERED: [Event; 3] = [
-    Event {
-        number: 4,
-        p: 0,
-        records: &[
-            Record::Idle,
-            Record::Want(SpaceNo(0), 0),
-            Record::Aim(ProcNo(0), Some(SpaceNo(1))),
-            Record::Line(ProcNo(0)),
-        ],
-    },
-    Event {
-        number: 5,
-        p: 0,
-        records: &[
-            Record::Stop(SpaceNo(0), None, ActNo(0)),
-            Record::Move(Some(SpaceNo(0)), Some(SpaceNo(1))),
-            Record::Up(SpaceNo(1), ActNo(1)),
-            Record::Told(Note::Add(ProcNo(0))),
-        ],
-    },
-    Event {
-        number: 6,
-        p: 0,
-        records: &[Record::Idle],
-    },
+// The last records of the history, all of processor 0, with their events: the first space offers its processor, and the second one looks.
+const OFFERED: [(u64, Record); 9] = [
+    (4, Record::Idle),
+    (4, Record::Want(SpaceNo(0), 0)),
+    (4, Record::Aim(ProcNo(0), Some(SpaceNo(1)))),
+    (4, Record::Line(ProcNo(0))),
+    (5, Record::Stop(SpaceNo(0), None, ActNo(0))),
+    (5, Record::Move(Some(SpaceNo(0)), Some(SpaceNo(1)))),
+    (5, Record::Up(SpaceNo(1), ActNo(1))),
+    (5, Record::Told(Note::Add(ProcNo(0)))),
+    (6, Record::Idle),
 ];
+
+// The history ends with these records.
+fn ends_with(rt: &impl Abort, items: &[Item], last: &[(u64, Record)]) {
+    assert!(rt; items.len() >= last.len());
+    let behind = &items[items.len() - last.len()..];
+    for (item, (event, what)) in behind.iter().zip(last) {
+        assert_eq!(rt; item.event, *event);
+        assert!(rt; item.what == *what, "at {event}");
+    }
+}
 
 // The first space looks twice, offers its processor, and the second one looks once; the run goes on until then.
 #[test]
 fn another_user_level_runs(rt: HostRuntime) -> Result<(), Fail> {
-    let acts = [
-        Act::Turns(ProcNo(0), 5),
-        Act::IsAway(ProcNo(0)),
-        Act::Ends(None, 5),
-        Act::Turns(ProcNo(0), 1),
-        Act::Ends(Some(End::AllDone), 6),
-    ];
-    run::<OneThread>(&rt, rt.alloc(), LOOKS, 100, &acts, &OFFERED)
+    let workload = read(rt.alloc(), LOOKS.as_bytes())?;
+    let Ok(ended) = run::<OneThread>(rt.alloc(), workload, Kind::RoundRobin, 100) else {
+        return Err(Fail::from(AllocError));
+    };
+    assert!(rt; ended.end == End::AllDone);
+    assert_eq!(rt; ended.events, 6);
+    ends_with(&rt, ended.trace.items(), &OFFERED);
+    Ok(())
 }
 
-const ROUND: [Record; 1] = [Record::Ins(SpaceNo(0), ThreadNo(0), 0)];
-
-const ROUNDS: [Event; 4] = [
-    Event {
-        number: 2,
-        p: 0,
-        records: &ROUND,
-    },
-    Event {
-        number: 3,
-        p: 0,
-        records: &ROUND,
-    },
-    Event {
-        number: 4,
-        p: 0,
-        records: &ROUND,
-    },
-    Event {
-        number: 5,
-        p: 0,
-        records: &ROUND,
-    },
-];
-
-// Behind its upcall the thread jumps to itself: three times by one commit, and once by a turn, with which the budget is
-// spent.
+// Behind its upcall the thread jumps to itself: three times by one burst, and once by a turn.
 #[test]
 fn another_user_level_goes(rt: HostRuntime) -> Result<(), Fail> {
     let acts = [
-        Act::Turns(ProcNo(0), 1),
-        Act::Reserve(3),
-        Act::Commit(ProcNo(0), 3, 3),
-        Act::Ends(None, 4),
-        Act::Turns(ProcNo(0), 1),
-        Act::Ends(Some(End::Budget), 5),
+        Act::Enters(0, 1, TURN),
+        Act::Bursts(0, 3, BurstEnd::Limit, 3),
+        Act::Enters(0, 1, Entered::Turned(3)),
+        Act::Enters(0, 1, TURN),
     ];
-    run::<OneThread>(&rt, rt.alloc(), LOOPS, 5, &acts, &ROUNDS)
+    play::<OneThread, HostRuntime>(&rt, rt.alloc(), LOOPS, &acts)
 }

@@ -11,9 +11,9 @@ make_turn-requires-clause-can g c =
     let keyed = (g.met.U.Keyed g.world.𝓛 g.world.𝓜 g.world.𝓡 ((λ s x. x), (λ x. x), (λ x. x), λ x. x)) in
     (open-ready g.U.UserLevel.calls g.U.Keyed.plain g.U.Keyed.is_made keyed.ignores_numbers g.U.UserLevel.stands level.keeps c.args.workload.now c.ranges-2.ensures c.args.turns.now c.args.p (machine c.in_ok-core.core) c.requires.few c.requires.within c.requires.goes c.in_ok-core.ensures.leads).can
 
-pub returns-clause-tried : goal.returns-clause-tried
-returns-clause-tried g c =
-    let made = c.in_ok-tried.ensures.made in
+pub returns-in-Ok-clause-tried : goal.returns-in-Ok-clause-tried
+returns-in-Ok-clause-tried g c =
+    let made = c.in-Ok.ensures.made in
     record {
       from = machine c.in_ok-core.core;
       after = machine c.make_turn.new.core;
@@ -23,9 +23,9 @@ returns-clause-tried g c =
       state_is = made.state_is;
     }
 
-pub returns-clause-run : goal.returns-clause-run
-returns-clause-run g c = record {
+pub returns-in-Ok-clause-run : goal.returns-in-Ok-clause-run
+returns-in-Ok-clause-run g c = record {
   leads = one-more g.U.UserLevel.calls c.args.workload.now c.args.turns.now (machine c.in_ok-core.core) (machine c.make_turn.new.core) c.args.p
-      c.in_ok-core.ensures.leads c.in_ok-tried.ensures.made.turn;
+      c.in_ok-core.ensures.leads c.in-Ok.ensures.made.turn;
   budget = c.make_turn.ensures.budget;
 }

@@ -1,52 +1,30 @@
-use Rattle.std.proofs.Common.{ℕ, ◌+◌, List, ap, subst, ◌∙◌}
-use Rattle.std.proofs.lemmas.List.{take_all}
-use Rattle.sa_base.specs.declared.number.ProcNo.{ProcNo}
+use Rattle.std.proofs.Common.{sym, ap, subst, ◌∙◌}
 use Rattle.sa_spaces.specs.Workload.{WorkloadView}
 use Rattle.sa_core.specs.View.{machine}
 use Rattle.sa_core_model.specs.Machine.{Machine}
 use Rattle.sa_core_model.specs.Run.{opening}
 use Rattle.sa_explore_runs.specs.Runs.{LeadTo}
-use Rattle.sa_explore_run.proofs.Running.{next-within, next-open, next-lead}
+use Rattle.sa_explore_run.specs.Behind.{CanBeRun}
 use Rattle.sa_explore_run.proofs.history.history.Goals as goal
 
-pub loop-p-init : goal.loop-p-init
-loop-p-init g c =
+pub make_turns-requires-clause-can : goal.make_turns-requires-clause-can
+make_turns-requires-clause-can g c = λ κs outlives.
+    let opens = c.in_ok-core.ensures.opening ∙ ap (λ (w : WorkloadView). opening g.U.UserLevel.calls w) c.in_ok-copy.ensures in
+    subst (λ (w : WorkloadView). CanBeRun g.U.UserLevel.calls w c.args.turns.now)
+    (sym (ap (λ (m : Machine g.row.U.Denot g.row.U-Ctx.Denot). m.workload) opens)) c.requires
+
+pub make_turns-requires-clause-opens : goal.make_turns-requires-clause-opens
+make_turns-requires-clause-opens g c = λ κs outlives.
+    let at = c.in_ok-core.ensures.opening in
+    at ∙ ap (λ (m : Machine g.row.U.Denot g.row.U-Ctx.Denot). opening g.U.UserLevel.calls m.workload) (sym at)
+
+pub returns-in-Ok : goal.returns-in-Ok
+returns-in-Ok g c =
     let opens = c.in_ok-core.ensures.opening ∙ ap (λ (w : WorkloadView). opening g.U.UserLevel.calls w) c.in_ok-copy.ensures in
     record {
-      lead = opens;
-      workload = ap (λ (m : Machine g.row.U.Denot g.row.U-Ctx.Denot). m.workload) opens;
-      event = ap (λ (m : Machine g.row.U.Denot g.row.U-Ctx.Denot). m.event) opens;
-      budget = c.in_ok-core.ensures.budget;
-    }
-
-pub turn-requires-clause-within : goal.turn-requires-clause-within
-turn-requires-clause-within g c = λ κs outlives.
-    next-within g.U.UserLevel.calls c.args.workload.now c.args.turns.now c.requires c.loop-p.p-index _ (machine c.loop-p.core) c.loop-p-test.true
-    c.loop-p.invariant.workload
-
-pub turn-requires-clause-not_ended : goal.turn-requires-clause-not_ended
-turn-requires-clause-not_ended g c = λ κs outlives.
-    next-open g.U.UserLevel.calls c.args.workload.now c.args.turns.now c.requires c.loop-p.core.budget c.loop-p.p-index (machine c.loop-p.core)
-    c.loop-p-test.true c.loop-p.invariant.lead c.loop-p.invariant.event c.loop-p.invariant.budget
-
-pub loop-p-preserved : goal.loop-p-preserved
-loop-p-preserved g c =
-    let event = c.loop-p.invariant.event in
-    let more = c.in_ok-turn.ensures.event in
-    record {
+      machine = machine c.make_turns.new.core;
       lead =
-          next-lead g.U.UserLevel.calls c.args.workload.now c.args.turns.now c.requires c.loop-p.p-index _ (machine c.loop-p.core) (machine c.turn.new.self)
-          c.loop-p-test.true c.loop-p.invariant.lead c.loop-p.invariant.workload event c.in_ok-turn.ensures.ok;
-      workload = c.in_ok-turn.ensures.workload ∙ c.loop-p.invariant.workload;
-      event = more ∙ ap (λ (n : ℕ). n + 1) event;
-      budget = c.in_ok-turn.ensures.budget ∙ c.loop-p.invariant.budget;
+          subst (λ (w : WorkloadView). LeadTo g.U.UserLevel.calls w c.args.turns.now (machine c.make_turns.new.core))
+          (ap (λ (m : Machine g.row.U.Denot g.row.U-Ctx.Denot). m.workload) opens) c.in-Ok.ensures;
+      is = c.into_trace.ensures;
     }
-
-pub returns : goal.returns
-returns g c = record {
-  machine = machine c.loop-p.core;
-  lead =
-      subst (λ (ps : List ProcNo). LeadTo g.U.UserLevel.calls c.args.workload.now ps (machine c.loop-p.core))
-      (take_all c.loop-p.p-index c.args.turns.now c.loop-p-test.false) c.loop-p.invariant.lead;
-  is = c.into_trace.ensures;
-}

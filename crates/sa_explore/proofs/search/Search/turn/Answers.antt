@@ -37,16 +37,16 @@ turn_from-requires-clause-ahead g c =
     λ lt lives. ahead-from g.U.UserLevel.calls g.U.Keyed.plain (key_of g.U.Keyed.value_key g.U.Keyed.context_key) c.args.scope.now c.args.self.now c.args.turns.now c.args.at c.requires.turns c.requires.ahead
 
 -- what was done is done beside other turns that were made ahead
-pub keep-requires-clause-done : goal.keep-requires-clause-done
-keep-requires-clause-done g c = λ lt lives. record { searching = c.requires.done.searching; room = c.requires.done.room }
+pub keep-made-requires-clause-done : goal.keep-made-requires-clause-done
+keep-made-requires-clause-done g c = λ lt lives. record { searching = c.requires.done.searching; room = c.requires.done.room }
 
-pub keep-requires-clause-ahead : goal.keep-requires-clause-ahead
-keep-requires-clause-ahead g c =
+pub keep-made-requires-clause-ahead : goal.keep-made-requires-clause-ahead
+keep-made-requires-clause-ahead g c =
     λ lt lives. taken-on g.U.UserLevel.calls g.U.Keyed.plain (key_of g.U.Keyed.value_key g.U.Keyed.context_key) c.args.scope.now (states_of c.args.self.now)
-    c.args.self.now.ahead.items c.turn_from.new.ahead.items c.in_ok-turned.ensures.rest c.requires.ahead
+    c.args.self.now.ahead.items c.turn_from.new.ahead.items c.in_ok-tried.ensures.rest c.requires.ahead
 
 pub returns-clause-made : goal.returns-clause-made
 returns-clause-made g c =
     let old = c.args.self.now in
     kept-beside g.U.UserLevel.calls g.U.Keyed.plain (key_of g.U.Keyed.value_key g.U.Keyed.context_key) c.args.scope.now old
-    (record { store = old.store; nexts = old.nexts; ahead = c.turn_from.new.ahead }) c.keep.new.self c.args.at c.args.p.0 c.keep.result refl c.keep.ensures.made
+    (record { store = old.store; nexts = old.nexts; ahead = c.turn_from.new.ahead }) c.keep-made.new.self c.args.at c.args.p.0 c.keep-made.result refl c.keep-made.ensures.made

@@ -2,7 +2,7 @@ use Rattle.std.proofs.Common.{◌≡◌, take}
 use Rattle.sa_base.specs.declared.limits.TheConstants.{MAX_EVENTS}
 use Rattle.sa_core.specs.View.{machine}
 use Rattle.sa_explore_runs.specs.Runs.{LeadTo}
-use Rattle.sa_explore.proofs.replay.replay.Given as goal
+use Rattle.sa_explore.proofs.replay.make_turns.Given as goal
 
 abbrev pub invariant-loop-p : goal.invariant-loop-p
 invariant-loop-p g l = record {
