@@ -16,21 +16,27 @@ use crate::findings::Findings;
 use crate::is_numbered;
 use crate::places::DueFound;
 use crate::quiet::{is_known_quiet, read_quiet};
-use crate::records::{RecordsFound, read_records};
+use crate::records::{ReadThrough, RecordsFound, read_records};
 use sa_check_moment::Moment;
 use sa_laws::Rule;
 use std::alloc::{AllocError, Global};
 
 /// The moment between two events, and whether it is calm: no line is due.
-#[derive(Drop)]
 pub(crate) struct Between {
     pub(crate) moment: Moment,
     /// It is calm; where this is not known it is not set.
     pub(crate) calm: bool,
 }
 
+impl Between {
+    /// Lets go of the moment.
+    pub(crate) fn discard(self) {
+        let Between { moment, calm: _ } = self;
+        moment.discard();
+    }
+}
+
 /// How an event was judged.
-#[derive(Drop)]
 pub(crate) enum Judged {
     /// Each rule holds; what comes after it.
     Right(Between),
@@ -51,7 +57,12 @@ pub(crate) fn judge(
     ensures { IfOk result (Judges (seen before.moment) (told_event event.now) (line_told last)) }
 {
     let Between { moment, calm } = before;
-    if !is_numbered(alloc, &moment, event.number, event.proc, event.records)? {
+    let Ok(numbered) = is_numbered(alloc, &moment, event.number, event.proc, event.records) else {
+        moment.discard();
+        return Err(AllocError);
+    };
+    if !numbered {
+        moment.discard();
         return Ok(Judged::Broken(Rule::Numbered));
     }
     if is_known_quiet(&moment, event, calm) {
@@ -78,15 +89,20 @@ fn judge_quiet(
     let Some(through) = read_quiet(now, event, beginning.start.running)? else {
         return Ok(Judged::Broken(Rule::Stepwise));
     };
-    let after = through.moment.finish(
+    let ReadThrough {
+        moment: read,
+        laws,
+        due,
+    } = through;
+    let after = read.finish(
         event.number,
         event.proc,
         event.records,
         beginning.start,
-        through.due.urged,
+        due.urged,
     )?;
     let ending = settled_after(&after, event.number, last);
-    let findings = findings_of(event.number, beginning, through.laws, through.due, ending);
+    let findings = findings_of(event.number, beginning, laws, due, ending);
     let after = Between {
         moment: after,
         calm: true,
@@ -110,16 +126,24 @@ fn judge_loud(
     let Some(through) = read_records(alloc, now, event, beginning.start.running)? else {
         return Ok(Judged::Broken(Rule::Stepwise));
     };
-    let after = through.moment.finish(
+    let ReadThrough {
+        moment: read,
+        laws,
+        due,
+    } = through;
+    let after = read.finish(
         event.number,
         event.proc,
         event.records,
         beginning.start,
-        through.due.urged,
+        due.urged,
     )?;
-    let covered = through.due.covered;
-    let ending = look_after(alloc, &after, event.number, last, covered)?;
-    let findings = findings_of(event.number, beginning, through.laws, through.due, ending);
+    let covered = due.covered;
+    let Ok(ending) = look_after(alloc, &after, event.number, last, covered) else {
+        after.discard();
+        return Err(AllocError);
+    };
+    let findings = findings_of(event.number, beginning, laws, due, ending);
     let after = Between {
         moment: after,
         calm: ending.calm,
@@ -163,6 +187,9 @@ fn judge_by(findings: &Findings, after: Between) -> Judged
 {
     match findings.first_broken() {
         None => Judged::Right(after),
-        Some(rule) => Judged::Broken(rule),
+        Some(rule) => {
+            after.discard();
+            Judged::Broken(rule)
+        }
     }
 }

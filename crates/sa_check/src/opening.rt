@@ -56,7 +56,9 @@ fn opening_records(alloc: Global, workload: &Workload) -> Result<Vec<Record>, Al
     ensures { IfOk result (λ records. records.items ≡ opening_records workload.now) }
 {
     let wanting = wanting(alloc, workload)?;
-    opening_after(alloc, workload, &wanting)
+    let records = opening_after(alloc, workload, &wanting);
+    wanting.discard();
+    records
 }
 
 // The same, where this is the moment after the wants.

@@ -84,6 +84,7 @@ pub(crate) fn read_quiet(
     let mut now = moment;
     for what in records {
         if !now.allows(event.proc, what) {
+            now.discard();
             return Ok(None);
         }
         now = now.read(event.number, event.proc, what)?;

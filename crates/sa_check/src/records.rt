@@ -54,7 +54,6 @@ impl RecordsFound {
 }
 
 /// The moment after the records of an event, and what was found on the way.
-#[derive(Drop)]
 pub(crate) struct ReadThrough {
     pub(crate) moment: Moment,
     pub(crate) laws: RecordsFound,
@@ -77,14 +76,22 @@ pub(crate) fn read_records(
     let mut laws = RecordsFound::new();
     let mut due = DueFound::new();
     for (i, what) in records.iter().enumerate() {
-        due = due.and(alloc, &now, event, running, places, i)?;
+        let Ok(more) = due.and(alloc, &now, event, running, places, i) else {
+            now.discard();
+            return Err(AllocError);
+        };
+        due = more;
         if !now.allows(event.proc, what) {
+            now.discard();
             return Ok(None);
         }
         laws = laws.and(&now, event.proc, what, &records[i + 1..]);
         now = now.read(event.number, event.proc, what)?;
     }
-    let due = due.and(alloc, &now, event, running, places, records.len())?;
+    let Ok(due) = due.and(alloc, &now, event, running, places, records.len()) else {
+        now.discard();
+        return Err(AllocError);
+    };
     Ok(Some(ReadThrough {
         moment: now,
         laws,

@@ -61,7 +61,13 @@ fn judge_events(
     let mut records = Vec::new(alloc);
     let mut said = Said::Next(first);
     while let Said::Next(item) = said {
-        said = gather(reader, &item, &mut records)?;
+        match gather(reader, &item, &mut records) {
+            Ok(next) => said = next,
+            Err(bad) => {
+                now.discard();
+                return Err(bad);
+            }
+        }
         match judge_records(alloc, now, &item, &records, last_told(&said)) {
             Ok(Judged::Right(after)) => now = after,
             Ok(Judged::Broken(rule)) => {
@@ -71,6 +77,7 @@ fn judge_events(
             Err(AllocError) => return unless_bad(reader, said, Err(Unread::OutOfMemory)),
         }
     }
+    now.discard();
     Ok(Verdict::Legal)
 }
 

@@ -97,6 +97,10 @@ impl Moment {
         })
     }
 
+    /// Lets go of the moment with all that it holds. One that goes out of scope is let go too, but by code that is made,
+    /// and proved, again in each crate where it does.
+    pub fn discard(self) {}
+
     /// The workload.
     pub fn workload(&self) -> &Workload
         ensures { result.now ≡ (seen self.now).workload }

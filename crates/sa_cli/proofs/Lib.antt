@@ -3,6 +3,7 @@ mod Refusals
 mod Inputs
 mod Finds
 mod Scripts
+mod Doing
 mod Sessions
 mod Packages
 mod Results

@@ -10,7 +10,7 @@ use Rattle.sa_workload.specs.Bad.{BadAt}
 use Rattle.sa_trace.specs.TraceText.{trace_text}
 use Rattle.sa_script.specs.declared.command.DebugCommand.{DebugCommand}
 use Rattle.sa_script.specs.Reading.{script_of}
-use Rattle.sa_debug_run.specs.Debugged.{IsOver, RanSoFar}
+use Rattle.sa_cli.specs.Debugged.{IsOver, RanSoFar}
 use Rattle.sa_cli.specs.declared.limits.TheConstants.{SCRIPTS_LIMIT}
 use Rattle.sa_cli.specs.declared.limits.TheConstants.{INPUT_LIMIT}
 use Rattle.sa_cli.specs.declared.outcome.Ran.{Ran}

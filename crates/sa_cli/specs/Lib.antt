@@ -6,6 +6,7 @@ pub mod Schedules
 pub mod Packages
 pub mod Answers
 pub mod Streams
+pub mod Debugged
 pub mod Debugging
 pub mod Scripted
 pub mod Exploring

@@ -15,10 +15,10 @@ use crate::limits::SCRIPTS_LIMIT;
 use crate::outcome::{Outcome, Status};
 use crate::output::put_run;
 use crate::reading::refusal_of_long;
+use crate::session::{Debugged, Undebugged, debug};
 use crate::texts::parts_of;
 use crate::writing::status_of;
 use sa_base::{Bad, End, Item, MAX_EVENTS, Trace, Unread};
-use sa_debug_run::{Debugged, Undebugged, debug};
 use sa_io::{Failed, Pieces, Sink, Source, read_input};
 use std::alloc::Global;
 

@@ -10,6 +10,8 @@ mod limits;
 mod outcome;
 mod output;
 mod reading;
+mod replies;
+mod session;
 mod shared;
 mod texts;
 mod vp;

@@ -11,7 +11,6 @@ use std::alloc::AllocError;
 use std::marker::Model;
 
 /// The abstract machine of threads after the first items of a trace.
-#[derive(Drop)]
 pub(crate) struct Follower {
     replay: Replay,
     // how many items it has taken
@@ -34,6 +33,12 @@ impl Follower {
         ensures taken { result.taken ≡ 0 }
     {
         Follower { replay, taken: 0 }
+    }
+
+    /// Lets go of it.
+    pub(crate) fn discard(self) {
+        let Follower { replay, taken: _ } = self;
+        replay.discard();
     }
 
     /// Takes the items that are new. Where memory runs out it has taken some of them.

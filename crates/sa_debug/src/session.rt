@@ -110,10 +110,11 @@ impl<U: UserLevel> Session<U> {
     {
         let Session {
             core,
-            follower: _,
+            follower,
             halts: _,
             points: _,
         } = self;
+        follower.discard();
         core.into_trace()
     }
 

@@ -1,5 +1,5 @@
 // A history, replayed.
-ghost use Rattle.std.specs.Prelude.{◌≡◌, IfOk};
+ghost use Rattle.std.specs.Prelude.{◌≡◌, IfOk, OnOk};
 ghost use Rattle.sa_laws.specs.State.{opening_state};
 ghost use Rattle.sa_debug.specs.Reached.{CanPlay};
 ghost use Rattle.sa_debug.specs.Views.{state_behind};
@@ -8,6 +8,19 @@ use sa_base::Item;
 use sa_replay::Replay;
 use sa_spaces::Workload;
 use std::alloc::{AllocError, Global};
+
+// Takes these items of a run, by this replay, which is at the opening. Fails only where memory runs out.
+fn take_items(replay: &mut Replay, items: &[Item]) -> Result<(), AllocError>
+    requires opens { replay.old.state ≡ opening_state replay.old.workload }
+    requires plays { CanPlay replay.old.workload (opening_state replay.old.workload) items.now }
+    ensures { OnOk result (replay.new.state
+        ≡ state_behind replay.old.workload (opening_state replay.old.workload) items.now) }
+{
+    for item in items {
+        replay.change(item.proc, &item.what)?;
+    }
+    Ok(())
+}
 
 /// The abstract machine after these items of a run of the workload.
 pub(crate) fn replayed(
@@ -20,8 +33,11 @@ pub(crate) fn replayed(
         replay.state ≡ state_behind workload.now (opening_state workload.now) items.now) }
 {
     let mut replay = Replay::start(alloc, workload)?;
-    for item in items {
-        replay.change(item.proc, &item.what)?;
+    match take_items(&mut replay, items) {
+        Ok(()) => Ok(replay),
+        Err(error) => {
+            replay.discard();
+            Err(error)
+        }
     }
-    Ok(replay)
 }

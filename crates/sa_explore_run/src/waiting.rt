@@ -24,5 +24,7 @@ pub fn waits_behind<U: UserLevel>(
 {
     let trace = history::<U>(alloc, workload, turns)?;
     let replay = replayed(alloc, workload, trace.items())?;
-    waits(alloc, &replay)
+    let found = waits(alloc, &replay);
+    replay.discard();
+    found
 }

@@ -75,6 +75,10 @@ impl Replay {
         })
     }
 
+    /// Lets go of the replay with all that it holds. One that goes out of scope is let go too, but by code that is made,
+    /// and proved, again in each crate where it does.
+    pub fn discard(self) {}
+
     /// The workload.
     pub fn workload(&self) -> &Workload
         ensures { result.now ≡ self.now.workload }

@@ -48,8 +48,11 @@ pub fn run<U: UserLevel, R: Threads + Wait + Sync, G: Gate>(
     ensures { IfOk result (HasRun U.calls workload limits.budget) }
 {
     let processors = workload.processors();
-    let (words, keeper, pollers) = LineWords::new(alloc, processors)?;
     let core = Core::<U>::start(alloc, workload, limits.budget)?;
+    let Ok((words, keeper, pollers)) = LineWords::new(alloc, processors) else {
+        core.discard();
+        return Err(AllocError);
+    };
     run_named::<U, Brand, R, G>(rt, alloc, core, words, keeper, pollers, limits, gate)
 }
 

@@ -1,5 +1,5 @@
 use Rattle.sa_check.proofs.JudgeLemmas.{numbering-breaks}
 use Rattle.sa_check.proofs.judge.judge.Goals as goal
 
-pub returns-then-not-branch : goal.returns-then-not-branch
-returns-then-not-branch c = numbering-breaks _ _ _ _ _ c.in_ok-is_numbered.field-0 c.in_ok-is_numbered.ensures c.if-not-branch.true
+pub returns-then-not-numbered : goal.returns-then-not-numbered
+returns-then-not-numbered c = numbering-breaks _ _ _ _ _ c.in-Ok.numbered c.in-Ok.ensures c.if-not-numbered.true

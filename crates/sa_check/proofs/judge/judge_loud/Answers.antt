@@ -55,9 +55,9 @@ returns c =
     (over-is m start e running through c.begin-beginning.ensures.event_begun c.begin-beginning.ensures.running read)) in
     let first = find (λ rule. not (found_of c.findings_of-findings.result rule)) rules in
     let all : FirstIs (rules_of m.rules) m.workload m.readings e (line_told c.args.last) first =
-    judged-so m start (seen c.in_ok-after.after) e (line_told c.args.last) c.begin-beginning.result running through c.in_ok-ending.ending
-    c.requires.numbered c.begin-beginning.ensures.found c.begin-beginning.ensures.event_begun read next c.in_ok-ending.ensures
+    judged-so m start (seen c.in_ok-after.after) e (line_told c.args.last) c.begin-beginning.result running through c.in-Ok.ending
+    c.requires.numbered c.begin-beginning.ensures.found c.begin-beginning.ensures.event_begun read next c.in-Ok.ensures
     c.findings_of-findings.result first c.findings_of-findings.ensures refl in
-    let now : Between = record { moment = c.in_ok-after.after; calm = c.in_ok-ending.ending.calm } in
+    let now : Between = record { moment = c.in_ok-after.after; calm = c.in-Ok.ending.calm } in
     subst (Judges m e (line_told c.args.last)) (sym c.judge_by.ensures)
-    (judges m e (line_told c.args.last) first now all next c.in_ok-ending.ensures.calm)
+    (judges m e (line_told c.args.last) first now all next c.in-Ok.ensures.calm)

@@ -58,7 +58,7 @@ loop-i-preserved c =
     let is : rest ≡ x ∷ others = drop_more e.records i no_record c.loop-i-test.true in
     let goes = c.in_ok-now.ensures in
     let old = c.loop-i.invariant in
-    let due = c.in_ok-due.ensures in
+    let due = c.in-Ok.ensures in
     let laws : FoundMore now.readings e.proc x others c.loop-i.laws c.and-laws.result =
     subst (λ (behind : List Record). FoundMore now.readings e.proc x behind c.loop-i.laws c.and-laws.result)
     (tail-whole e.records (i + 1)) c.and-laws.ensures in
@@ -92,7 +92,7 @@ returns c =
     let none : drop i e.records ≡ [] = drop_all i e.records (omega arith) in
     let old = c.loop-i.invariant in
     let here : now ≡ behind_some m e (take n e.records) = old.moment ∙ ap (λ k. behind_some m e (take k e.records)) same in
-    let due = c.in_ok-due-2.ensures in
+    let due = c.in-Ok-and.ensures in
     let places = c.of-places in
     let wants_within = part-within e.records (before_wants e.records) _ places.ensures.wants (take-before-wants e.records) in
     let aims_within = part-within e.records (before_aims e.records) _ places.ensures.aims (take-before-aims e.records) in
@@ -115,7 +115,7 @@ returns c =
         aims = found-behind places.result.aims n _ _ _ _ due.aims
             (at-place (λ s. AimsAreDue s e) now m e n _ (before_aims e.records) here places.ensures.aims (take-before-aims e.records))
             (λ past. old.aims (omega arith)) (omega arith);
-        covered = subst (λ (s : Seen). IsTrue c.in_ok-due-2.due.covered → HasShares s e.number) (here ∙ ap (behind_some m e) (take-length e.records)) due.covered;
+        covered = subst (λ (s : Seen). IsTrue c.in-Ok-and.due.covered → HasShares s e.number) (here ∙ ap (behind_some m e) (take-length e.records)) due.covered;
         lines = found-behind places.result.lines n _ _ _ _ due.lines
             (at-place (λ s. LinesAreDue s e) now m e n _ (front_part e.records) here places.ensures.lines (take-front e.records))
             (λ past. old.lines (omega arith)) (omega arith);

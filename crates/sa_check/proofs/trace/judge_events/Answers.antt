@@ -1,5 +1,4 @@
 use Rattle.std.proofs.Common.{[], ◌∷◌, List, Result, Ok, refl, sym, ◌∙◌, ap, subst}
-use Rattle.std.proofs.lemmas.Result.{err_from_is_err_and}
 use Rattle.sa_base.specs.declared.record.Record.{Record}
 use Rattle.sa_base.specs.declared.refusal.Unread.{Unread}
 use Rattle.sa_trace.specs.declared.line.Said.{Said}
@@ -19,17 +18,15 @@ use Rattle.sa_check.proofs.QuietLemmas.{settled-next}
 use Rattle.sa_check.proofs.ReadLemmas.{Comes, right-event, broken-event, bad-event, bad-ahead, break-found, none-found, judged}
 use Rattle.sa_check.proofs.trace.judge_events.Goals as goal
 
-pub returns-in_err-said : goal.returns-in_err-said
-returns-in_err-said c =
+pub returns-in-Err : goal.returns-in-Err
+returns-in-Err c =
     let w = c.args.workload.now in
     let r = (seen c.loop-said.now.moment).readings in
     let item = c.in-Next.item in
     let before = left c.loop-said.reader in
     let whole = in_front (c.args.first ∷ []) (left c.args.reader.now) in
-    let p = err_from_is_err_and c.from_residual-in_err-said.result c.from_residual-in_err-said.ensures.1 in
-    rw (p.1, p.2) (
-    bad-ahead c.args.rules w r item before (left c.gather.new.reader) whole c.gather.new.records.items c.in_err-said.field-0.0 c.in_err-said.ensures.gathers
-    (λ a comes. c.loop-said.invariant.rest a (subst (λ (s : Said). Comes c.args.rules w r (with_said s before) a) (sym c.in-Next.is) comes)))
+    bad-ahead c.args.rules w r item before (left c.gather.new.reader) whole c.gather.new.records.items c.in-Err.bad c.in-Err.ensures.gathers
+    (λ a comes. c.loop-said.invariant.rest a (subst (λ (s : Said). Comes c.args.rules w r (with_said s before) a) (sym c.in-Next.is) comes))
 
 pub loop-said-preserved : goal.loop-said-preserved
 loop-said-preserved c =
@@ -53,7 +50,7 @@ loop-said-preserved c =
       calm = stands.calm;
       rest = λ a comes. c.loop-said.invariant.rest a
           (subst (λ (s : Said). Comes c.args.rules w m.readings (with_said s before) a) (sym c.in-Next.is)
-          (right-event c.args.rules w m next item before after records c.in_ok-said.said last a c.in_ok-said.ensures.gathers
+          (right-event c.args.rules w m next item before after records c.in-Ok.next last a c.in-Ok.ensures.gathers
           c.loop-said.invariant.rules c.loop-said.invariant.workload c.last_told.ensures right comes));
     }
 
@@ -71,24 +68,24 @@ returns-in-Ok-Broken c =
     let here : Judges m (event item.event item.proc c.deref.result.now) last (judged_as.Broken rule) =
     subst (λ (j : Judged). Judges m (event item.event item.proc c.deref.result.now) last j) c.in-Ok-Broken.field-0-is c.in-Ok-Broken.ensures in
     let breaks = subst (λ (rs : List Record). Judges m (event item.event item.proc rs) last (judged_as.Broken rule)) c.deref.ensures.value here in
-    let has = c.in_ok-said.ensures.gathers in
+    let has = c.in-Ok.ensures.gathers in
     subst (λ (one : Result Verdict Unread). IsChecked (rules_of c.args.rules) w whole one) (sym c.unless_bad.ensures)
-    (break-found c.args.rules w m.readings (with_said (Next item) before) (with_said c.in_ok-said.said after) c.args.first (left c.args.reader.now) (Broken item.event rule)
-    (broken-event c.args.rules w m item before after records c.in_ok-said.said last rule has c.loop-said.invariant.rules c.loop-said.invariant.workload c.last_told.ensures breaks)
-    (λ bad is. bad-event c.args.rules w m.readings item before after records c.in_ok-said.said bad has is)
+    (break-found c.args.rules w m.readings (with_said (Next item) before) (with_said c.in-Ok.next after) c.args.first (left c.args.reader.now) (Broken item.event rule)
+    (broken-event c.args.rules w m item before after records c.in-Ok.next last rule has c.loop-said.invariant.rules c.loop-said.invariant.workload c.last_told.ensures breaks)
+    (λ bad is. bad-event c.args.rules w m.readings item before after records c.in-Ok.next bad has is)
     (λ a comes. c.loop-said.invariant.rest a (subst (λ (s : Said). Comes c.args.rules w m.readings (with_said s before) a) (sym c.in-Next.is) comes)))
 
-pub returns-in-Err : goal.returns-in-Err
-returns-in-Err c =
+pub returns-in-Err-judge_records : goal.returns-in-Err-judge_records
+returns-in-Err-judge_records c =
     let w = c.args.workload.now in
     let r = (seen c.loop-said.now.moment).readings in
     let item = c.in-Next.item in
     let before = left c.loop-said.reader in
     let after = left c.gather.new.reader in
     let whole = in_front (c.args.first ∷ []) (left c.args.reader.now) in
-    subst (λ (one : Result Verdict Unread). IsChecked (rules_of c.args.rules) w whole one) (sym c.unless_bad-in-Err.ensures)
-    (none-found c.args.rules w r (with_said (Next item) before) (with_said c.in_ok-said.said after) whole
-    (λ bad is. bad-event c.args.rules w r item before after c.gather.new.records.items c.in_ok-said.said bad c.in_ok-said.ensures.gathers is)
+    subst (λ (one : Result Verdict Unread). IsChecked (rules_of c.args.rules) w whole one) (sym c.unless_bad-in-Err-judge_records.ensures)
+    (none-found c.args.rules w r (with_said (Next item) before) (with_said c.in-Ok.next after) whole
+    (λ bad is. bad-event c.args.rules w r item before after c.gather.new.records.items c.in-Ok.next bad c.in-Ok.ensures.gathers is)
     (λ a comes. c.loop-said.invariant.rest a (subst (λ (s : Said). Comes c.args.rules w r (with_said s before) a) (sym c.in-Next.is) comes)))
 
 pub returns : goal.returns

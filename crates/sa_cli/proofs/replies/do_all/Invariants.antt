@@ -1,8 +1,8 @@
 use Rattle.std.proofs.Common.{◌≡◌, take}
 use Rattle.sa_core.specs.View.{machine}
 use Rattle.sa_debug.specs.OverMachines.{session}
-use Rattle.sa_debug_run.specs.Debugged.{AreDone}
-use Rattle.sa_debug_run.proofs.replies.do_all.Given as goal
+use Rattle.sa_cli.specs.Debugged.{AreDone}
+use Rattle.sa_cli.proofs.replies.do_all.Given as goal
 
 -- the commands so far are done
 abbrev pub invariant-loop-command : goal.invariant-loop-command

@@ -1,6 +1,7 @@
+// A debugging session of FastThreads by a script: its replies, and the trace of its machine.
 ghost use Rattle.std.specs.Prelude.{◌≤◌, All, IfOk, IfErr};
 ghost use Rattle.sa_script.specs.Text.{FitsCommand};
-ghost use Rattle.sa_debug_run.specs.Debugged.{IsOver, RanSoFar, IsDebugged, IsUndebugged};
+ghost use Rattle.sa_cli.specs.Debugged.{IsOver, RanSoFar, IsDebugged, IsUndebugged};
 
 use crate::replies::do_all;
 use sa_base::{Bad, End, MAX_EVENTS, Trace, Unread};
@@ -16,7 +17,7 @@ use std::alloc::Global;
 
 /// A session that is over.
 #[derive(Drop)]
-pub struct Debugged {
+pub(crate) struct Debugged {
     /// The texts of the replies, one after another, each with its line feed.
     pub replies: Vec<u8>,
     pub trace: Trace,
@@ -28,7 +29,7 @@ pub struct Debugged {
 
 /// Why a session is not over.
 #[derive(Drop)]
-pub enum Undebugged {
+pub(crate) enum Undebugged {
     /// The bytes are no script for this workload; nothing ran.
     BadScript(Bad),
     /// Memory ran out, with the trace so far.
@@ -37,7 +38,7 @@ pub enum Undebugged {
 
 /// Does the commands of a script with a machine of the workload, within `budget` events, 1 to 1,000,000. The script is read
 /// whole before anything runs.
-pub fn debug(
+pub(crate) fn debug(
     alloc: Global,
     workload: Workload,
     script: &[u8],
@@ -83,6 +84,7 @@ fn do_script(
         return Err(Trace::new(alloc));
     };
     let Ok(core) = Core::<FastThreads>::start(alloc, workload, budget) else {
+        replay.discard();
         return Err(Trace::new(alloc));
     };
     let mut session = Session::start(alloc, core, replay);

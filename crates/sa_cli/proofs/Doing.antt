@@ -20,7 +20,7 @@ use Rattle.sa_debug.specs.Session.{Watched, Session, fresh, Does, DoesSoFar, DoA
 use Rattle.sa_debug.specs.OverMachines.{over_machines}
 use Rattle.sa_debug_laws.specs.Sessions.{SessionsAreLegal, SessionsSoFarAreLegal, IsLegalSession}
 use Rattle.sa_debug_laws.specs.Told.{CameSoFar, SessionsAreTold, PartsOfSessionsAreTold}
-use Rattle.sa_debug_run.specs.Debugged.{replies_text, AreDone, told_end, IsOver, RanSoFar}
+use Rattle.sa_cli.specs.Debugged.{replies_text, AreDone, told_end, IsOver, RanSoFar}
 
 do-push : {M : Type 0} (o : Watched M) (cs : List DebugCommand) (s between t : Session M) (replies : List Reply) (c : DebugCommand) (reply : Reply)
     → DoAll o cs s between replies → Does o c between t reply → DoAll o (cs ++ c ∷ []) s t (replies ++ reply ∷ [])

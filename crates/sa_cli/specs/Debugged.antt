@@ -18,8 +18,8 @@ use Rattle.sa_debug.specs.Session.{Session, fresh, DoAll}
 use Rattle.sa_debug.specs.OverMachines.{over_machines}
 use Rattle.sa_debug_laws.specs.Sessions.{IsLegalSession}
 use Rattle.sa_debug_laws.specs.Told.{IsTold, CameSoFar, IsToldSoFar, by_history}
-use Rattle.sa_debug_run.specs.declared.run.Undebugged.{Undebugged}
-use Rattle.sa_debug_run.specs.declared.run.Undebugged.TheVariants.{BadScript, OutOfMemory}
+use Rattle.sa_cli.specs.declared.session.Undebugged.{Undebugged}
+use Rattle.sa_cli.specs.declared.session.Undebugged.TheVariants.{BadScript, OutOfMemory}
 
 -- the texts of replies, one after another
 abbrev pub replies_text : List Reply → List ℕ

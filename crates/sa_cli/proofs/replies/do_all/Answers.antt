@@ -5,8 +5,8 @@ use Rattle.sa_script.specs.declared.command.DebugCommand.{DebugCommand}
 use Rattle.sa_script.specs.declared.command.DebugCommand.TheVariants.{Break}
 use Rattle.sa_script.specs.Text.{FitsCommand}
 use Rattle.sa_debug.specs.OverMachines.{session}
-use Rattle.sa_debug_run.proofs.Doing.{done-more, came-at, came-behind}
-use Rattle.sa_debug_run.proofs.replies.do_all.Goals as goal
+use Rattle.sa_cli.proofs.Doing.{done-more, came-at, came-behind}
+use Rattle.sa_cli.proofs.replies.do_all.Goals as goal
 
 pub command-requires-after_bounds : goal.command-requires-after_bounds
 command-requires-after_bounds c = λ κs.
