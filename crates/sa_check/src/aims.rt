@@ -15,7 +15,7 @@ use std::alloc::{AllocError, Global};
 /// The aims that are due at this event: for each space in the order of their numbers, as many as it misses of its share.
 ///
 /// Fails only where memory runs out.
-pub fn aims_due(alloc: Global, moment: &Moment, event: u64) -> Result<Vec<Aimed>, AllocError>
+pub(crate) fn aims_due(alloc: Global, moment: &Moment, event: u64) -> Result<Vec<Aimed>, AllocError>
     ensures { IfOk result (λ due. changes_of due.items
         ≡ aims_due (seen moment.now).workload event (seen moment.now).readings) }
 {
@@ -27,7 +27,7 @@ pub fn aims_due(alloc: Global, moment: &Moment, event: u64) -> Result<Vec<Aimed>
 }
 
 /// The aims at spaces among the records are those that are due at this event. Fails only where memory runs out.
-pub fn are_aims_due(
+pub(crate) fn are_aims_due(
     alloc: Global,
     moment: &Moment,
     event: u64,

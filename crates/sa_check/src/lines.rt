@@ -16,7 +16,7 @@ use std::alloc::{AllocError, Global};
 /// lowest-numbered processor with a low line, if it owns one.
 ///
 /// Fails only where memory runs out.
-pub fn lines_due(alloc: Global, moment: &Moment) -> Result<Vec<Record>, AllocError>
+pub(crate) fn lines_due(alloc: Global, moment: &Moment) -> Result<Vec<Record>, AllocError>
     ensures { IfOk result (λ due. due.items ≡ lines_due (seen moment.now).workload (seen moment.now).readings) }
 {
     let mut due = Vec::new(alloc);
@@ -27,7 +27,11 @@ pub fn lines_due(alloc: Global, moment: &Moment) -> Result<Vec<Record>, AllocErr
 }
 
 /// The lines among the records are those that are due. Fails only where memory runs out.
-pub fn are_lines_due(alloc: Global, moment: &Moment, records: &[Record]) -> Result<bool, AllocError>
+pub(crate) fn are_lines_due(
+    alloc: Global,
+    moment: &Moment,
+    records: &[Record],
+) -> Result<bool, AllocError>
     ensures { IfOk result (λ held. IsTrue held ↔ (lines_in records.now
         ≡ lines_due (seen moment.now).workload (seen moment.now).readings)) }
 {

@@ -16,7 +16,7 @@ use std::alloc::{AllocError, Global};
 
 /// The event's number is that of the next event, its processor is one of the machine, it has some record, and event 0 is
 /// the opening. Fails only where memory runs out.
-pub fn is_numbered(
+pub(crate) fn is_numbered(
     alloc: Global,
     moment: &Moment,
     number: u64,

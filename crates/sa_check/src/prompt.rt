@@ -11,7 +11,7 @@ use sa_base::{ProcNo, SpaceNo};
 use sa_check_moment::Moment;
 
 /// No space that wants no processor must be told anything.
-pub fn wants_nothing(moment: &Moment) -> bool
+pub(crate) fn wants_nothing(moment: &Moment) -> bool
     ensures { IsTrue result ↔ ((s : SpaceNo) → must_want (seen moment.now).readings s ≡ false) }
 {
     moment.ranges();
@@ -25,7 +25,7 @@ pub fn wants_nothing(moment: &Moment) -> bool
 
 /// Each space with something untold owns no processor, or its upcall page is being fetched, or it owns a processor whose
 /// line is raised.
-pub fn is_told_in_time(moment: &Moment) -> bool
+pub(crate) fn is_told_in_time(moment: &Moment) -> bool
     ensures { IsTrue result ↔ IsPrompt (seen moment.now).readings }
 {
     moment.ranges();

@@ -13,7 +13,7 @@ use sa_share::{Claim, shares};
 use sa_spaces::Workload;
 
 /// How many processors each space gets at this event: place `s` has the share of space `s`, and 0 past the spaces.
-pub fn shares_at(moment: &Moment, event: u64) -> [u16; MAX_SPACES]
+pub(crate) fn shares_at(moment: &Moment, event: u64) -> [u16; MAX_SPACES]
     ensures { result ≡ shares_at (seen moment.now).workload event (seen moment.now).readings }
 {
     let workload = moment.workload();
@@ -22,7 +22,7 @@ pub fn shares_at(moment: &Moment, event: u64) -> [u16; MAX_SPACES]
 }
 
 /// Each space has at least its share of aims, at this event.
-pub fn covers_shares(moment: &Moment, event: u64) -> bool
+pub(crate) fn covers_shares(moment: &Moment, event: u64) -> bool
     ensures { IsTrue result ↔ ((s : ℕ)
         → share_at (shares_at (seen moment.now).workload event (seen moment.now).readings) s
         ≤ aimed s (seen moment.now).readings.aims) }
@@ -31,7 +31,7 @@ pub fn covers_shares(moment: &Moment, event: u64) -> bool
 }
 
 /// The space whose turn it is to be served first at this event.
-pub fn first_space(workload: &Workload, event: u64) -> u16
+pub(crate) fn first_space(workload: &Workload, event: u64) -> u16
     ensures is { result ≡ first_space workload.now event }
     ensures within { result < length workload.now.spaces }
 {

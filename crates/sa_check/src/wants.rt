@@ -14,7 +14,7 @@ use std::alloc::{AllocError, Global};
 /// The wants that are due: a space that wants no processor and must be told something wants one.
 ///
 /// Fails only where memory runs out.
-pub fn wants_due(alloc: Global, moment: &Moment) -> Result<Vec<Record>, AllocError>
+pub(crate) fn wants_due(alloc: Global, moment: &Moment) -> Result<Vec<Record>, AllocError>
     ensures { IfOk result (λ due. due.items ≡ wants_due (seen moment.now).workload (seen moment.now).readings) }
 {
     let mut due = Vec::new(alloc);
@@ -25,7 +25,11 @@ pub fn wants_due(alloc: Global, moment: &Moment) -> Result<Vec<Record>, AllocErr
 }
 
 /// The wants among the records are those that are due. Fails only where memory runs out.
-pub fn are_wants_due(alloc: Global, moment: &Moment, records: &[Record]) -> Result<bool, AllocError>
+pub(crate) fn are_wants_due(
+    alloc: Global,
+    moment: &Moment,
+    records: &[Record],
+) -> Result<bool, AllocError>
     ensures { IfOk result (λ held. IsTrue held ↔ (wants_in records.now
         ≡ wants_due (seen moment.now).workload (seen moment.now).readings)) }
 {

@@ -6,7 +6,7 @@ ghost use Rattle.sa_ranks.specs.Inside.{is_of_entry, begins_entry, has_entry};
 use sa_base::Record;
 
 /// An entry of the kernel closes an event with these records.
-pub fn has_entry(records: &[Record]) -> bool
+pub(crate) fn has_entry(records: &[Record]) -> bool
     ensures { result ≡ has_entry records.now }
 {
     match records {

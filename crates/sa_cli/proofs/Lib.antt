@@ -3,7 +3,7 @@ mod Refusals
 mod Inputs
 mod Finds
 mod Scripts
-mod Doing
+mod ScriptCommands
 mod Sessions
 mod Packages
 mod Results

@@ -16,8 +16,8 @@ use Rattle.sa_script.specs.Reading.{script_of}
 use Rattle.sa_script.specs.Reply.{reply_text}
 use Rattle.sa_debug.specs.Session.{Session, fresh, DoAll}
 use Rattle.sa_debug.specs.OverMachines.{over_machines}
-use Rattle.sa_debug_laws.specs.Sessions.{IsLegalSession}
-use Rattle.sa_debug_laws.specs.Told.{IsTold, CameSoFar, IsToldSoFar, by_history}
+use Rattle.sa_package_runs.specs.Sessions.{IsLegalSession}
+use Rattle.sa_package_runs.specs.Told.{IsTold, CameSoFar, IsToldSoFar, by_history}
 use Rattle.sa_cli.specs.declared.session.Undebugged.{Undebugged}
 use Rattle.sa_cli.specs.declared.session.Undebugged.TheVariants.{BadScript, OutOfMemory}
 

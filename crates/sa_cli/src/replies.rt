@@ -4,7 +4,7 @@ ghost use Rattle.sa_core.specs.View.{machine};
 ghost use Rattle.sa_debug.specs.OverMachines.{over_machines, session};
 ghost use Rattle.sa_package_model.specs.Step.{fast_calls};
 ghost use Rattle.sa_script.specs.Text.{FitsCommand};
-ghost use Rattle.sa_debug_laws.specs.Told.{CameSoFar};
+ghost use Rattle.sa_package_runs.specs.Told.{CameSoFar};
 ghost use Rattle.sa_cli.specs.Debugged.{AreDone};
 
 use sa_debug::Session;

@@ -7,8 +7,10 @@ use crate::replies::do_all;
 use sa_base::{Bad, End, MAX_EVENTS, Trace, Unread};
 use sa_core::Core;
 use sa_debug::Session;
-use sa_debug_laws::laws::{fast_threads_can_be_debugged, sessions_are_legal, sessions_are_told};
 use sa_package::FastThreads;
+use sa_package_runs::sessions::{
+    fast_threads_can_be_debugged, sessions_are_legal, sessions_are_told,
+};
 use sa_replay::Replay;
 use sa_script::laws::scripts_are_read;
 use sa_script::{DebugCommand, read_script};

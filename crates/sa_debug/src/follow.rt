@@ -35,7 +35,7 @@ impl Follower {
         Follower { replay, taken: 0 }
     }
 
-    /// Lets go of it.
+    /// Lets go of the follower, with its replay.
     pub(crate) fn discard(self) {
         let Follower { replay, taken: _ } = self;
         replay.discard();

@@ -13,7 +13,7 @@ use sa_package_keys::{put_flag, put_number, put_thread};
 use std::alloc::AllocError;
 
 /// Adds the bytes of what matters of a context of the space. Fails only where memory runs out.
-pub fn put_context_of<U: Keyed>(
+pub(crate) fn put_context_of<U: Keyed>(
     core: &Core<U>,
     s: SpaceNo,
     ctx: &U::Ctx,
@@ -47,7 +47,7 @@ fn put_stopped<U: Keyed>(
 
 /// Adds the bytes of the context that is held of an activation of the space, if one is. Fails only where memory runs
 /// out.
-pub fn put_held<U: Keyed>(
+pub(crate) fn put_held<U: Keyed>(
     core: &Core<U>,
     s: SpaceNo,
     a: ActNo,

@@ -18,7 +18,11 @@ use sa_package_keys::put_number;
 use std::alloc::{AllocError, Global};
 
 /// Adds the bytes of the I/Os under way, in the order in which they are due. Fails only where memory runs out.
-pub fn put_ios<U: Keyed>(alloc: Global, core: &Core<U>, key: &mut Vec<u8>) -> Result<(), AllocError>
+pub(crate) fn put_ios<U: Keyed>(
+    alloc: Global,
+    core: &Core<U>,
+    key: &mut Vec<u8>,
+) -> Result<(), AllocError>
     ensures { OnOk result (key.new.items ≡ key.old.items
         ++ list (io_key U.context_key) (outlook U.plain (machine core.now)).ios) }
 {

@@ -17,7 +17,7 @@ use sa_package_keys::{put_flag, put_number, put_space};
 use std::alloc::AllocError;
 
 /// Adds the bytes of each processor. Fails only where memory runs out.
-pub fn put_processors<U: Keyed>(core: &Core<U>, key: &mut Vec<u8>) -> Result<(), AllocError>
+pub(crate) fn put_processors<U: Keyed>(core: &Core<U>, key: &mut Vec<u8>) -> Result<(), AllocError>
     ensures { let seen = outlook U.plain (machine core.now) in OnOk result (key.new.items ≡ key.old.items
         ++ flat_map (processor_key U.context_key seen) (range_with_len 0 (length seen.owners))) }
 {

@@ -17,7 +17,7 @@ use sa_package_keys::put_number;
 use std::alloc::AllocError;
 
 /// Adds the bytes of each space. Fails only where memory runs out.
-pub fn put_spaces<U: Keyed>(core: &Core<U>, key: &mut Vec<u8>) -> Result<(), AllocError>
+pub(crate) fn put_spaces<U: Keyed>(core: &Core<U>, key: &mut Vec<u8>) -> Result<(), AllocError>
     ensures { let seen = outlook U.plain (machine core.now) in OnOk result (key.new.items ≡ key.old.items
         ++ flat_map (space_key U.context_key seen) (range_with_len 0 (length seen.demands))) }
 {
@@ -86,7 +86,7 @@ fn put_note<U: Keyed>(
 }
 
 /// Adds how many activations of each space are taken. Fails only where memory runs out.
-pub fn put_taken<U: Keyed>(core: &Core<U>, key: &mut Vec<u8>) -> Result<(), AllocError>
+pub(crate) fn put_taken<U: Keyed>(core: &Core<U>, key: &mut Vec<u8>) -> Result<(), AllocError>
     ensures { OnOk result (key.new.items ≡ key.old.items
         ++ flat_map (taken_key (outlook U.plain (machine core.now))) (range_with_len 0 MAX_SPACES)) }
 {

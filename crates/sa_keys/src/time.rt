@@ -17,7 +17,7 @@ use std::alloc::AllocError;
 
 /// Adds the bytes of the time: the space that is served first, how far the slice has gone, and the event while an
 /// eviction is to come. Fails only where memory runs out.
-pub fn put_time<U: Keyed>(core: &Core<U>, key: &mut Vec<u8>) -> Result<(), AllocError>
+pub(crate) fn put_time<U: Keyed>(core: &Core<U>, key: &mut Vec<u8>) -> Result<(), AllocError>
     ensures { let m = machine core.now in OnOk result (key.new.items ≡ key.old.items
         ++ (number (first_space m.kernel m.event)
         ++ number (beat m.workload.slice m.event)

@@ -9,7 +9,7 @@ use sa_core::Core;
 use std::alloc::{AllocError, Global};
 
 /// Adds the bytes of each space's user level. Fails only where memory runs out.
-pub fn put_users<U: Keyed>(
+pub(crate) fn put_users<U: Keyed>(
     alloc: Global,
     core: &Core<U>,
     key: &mut Vec<u8>,

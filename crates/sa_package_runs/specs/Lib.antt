@@ -3,3 +3,5 @@ pub mod Calls
 pub mod Whole
 pub mod Threads
 pub mod Commits
+pub mod Sessions
+pub mod Told

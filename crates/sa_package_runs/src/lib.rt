@@ -1,4 +1,5 @@
-//! Each run of the machine with either package is a legal run.
+//! Each run of the machine with either package is a legal run, and so is the trace of each debugging session.
 #![tactic(auto)]
 
 pub mod laws;
+pub mod sessions;

@@ -31,7 +31,7 @@ pub fn schedule(
 }
 
 /// How many turns the way to the state takes, at most its number.
-pub fn depth_of(states: &[State], state: usize) -> u32
+pub(crate) fn depth_of(states: &[State], state: usize) -> u32
     requires within { state < length states.now }
     requires few { length states.now ≤ MAX_STATES }
     requires linked { AreLinked states.now }

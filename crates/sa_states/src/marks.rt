@@ -9,7 +9,7 @@ use sa_explore_model::State;
 use std::alloc::{AllocError, Global};
 
 /// The marks of the states: those are marked from which turns lead to a state with an end. Fails only where memory runs out.
-pub fn marked(
+pub(crate) fn marked(
     alloc: Global,
     processors: u16,
     states: &[State],

@@ -1,13 +1,14 @@
 // What a line word holds, which no clause says: a poll is said to find some event at which the line was raised.
 use sa_base::ProcNo;
 use sa_lines::LineWords;
+use std::alloc::AllocError;
 use std::test::Fail;
 
 #[test]
 fn a_poll_finds_what_was_stored_last(rt: HostRuntime) -> Result<(), Fail> {
     let (words, mut keeper, mut pollers) = LineWords::new(rt.alloc(), 2)?;
     let Some(mut poller) = pollers.pop() else {
-        return Ok(());
+        return Err(Fail::from(AllocError));
     };
     assert_eq!(rt; poller.proc().0, 1);
     assert_eq!(rt; poller.poll(&words), None);

@@ -19,7 +19,7 @@ use std::test::Fail;
 
 // What a seat does, and what comes of it.
 #[derive(Clone, Copy)]
-pub(crate) enum Act {
+enum Act {
     // The seat of this index enters so often, and is answered so each time.
     Enters(usize, u16, Entered),
     // It runs ahead, at most so many instructions; this ends it, and so many are pending.
@@ -110,7 +110,7 @@ fn play_named<U: UserLevel, K: Named, R: Wait + Abort>(
 }
 
 // The seats of a machine for the workload of the text act so.
-pub(crate) fn play<U: UserLevel, R: Wait + Abort>(
+fn play<U: UserLevel, R: Wait + Abort>(
     rt: &R,
     alloc: Global,
     text: &str,
@@ -123,7 +123,7 @@ pub(crate) fn play<U: UserLevel, R: Wait + Abort>(
     play_named::<U, Brand, R>(rt, alloc, core, words, keeper, pollers, acts)
 }
 
-pub(crate) const TURN: Entered = Entered::Turned(1);
+const TURN: Entered = Entered::Turned(1);
 
 #[test]
 fn a_burst_becomes_as_many_events(rt: HostRuntime) -> Result<(), Fail> {

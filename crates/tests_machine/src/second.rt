@@ -1,10 +1,8 @@
 // Runs of another user level on the same core.
 use crate::one_thread::OneThread;
-use crate::rows::{Act, TURN, play};
 use sa_base::{ActNo, End, Item, Note, ProcNo, Record, SpaceNo};
 use sa_run::run;
 use sa_sched::Kind;
-use sa_seat::{BurstEnd, Entered};
 use sa_workload::read;
 use std::alloc::AllocError;
 use std::process::Abort;
@@ -13,10 +11,6 @@ use std::test::Fail;
 // Two spaces with two cells and one, on one processor.
 const LOOKS: &str =
     "workload 1\nprocessors 1\nfetch 10\nspaces 2\nspace 0 0 0 2 1\nprogram 1\nend\nspace 0 0 0 1 1\nprogram 1\nend\nclose\n";
-
-// A space whose first instruction jumps to itself, on one processor.
-const LOOPS: &str =
-    "workload 1\nprocessors 1\nfetch 10\nspaces 1\nspace 0 0 0 0 1\nprogram 2\njnz r0 0\nend\nclose\n";
 
 // The last records of the history, all of processor 0, with their events: the first space offers its processor, and the second one looks.
 const OFFERED: [(u64, Record); 9] = [
@@ -52,16 +46,4 @@ fn another_user_level_runs(rt: HostRuntime) -> Result<(), Fail> {
     assert_eq!(rt; ended.events, 6);
     ends_with(&rt, ended.trace.items(), &OFFERED);
     Ok(())
-}
-
-// Behind its upcall the thread jumps to itself: three times by one burst, and once by a turn.
-#[test]
-fn another_user_level_goes(rt: HostRuntime) -> Result<(), Fail> {
-    let acts = [
-        Act::Enters(0, 1, TURN),
-        Act::Bursts(0, 3, BurstEnd::Limit, 3),
-        Act::Enters(0, 1, Entered::Turned(3)),
-        Act::Enters(0, 1, TURN),
-    ];
-    play::<OneThread, HostRuntime>(&rt, rt.alloc(), LOOPS, &acts)
 }

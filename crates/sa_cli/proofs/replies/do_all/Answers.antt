@@ -5,7 +5,7 @@ use Rattle.sa_script.specs.declared.command.DebugCommand.{DebugCommand}
 use Rattle.sa_script.specs.declared.command.DebugCommand.TheVariants.{Break}
 use Rattle.sa_script.specs.Text.{FitsCommand}
 use Rattle.sa_debug.specs.OverMachines.{session}
-use Rattle.sa_cli.proofs.Doing.{done-more, came-at, came-behind}
+use Rattle.sa_cli.proofs.ScriptCommands.{done-more, came-at, came-behind}
 use Rattle.sa_cli.proofs.replies.do_all.Goals as goal
 
 pub command-requires-after_bounds : goal.command-requires-after_bounds

@@ -4,7 +4,7 @@ use Rattle.sa_core_model.specs.Run.{opening}
 use Rattle.sa_package_runs.specs.Runs.{FastMachine}
 use Rattle.sa_package_model.specs.Step.{fast_calls}
 use Rattle.sa_debug.specs.OverMachines.{session}
-use Rattle.sa_cli.proofs.Doing.{over-so, partly-so}
+use Rattle.sa_cli.proofs.ScriptCommands.{over-so, partly-so}
 use Rattle.sa_cli.proofs.session.do_script.Goals as goal
 
 pub start-session-requires-clause-opening : goal.start-session-requires-clause-opening

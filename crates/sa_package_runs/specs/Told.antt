@@ -11,7 +11,7 @@ use Rattle.sa_script.specs.declared.reply.Reply.{Reply}
 use Rattle.sa_debug.specs.OverHistories.{over_histories, opening_items}
 use Rattle.sa_debug.specs.OverMachines.{over_machines}
 use Rattle.sa_debug.specs.Session.{Watched, Session, fresh, DoAll, DoesSoFar}
-use Rattle.sa_debug_laws.specs.Sessions.{IsSession}
+use Rattle.sa_package_runs.specs.Sessions.{IsSession}
 
 -- over histories these commands lead from the opening of a workload to a session, with these replies
 abbrev pub Leads : WorkloadView → (budget : ℕ) → List DebugCommand → Session (List Item) → List Reply → Type 0

@@ -28,16 +28,16 @@ use Rattle.sa_debug.specs.OverHistories.{AddsTurn, over_histories, opening_items
 use Rattle.sa_debug.specs.OverMachines.{over_machines}
 use Rattle.sa_debug.specs.Session.{Session, fresh, DoAll, DoesSoFar}
 use Rattle.sa_debug.specs.Views.{state_behind, view_in}
-use Rattle.sa_debug_laws.specs.Sessions.{IsSession}
-use Rattle.sa_debug_laws.specs.Told.{Leads, IsTold, CameSoFar, LeadsSoFar, IsToldSoFar, by_history}
-use Rattle.sa_debug_laws.proofs.Legal.{reached, reached-keeps, by-moves}
-use Rattle.sa_debug_laws.proofs.OneWay.{Begins, histories-go}
-use Rattle.sa_debug_laws.proofs.Only.{only}
-use Rattle.sa_debug_laws.proofs.Partly.{only-partly, common-replies}
-use Rattle.sa_debug_laws.proofs.Playable.{events-state}
-use Rattle.sa_debug_laws.proofs.Reaching.{turn-goes}
-use Rattle.sa_debug_laws.proofs.Showing.{Shows, all-seen, so-far-seen}
-use Rattle.sa_debug_laws.proofs.Standing.{stands-same}
+use Rattle.sa_package_runs.specs.Sessions.{IsSession}
+use Rattle.sa_package_runs.specs.Told.{Leads, IsTold, CameSoFar, LeadsSoFar, IsToldSoFar, by_history}
+use Rattle.sa_package_runs.proofs.Legal.{reached, reached-keeps, by-moves}
+use Rattle.sa_package_runs.proofs.OneWay.{Begins, histories-go}
+use Rattle.sa_package_runs.proofs.Only.{only}
+use Rattle.sa_package_runs.proofs.Partly.{only-partly, common-replies}
+use Rattle.sa_package_runs.proofs.Playable.{events-state}
+use Rattle.sa_package_runs.proofs.Reaching.{turn-goes}
+use Rattle.sa_package_runs.proofs.Showing.{Shows, all-seen, so-far-seen}
+use Rattle.sa_package_runs.proofs.Standing.{stands-same}
 
 module _ (w : WorkloadView) (budget : ℕ) (ok : IsWorkload w) where
   -- the events after the opening

@@ -1,4 +1,4 @@
--- Command by command.
+-- The commands of a script, one after another: what is done and told after each, also where memory runs out at it.
 use Rattle.std.proofs.Common.{◌≡◌, ℕ, ◌+◌, ◌<◌, List, [], ◌∷◌, ◌++◌, length, get_or, take, Option, Some, None, refl, sym, ap, ◌∙◌, subst, inl, inr}
 use Rattle.std.specs.Prelude.{unwrap_or}
 use Rattle.std.proofs.lemmas.Grind.{flat_map-append}
@@ -18,8 +18,8 @@ use Rattle.sa_script.specs.declared.reply.Reply.{Reply}
 use Rattle.sa_script.specs.Reply.{reply_text}
 use Rattle.sa_debug.specs.Session.{Watched, Session, fresh, Does, DoesSoFar, DoAll}
 use Rattle.sa_debug.specs.OverMachines.{over_machines}
-use Rattle.sa_debug_laws.specs.Sessions.{SessionsAreLegal, SessionsSoFarAreLegal, IsLegalSession}
-use Rattle.sa_debug_laws.specs.Told.{CameSoFar, SessionsAreTold, PartsOfSessionsAreTold}
+use Rattle.sa_package_runs.specs.Sessions.{SessionsAreLegal, SessionsSoFarAreLegal, IsLegalSession}
+use Rattle.sa_package_runs.specs.Told.{CameSoFar, SessionsAreTold, PartsOfSessionsAreTold}
 use Rattle.sa_cli.specs.Debugged.{replies_text, AreDone, told_end, IsOver, RanSoFar}
 
 do-push : {M : Type 0} (o : Watched M) (cs : List DebugCommand) (s between t : Session M) (replies : List Reply) (c : DebugCommand) (reply : Reply)

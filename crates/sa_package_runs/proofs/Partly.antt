@@ -5,9 +5,9 @@ use Rattle.sa_script.specs.declared.command.DebugCommand.{DebugCommand}
 use Rattle.sa_script.specs.declared.command.DebugCommand.TheVariants.{Break, Clear, Halt, Go, Step, Run, Show}
 use Rattle.sa_script.specs.declared.reply.Reply.{Reply}
 use Rattle.sa_debug.specs.Session.{Watched, Session, with_machine, RunsSoFar, DoesSoFar, DoAll}
-use Rattle.sa_debug_laws.specs.Told.{CameSoFar}
-use Rattle.sa_debug_laws.proofs.Keeping.{does-so_far, does-all}
-use Rattle.sa_debug_laws.proofs.Only.{GoesOneWay, from, only-before}
+use Rattle.sa_package_runs.specs.Told.{CameSoFar}
+use Rattle.sa_package_runs.proofs.Keeping.{does-so_far, does-all}
+use Rattle.sa_package_runs.proofs.Only.{GoesOneWay, from, only-before}
 
 module _ {N : Type 0} (q : Watched N) where
   -- A command that memory ran out at has changed at most how far the thing has come.

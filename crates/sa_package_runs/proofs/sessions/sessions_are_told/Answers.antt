@@ -1,5 +1,5 @@
-use Rattle.sa_debug_laws.proofs.Told.{session-told, so-far-told, part-told}
-use Rattle.sa_debug_laws.proofs.laws.sessions_are_told.Goals as goal
+use Rattle.sa_package_runs.proofs.Told.{session-told, so-far-told, part-told}
+use Rattle.sa_package_runs.proofs.sessions.sessions_are_told.Goals as goal
 
 pub returns-clause-whole : goal.returns-clause-whole
 returns-clause-whole c = λ w budget commands s replies ok done. session-told w budget ok commands s replies done

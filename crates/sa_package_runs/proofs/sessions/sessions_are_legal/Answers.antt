@@ -1,5 +1,5 @@
-use Rattle.sa_debug_laws.proofs.Legal.{session-legal, so-far-legal}
-use Rattle.sa_debug_laws.proofs.laws.sessions_are_legal.Goals as goal
+use Rattle.sa_package_runs.proofs.Legal.{session-legal, so-far-legal}
+use Rattle.sa_package_runs.proofs.sessions.sessions_are_legal.Goals as goal
 
 pub returns-clause-whole : goal.returns-clause-whole
 returns-clause-whole c = session-legal

@@ -12,7 +12,7 @@ use Rattle.sa_laws.specs.Readings.{Readings}
 use Rattle.sa_laws.specs.Rules.{UserRules}
 use Rattle.sa_histories.proofs.Traces.{items-events}
 use Rattle.sa_debug.specs.OverHistories.{AddsTurn, over_histories, read}
-use Rattle.sa_debug_laws.proofs.Only.{GoesOneWay}
+use Rattle.sa_package_runs.proofs.Only.{GoesOneWay}
 
 -- one history begins with another
 abbrev pub Begins : List Item → List Item → Type 0

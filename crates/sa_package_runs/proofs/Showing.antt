@@ -15,7 +15,7 @@ use Rattle.sa_debug.specs.declared.points.TheConstants.{MAX_POINTS}
 use Rattle.sa_debug.specs.Order.{goes, in_order}
 use Rattle.sa_debug.specs.Session.{Watched, Session, Gives, shown, with_point, without_point, has_point, with_halt, first, next, point_if, point_at}
 use Rattle.sa_debug.specs.Session.{SaysEnded, Turns, Steps, IsHeld, Stops, Passes, IsOver, RunsTo, RunsSoFar, Does, DoesSoFar, DoAll}
-use Rattle.sa_debug_laws.proofs.Keeping.{does, turned}
+use Rattle.sa_package_runs.proofs.Keeping.{does, turned}
 
 -- From a thing of which P holds, the other is seen: it makes the same turns, ends in the same way, and the same is read of it.
 pub record Shows {M N : Type 0} (o : Watched M) (q : Watched N) (f : M → N) (P : M → Type 0) : Type 0 where

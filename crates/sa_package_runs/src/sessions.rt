@@ -1,6 +1,6 @@
 //! What holds of each debugging session of FastThreads, whatever its commands are; and that each user level can be debugged. No function here does anything.
-ghost use Rattle.sa_debug_laws.specs.Sessions.{FastThreadsCanBeDebugged, PrioThreadsCanBeDebugged, SessionsAreLegal, SessionsSoFarAreLegal};
-ghost use Rattle.sa_debug_laws.specs.Told.{SessionsAreTold, SessionsSoFarAreTold, PartsOfSessionsAreTold};
+ghost use Rattle.sa_package_runs.specs.Sessions.{FastThreadsCanBeDebugged, PrioThreadsCanBeDebugged, SessionsAreLegal, SessionsSoFarAreLegal};
+ghost use Rattle.sa_package_runs.specs.Told.{SessionsAreTold, SessionsSoFarAreTold, PartsOfSessionsAreTold};
 
 /// What a session asks of its user level FastThreads gives: each turn adds items to the trace, and each item is one that the
 /// abstract machine can do.

@@ -14,8 +14,8 @@ use Rattle.sa_script.specs.declared.command.DebugCommand.{DebugCommand}
 use Rattle.sa_script.specs.declared.reply.Reply.{Reply}
 use Rattle.sa_debug.specs.Session.{Session, fresh, DoesSoFar}
 use Rattle.sa_debug.specs.OverMachines.{over_machines}
-use Rattle.sa_debug_laws.specs.Sessions.{IsSession, IsLegalSession}
-use Rattle.sa_debug_laws.proofs.Keeping.{does-all, does-so_far}
+use Rattle.sa_package_runs.specs.Sessions.{IsSession, IsLegalSession}
+use Rattle.sa_package_runs.proofs.Keeping.{does-all, does-so_far}
 
 pub reached-keeps : (w : WorkloadView) (m : FastMachine) (p : ProcNo) (after : FastMachine)
     → IsReachedByTurns w m → IsMove fast_calls m (turn p) after → IsReachedByTurns w after

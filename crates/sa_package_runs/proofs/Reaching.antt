@@ -18,7 +18,7 @@ use Rattle.sa_legal_runs.proofs.matching.Composed.{IsComposed, composed-goes}
 use Rattle.sa_legal_runs.proofs.user.Turns.{composed-turn}
 use Rattle.sa_legal_runs.proofs.runs.Opening.{composed-opening}
 use Rattle.sa_debug.specs.Reached.{CanPlay, Reaches, IsPlayable}
-use Rattle.sa_debug_laws.proofs.Playable.{events-play}
+use Rattle.sa_package_runs.proofs.Playable.{events-play}
 
 module _ {U C : Type 0} (level : UserLevel U C) where
   -- a turn makes the history longer by an event

@@ -11,7 +11,7 @@ use Rattle.sa_script.specs.declared.reply.Reply.{Reply}
 use Rattle.sa_script.specs.declared.reply.Reply.TheVariants.{Event, Ended, AtBreak}
 use Rattle.sa_debug.specs.Session.{Watched, Session, Gives, with_halt, with_machine, next, point_at}
 use Rattle.sa_debug.specs.Session.{SaysEnded, Turns, Steps, IsHeld, Stops, IsNext, IsOver, RunsTo, Does, DoAll}
-use Rattle.sa_debug_laws.proofs.Keeping.{ran, does-all}
+use Rattle.sa_package_runs.proofs.Keeping.{ran, does-all}
 
 -- What goes one way: it has one end, and each turn of it leads on. Of two turns that both lead to the same later state the
 -- states after them are one.

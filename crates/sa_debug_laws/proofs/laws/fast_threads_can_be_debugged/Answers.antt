@@ -1,6 +1,0 @@
-use Rattle.sa_fast_laws.proofs.FastLaws.{fast_level}
-use Rattle.sa_debug_laws.proofs.Reaching.{can-be-debugged}
-use Rattle.sa_debug_laws.proofs.laws.fast_threads_can_be_debugged.Goals as goal
-
-pub returns : goal.returns
-returns c = can-be-debugged fast_level

@@ -1,6 +1,0 @@
-use Rattle.sa_prio_laws.proofs.PrioLaws.{prio_level}
-use Rattle.sa_debug_laws.proofs.Reaching.{can-be-debugged}
-use Rattle.sa_debug_laws.proofs.laws.prio_threads_can_be_debugged.Goals as goal
-
-pub returns : goal.returns
-returns c = can-be-debugged prio_level

@@ -1,4 +1,0 @@
-//! What holds of each debugging session of FastThreads.
-#![tactic(auto)]
-
-pub mod laws;
