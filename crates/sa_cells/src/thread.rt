@@ -1,7 +1,7 @@
 // What the cell of a thread holds.
 ghost use Rattle.std.specs.Prelude.{◌≡◌, ◌++◌, OnOk};
 ghost use Rattle.std.specs.List.{flat_map};
-ghost use Rattle.sa_workload.specs.Text.{operand_word};
+ghost use Rattle.sa_workload_lines.specs.Text.{operand_word};
 ghost use Rattle.sa_check_moment.specs.Seen.{seen};
 ghost use Rattle.sa_cells.specs.Thread.{operand_text, instr_text, place_text, next_text, going_text, made_text, state_text, thread_text};
 

@@ -1,8 +1,8 @@
 -- Where nothing fails and the input is told, a command is done, or the input refused.
 use Rattle.std.proofs.Common.{◌≡◌, ◌⊎◌, ℕ, List, refl, ap, inl, inr}
 use Rattle.sa_base.specs.declared.record.Item.{Item}
-use Rattle.sa_workload.specs.Text.{IsText, IsText1}
-use Rattle.sa_workload.specs.Bad.{BadAt, BadAt1}
+use Rattle.sa_workload_lines.specs.Text.{IsText, IsText1}
+use Rattle.sa_workload_lines.specs.Bad.{BadAt, BadAt1}
 use Rattle.sa_command.specs.declared.command.Command.{Command}
 use Rattle.sa_command.specs.declared.command.Command.TheVariants.{Run, Threads, Load, Migrate, Check, Vp, Debug, Explore}
 use Rattle.sa_cli.specs.declared.outcome.Ran.{Ran}

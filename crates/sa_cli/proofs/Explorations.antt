@@ -1,7 +1,7 @@
 -- That what `explore` answers is complete.
 use Rattle.std.proofs.Common.{ℕ, Option, refl, ap, inl, inr}
-use Rattle.sa_workload.specs.Text.{IsText}
-use Rattle.sa_workload.specs.Bad.{BadAt}
+use Rattle.sa_workload_lines.specs.Text.{IsText}
+use Rattle.sa_workload_lines.specs.Bad.{BadAt}
 use Rattle.sa_command.specs.declared.command.PackageWord.{PackageWord}
 use Rattle.sa_command.specs.declared.command.GiveWord.{GiveWord}
 use Rattle.sa_cli.specs.declared.outcome.Status.{Status}

@@ -4,8 +4,8 @@ use Rattle.std.proofs.lemmas.List.{append-nil}
 use Rattle.std.specs.Prelude.{IfSome}
 use Rattle.sa_base.specs.declared.refusal.Bad.{Bad}
 use Rattle.sa_spaces.specs.Workload.{WorkloadView}
-use Rattle.sa_workload.specs.Bad.{BadAt}
-use Rattle.sa_workload.specs.Text.{IsText}
+use Rattle.sa_workload_lines.specs.Bad.{BadAt}
+use Rattle.sa_workload_lines.specs.Text.{IsText}
 use Rattle.sa_workload.proofs.whole.OneBad.{texts_differ}
 use Rattle.sa_trace.specs.Reading.{Told, read_of}
 use Rattle.sa_check.specs.declared.verdict.Verdict.{Verdict}
@@ -18,7 +18,7 @@ use Rattle.sa_cli.specs.declared.found.Found.TheVariants.{Judged, BadWorkload, B
 use Rattle.sa_cli.specs.declared.limits.TheConstants.{TEXTS_LIMIT}
 use Rattle.sa_io.specs.Input.{ReadsInput}
 use Rattle.sa_cli.specs.Refusals.{too_long}
-use Rattle.sa_workload.specs.Texts.{workload_part, second_part}
+use Rattle.sa_workload_lines.specs.Texts.{workload_part, second_part}
 use Rattle.sa_cli.specs.Texts.{HasWorkload, last_told, IsJudged, HasBadWorkload, HasBadTrace, IsFound}
 use Rattle.sa_cli.proofs.Inputs.{all-parted, refused-once, text-not_refused}
 use Rattle.sa_cli.proofs.Refusals.{long-front}

@@ -3,8 +3,8 @@ use Rattle.std.proofs.Common.{◌≡◌, ℕ, ◌≤◌, List, length, Option, S
 use Rattle.std.specs.Prelude.{IfSome}
 use Rattle.sa_base.specs.declared.refusal.Bad.{Bad}
 use Rattle.sa_spaces.specs.Workload.{WorkloadView}
-use Rattle.sa_workload.specs.Text.{IsText, IsText1}
-use Rattle.sa_workload.specs.Bad.{BadAt, BadAt1}
+use Rattle.sa_workload_lines.specs.Text.{IsText, IsText1}
+use Rattle.sa_workload_lines.specs.Bad.{BadAt, BadAt1}
 use Rattle.sa_workload.proofs.whole.Whole.{answers, answers1}
 use Rattle.sa_cli.specs.declared.limits.TheConstants.{INPUT_LIMIT}
 use Rattle.sa_cli.specs.Input.{Texts, GaveText}

@@ -5,7 +5,7 @@ use Rattle.sa_base.specs.declared.record.Item.{Item}
 use Rattle.sa_base.specs.declared.record.End.{End}
 use Rattle.sa_base.specs.declared.record.End.TheVariants as end
 use Rattle.sa_spaces.specs.Workload.{WorkloadView, IsWorkload}
-use Rattle.sa_workload.specs.Text.{IsText}
+use Rattle.sa_workload_lines.specs.Text.{IsText}
 use Rattle.sa_run.specs.Run.{RunsTo, RunsUnended}
 use Rattle.sa_command.specs.declared.command.Command.{Command}
 use Rattle.sa_command.specs.declared.command.Command.TheVariants.{Run, Threads, Load, Migrate, Check, Vp, Debug, Explore}

@@ -4,8 +4,8 @@ use Rattle.std.proofs.lemmas.List.{append-nil}
 use Rattle.std.specs.Prelude.{IfSome}
 use Rattle.sa_base.specs.declared.refusal.Bad.{Bad}
 use Rattle.sa_spaces.specs.Workload.{WorkloadView}
-use Rattle.sa_workload.specs.Bad.{BadAt}
-use Rattle.sa_workload.specs.Text.{IsText}
+use Rattle.sa_workload_lines.specs.Bad.{BadAt}
+use Rattle.sa_workload_lines.specs.Text.{IsText}
 use Rattle.sa_workload.proofs.whole.OneBad.{texts_differ}
 use Rattle.sa_script.specs.declared.command.DebugCommand.{DebugCommand}
 use Rattle.sa_script.specs.Reading.{script_of}
@@ -19,7 +19,7 @@ use Rattle.sa_cli.specs.Debugging.{BeginsWith, IsScriptOf, RefusesWorkload, Refu
 use Rattle.sa_cli.specs.Debugging.Scripted.{Accepted, BadWorkload, BadScript}
 use Rattle.sa_io.specs.Input.{ReadsInput}
 use Rattle.sa_cli.specs.Refusals.{too_long}
-use Rattle.sa_workload.specs.Texts.{workload_part, second_part}
+use Rattle.sa_workload_lines.specs.Texts.{workload_part, second_part}
 use Rattle.sa_cli.proofs.Inputs.{all-parted, refused-once, text-not_refused}
 use Rattle.sa_cli.proofs.Refusals.{long-front}
 

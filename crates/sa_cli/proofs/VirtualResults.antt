@@ -5,8 +5,8 @@ use Rattle.sa_base.specs.declared.record.Item.{Item}
 use Rattle.sa_base.specs.declared.record.End.{End}
 use Rattle.sa_base.specs.declared.record.End.TheVariants as end
 use Rattle.sa_spaces.specs.Workload.{WorkloadView}
-use Rattle.sa_workload.specs.Text.{IsText}
-use Rattle.sa_workload.specs.Bad.{BadAt}
+use Rattle.sa_workload_lines.specs.Text.{IsText}
+use Rattle.sa_workload_lines.specs.Bad.{BadAt}
 use Rattle.sa_sched.specs.Order.{Order}
 use Rattle.sa_command.specs.declared.command.ScheduleWord.{ScheduleWord}
 use Rattle.sa_vp.specs.Run.{RunsTo, RunsSoFar}

@@ -5,8 +5,8 @@ use Rattle.sa_io.specs.Faults.{HasRisen}
 use Rattle.sa_sched.specs.Order.{RoundRobin}
 use Rattle.sa_gen.specs.Generated.{generated}
 use Rattle.sa_trace.specs.TraceText.{trace_text, last_line_of}
-use Rattle.sa_workload.specs.Text.{IsText}
-use Rattle.sa_workload.specs.Bad.{BadAt, BadAt1}
+use Rattle.sa_workload_lines.specs.Text.{IsText}
+use Rattle.sa_workload_lines.specs.Bad.{BadAt, BadAt1}
 use Rattle.sa_command.specs.declared.command.ScheduleWord.{ScheduleWord}
 use Rattle.sa_command.specs.declared.command.PackageWord.{PackageWord}
 use Rattle.sa_command.specs.declared.command.Command.{Command}

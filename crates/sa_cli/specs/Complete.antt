@@ -3,8 +3,8 @@ use Rattle.std.specs.Prelude.{◌≡◌, ◌⊎◌, ⊤, ℕ, ◌≤◌, List, l
 use Rattle.sa_base.specs.declared.refusal.Bad.{Bad}
 use Rattle.sa_spaces.specs.Workload.{WorkloadView}
 use Rattle.sa_io.specs.Faults.{HasRisen}
-use Rattle.sa_workload.specs.Text.{IsText, IsText1}
-use Rattle.sa_workload.specs.Bad.{BadAt, BadAt1}
+use Rattle.sa_workload_lines.specs.Text.{IsText, IsText1}
+use Rattle.sa_workload_lines.specs.Bad.{BadAt, BadAt1}
 use Rattle.sa_command.specs.declared.command.Command.{Command}
 use Rattle.sa_command.specs.declared.command.Command.TheVariants.{Run, Threads, Load, Migrate, Check, Vp, Debug, Explore}
 use Rattle.sa_cli.specs.declared.outcome.Status.{Status}

@@ -1,8 +1,8 @@
 -- What `explore` answers: the workload is that of which the source gave the text, and every order of its turns was gone through.
 use Rattle.std.specs.Prelude.{◌≡◌, ⊤, ℕ, ◌||◌, Bool, true, false, if◌then◌else◌, List, Option, Some, None, is_some}
 use Rattle.sa_spaces.specs.Workload.{WorkloadView}
-use Rattle.sa_workload.specs.Text.{IsText}
-use Rattle.sa_workload.specs.Bad.{BadAt}
+use Rattle.sa_workload_lines.specs.Text.{IsText}
+use Rattle.sa_workload_lines.specs.Bad.{BadAt}
 use Rattle.sa_io.specs.Faults.{HasRisen}
 use Rattle.sa_package_model.specs.Step.{fast_calls}
 use Rattle.sa_prio_model.specs.Step.{prio_calls}

@@ -3,9 +3,9 @@ use Rattle.std.specs.Prelude.{◌≡◌, ◌⊎◌, ℕ, ◌<◌, ◌≤◌, Lis
 use Rattle.sa_base.specs.declared.refusal.Bad.{Bad}
 use Rattle.sa_spaces.specs.Workload.{WorkloadView}
 use Rattle.sa_laws.specs.Ends.{LastLine}
-use Rattle.sa_workload.specs.Text.{IsText}
-use Rattle.sa_workload.specs.Bad.{BadAt}
-use Rattle.sa_workload.specs.Texts.{workload_part, second_part}
+use Rattle.sa_workload_lines.specs.Text.{IsText}
+use Rattle.sa_workload_lines.specs.Bad.{BadAt}
+use Rattle.sa_workload_lines.specs.Texts.{workload_part, second_part}
 use Rattle.sa_trace.specs.Reading.{Told, read_of}
 use Rattle.sa_check.specs.declared.verdict.Verdict.{Verdict}
 use Rattle.sa_check.specs.Verdict.{IsVerdict}

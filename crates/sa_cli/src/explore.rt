@@ -2,7 +2,7 @@
 ghost use Rattle.std.specs.Prelude.{◌≡◌, ◌+◌, ◌≤◌, IfOk, IfErr};
 ghost use Rattle.std.specs.Option.{option_copied};
 ghost use Rattle.sa_states.specs.declared.TheConstants.{MAX_STATES};
-ghost use Rattle.sa_workload.specs.Bad.{BadAt};
+ghost use Rattle.sa_workload_lines.specs.Bad.{BadAt};
 ghost use Rattle.sa_io.specs.Input.{LosesAtMost};
 ghost use Rattle.sa_explore_run.specs.Answer.{AreWithin};
 ghost use Rattle.sa_cli.specs.declared.limits.TheConstants.{INPUT_LIMIT};

@@ -3,7 +3,7 @@ use Rattle.std.specs.Prelude.{◌≡◌, ◌⊎◌, ⊤, ℕ, ◌<◌, ◌≤◌
 use Rattle.sa_base.specs.declared.refusal.Bad.{Bad}
 use Rattle.sa_spaces.specs.Workload.{WorkloadView}
 use Rattle.sa_trace.specs.Reading.{read_of}
-use Rattle.sa_workload.specs.Text.{IsText}
+use Rattle.sa_workload_lines.specs.Text.{IsText}
 use Rattle.sa_check_moment.specs.declared.rules.Rules.{Rules}
 use Rattle.sa_page.specs.Page.{IsPage, HasManyEvents}
 use Rattle.sa_picture.specs.declared.text.TheConstants.{INPUT_LIMIT}
@@ -14,7 +14,7 @@ use Rattle.sa_picture.specs.declared.request.Request.{Request}
 use Rattle.sa_picture.specs.declared.status.Status.{Status}
 use Rattle.sa_picture.specs.declared.status.Status.TheVariants.{BadWorkload, BadTrace, TooMuch, OutOfMemory}
 use Rattle.sa_picture.specs.Refusal.{too_long}
-use Rattle.sa_workload.specs.Texts.{workload_part, second_part}
+use Rattle.sa_workload_lines.specs.Texts.{workload_part, second_part}
 use Rattle.sa_picture.specs.Parts.{IsRefusedWorkload}
 use Rattle.sa_picture.specs.Drawn.{IsDrawn, IsNotDrawn}
 

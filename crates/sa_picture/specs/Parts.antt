@@ -3,7 +3,7 @@ use Rattle.std.specs.Prelude.{◌≡◌, ◌⊎◌, ⊤, ℕ, ◌<◌, ◌≤◌
 use Rattle.sa_base.specs.declared.refusal.Bad.{Bad}
 use Rattle.sa_base.specs.declared.refusal.Unread.{Unread}
 use Rattle.sa_base.specs.declared.refusal.Unread.TheVariants as unread
-use Rattle.sa_workload.specs.Bad.{BadAt}
+use Rattle.sa_workload_lines.specs.Bad.{BadAt}
 use Rattle.sa_picture.specs.declared.parts.TheConstants.{WORKLOAD_LIMIT}
 use Rattle.sa_picture.specs.Refusal.{too_long}
 

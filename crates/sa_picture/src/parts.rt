@@ -1,7 +1,7 @@
 // The two texts of an input: a workload text up to its first line that is `close`, and directly after it another text.
 ghost use Rattle.std.specs.Prelude.{◌≡◌, ◌≤◌, length, IfOk, IfErr};
-ghost use Rattle.sa_workload.specs.Text.{IsText};
-ghost use Rattle.sa_workload.specs.Texts.{workload_part, second_part};
+ghost use Rattle.sa_workload_lines.specs.Text.{IsText};
+ghost use Rattle.sa_workload_lines.specs.Texts.{workload_part, second_part};
 ghost use Rattle.sa_picture.specs.Parts.{IsNoWorkload};
 
 use crate::text::refusal_of_long;

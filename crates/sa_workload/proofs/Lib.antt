@@ -1,6 +1,4 @@
-pub mod fields
 pub mod forward
 pub mod causes
 pub mod whole
-pub mod calls
-mod Splitting
+pub mod OneLine

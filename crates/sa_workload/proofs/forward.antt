@@ -1,8 +1,3 @@
-pub mod Fronts
-pub mod Orders
-pub mod ShownStep
-pub mod Reached
-pub mod Sound
 pub mod Complete
 pub mod Completion
 pub mod Says

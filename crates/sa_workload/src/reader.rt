@@ -4,23 +4,20 @@ ghost use Rattle.std.specs.Option.{is_some};
 ghost use Rattle.sa_spaces.specs.Workload.{WorkloadView};
 ghost use Rattle.sa_text.specs.Line.{IsWithin, text_of_line};
 ghost use Rattle.sa_workload.specs.Answer.{IfBad};
-ghost use Rattle.sa_workload.specs.Bad.{BadAt, BadAt1};
-ghost use Rattle.sa_workload.specs.Text.{IsText, IsText1};
-ghost use Rattle.sa_workload.specs.Position.{IsReached};
-ghost use Rattle.sa_workload.specs.Fields.{and_then, index_of, line_numbers, numbered};
-ghost use Rattle.sa_workload.specs.Next.{fields_of, last_numbers, next_by};
-ghost use Rattle.sa_workload.specs.Steps.{expected};
+ghost use Rattle.sa_workload_lines.specs.Bad.{BadAt, BadAt1};
+ghost use Rattle.sa_workload_lines.specs.Text.{IsText, IsText1};
+ghost use Rattle.sa_workload_lines.specs.Position.{IsReached};
+ghost use Rattle.sa_workload_lines.specs.Fields.{and_then, index_of, line_numbers, numbered};
+ghost use Rattle.sa_workload_lines.specs.Next.{fields_of, last_numbers, next_by};
+ghost use Rattle.sa_workload_lines.specs.Steps.{expected};
 ghost use Rattle.sa_text.specs.Pieces.{is_printed};
 ghost use Rattle.sa_workload.specs.Reading.{line_in, read_of, IsReading};
-ghost use Rattle.sa_workload.specs.Stage.{position_of, Gives};
+ghost use Rattle.sa_workload_lines.specs.Stage.{position_of, Gives};
 
-use crate::cause::Refusal;
-use crate::field::Numbers;
-use crate::numbers::{read_end, read_numbers};
-use crate::stage::Reader;
 use sa_base::{Bad, Cause, Unread};
 use sa_spaces::Workload;
 use sa_text::{Line, Lines, Pieces, is_printed};
+use sa_workload_lines::{Numbers, Reader, Refusal, read_end, read_numbers};
 use std::alloc::Global;
 
 /// The greatest version of a workload text.
@@ -70,7 +67,7 @@ fn read_versions(alloc: Global, versions: u16, bytes: &[u8]) -> Result<Workload,
     let mut reader = Reader::new(alloc);
     while let Some(line) = lines.next() {
         let number = line.number;
-        if let Err(refusal) = reader.read_line(alloc, versions, bytes, line) {
+        if let Err(refusal) = read_line(&mut reader, alloc, versions, bytes, line) {
             return Err(refusal.at(number));
         }
     }
@@ -80,70 +77,68 @@ fn read_versions(alloc: Global, versions: u16, bytes: &[u8]) -> Result<Workload,
     }
 }
 
-impl Reader {
-    /// Goes on after this line.
-    fn read_line(
-        &mut self,
-        alloc: Global,
-        versions: u16,
-        bytes: &[u8],
-        line: Line,
-    ) -> Result<(), Refusal>
-        requires few { versions ≤ 3 }
-        requires reached { IsReached versions (position_of self.old) }
-        requires within { IsWithin bytes.now line }
-        ensures { Gives (line_in versions (position_of self.old) (text_of_line bytes.now line)) (position_of self.new) result }
-    {
-        if !is_printed(&bytes[line.start..line.end]) {
-            return Err(Refusal::Because(Cause::NotAscii));
-        }
-        if !line.ended {
-            return Err(Refusal::Because(Cause::Missing));
-        }
-        let mut words = Pieces::new(bytes, line);
-        let Some(word) = words.next() else {
-            return Err(Refusal::Because(Cause::BadWord));
-        };
-        self.read_words(alloc, versions, word, &mut words)
+/// Goes on after this line.
+fn read_line(
+    reader: &mut Reader,
+    alloc: Global,
+    versions: u16,
+    bytes: &[u8],
+    line: Line,
+) -> Result<(), Refusal>
+    requires few { versions ≤ 3 }
+    requires reached { IsReached versions (position_of reader.old) }
+    requires within { IsWithin bytes.now line }
+    ensures { Gives (line_in versions (position_of reader.old) (text_of_line bytes.now line)) (position_of reader.new) result }
+{
+    if !is_printed(&bytes[line.start..line.end]) {
+        return Err(Refusal::Because(Cause::NotAscii));
     }
+    if !line.ended {
+        return Err(Refusal::Because(Cause::Missing));
+    }
+    let mut words = Pieces::new(bytes, line);
+    let Some(word) = words.next() else {
+        return Err(Refusal::Because(Cause::BadWord));
+    };
+    read_words(reader, alloc, versions, word, &mut words)
+}
 
-    /// Goes on after a line of this first word and these words after it.
-    fn read_words(
-        &mut self,
-        alloc: Global,
-        versions: u16,
-        word: &[u8],
-        words: &mut Pieces,
-    ) -> Result<(), Refusal>
-        requires few { versions ≤ 3 }
-        requires reached { IsReached versions (position_of self.old) }
-        ensures { Gives (next_by versions (position_of self.old) word.now words.old) (position_of self.new) result }
-    {
-        if !self.expects(word) {
-            return Err(Refusal::Because(Cause::BadWord));
-        }
-        if self.is_full(word) {
-            return Err(Refusal::Because(Cause::TooMany));
-        }
-        let numbers = self.numbers_behind(versions, word, words)?;
-        self.step(alloc, versions, word, numbers.as_slice())
+/// Goes on after a line of this first word and these words after it.
+fn read_words(
+    reader: &mut Reader,
+    alloc: Global,
+    versions: u16,
+    word: &[u8],
+    words: &mut Pieces,
+) -> Result<(), Refusal>
+    requires few { versions ≤ 3 }
+    requires reached { IsReached versions (position_of reader.old) }
+    ensures { Gives (next_by versions (position_of reader.old) word.now words.old) (position_of reader.new) result }
+{
+    if !reader.expects(word) {
+        return Err(Refusal::Because(Cause::BadWord));
     }
+    if reader.is_full(word) {
+        return Err(Refusal::Because(Cause::TooMany));
+    }
+    let numbers = numbers_behind(reader, versions, word, words)?;
+    reader.step(alloc, versions, word, numbers.as_slice())
+}
 
-    /// The numbers after this first word, which end the line.
-    fn numbers_behind(
-        &self,
-        versions: u16,
-        word: &[u8],
-        words: &mut Pieces,
-    ) -> Result<Numbers, Cause>
-        requires { is_some (index_of word.now (expected (position_of self.now))) ≡ true }
-        ensures { and_then (numbered result) (λ numbers. Ok numbers.items)
-            ≡ line_numbers (fields_of versions (position_of self.now) word.now) (last_numbers (position_of self.now) word.now) words.old }
-    {
-        let fields = self.fields(versions, word);
-        let numbers = read_numbers(fields.as_slice(), words)?;
-        self.in_order(word, numbers.as_slice())?;
-        read_end(words)?;
-        Ok(numbers)
-    }
+/// The numbers after this first word, which end the line.
+fn numbers_behind(
+    reader: &Reader,
+    versions: u16,
+    word: &[u8],
+    words: &mut Pieces,
+) -> Result<Numbers, Cause>
+    requires { is_some (index_of word.now (expected (position_of reader.now))) ≡ true }
+    ensures { and_then (numbered result) (λ numbers. Ok numbers.items)
+        ≡ line_numbers (fields_of versions (position_of reader.now) word.now) (last_numbers (position_of reader.now) word.now) words.old }
+{
+    let fields = reader.fields(versions, word);
+    let numbers = read_numbers(fields.as_slice(), words)?;
+    reader.in_order(word, numbers.as_slice())?;
+    read_end(words)?;
+    Ok(numbers)
 }

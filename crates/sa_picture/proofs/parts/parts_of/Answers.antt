@@ -1,7 +1,7 @@
 use Rattle.std.proofs.Common.{ℕ, List, subst}
 use Rattle.sa_lemmas.proofs.Results.{err_along}
-use Rattle.sa_workload.specs.Text.{IsText}
-use Rattle.sa_workload.specs.Texts.{workload_part}
+use Rattle.sa_workload_lines.specs.Text.{IsText}
+use Rattle.sa_workload_lines.specs.Texts.{workload_part}
 use Rattle.sa_picture.specs.Parts.{IsNoWorkload}
 use Rattle.sa_picture.proofs.parts.parts_of.Goals as goal
 

@@ -1,0 +1,4 @@
+pub mod fields
+pub mod forward
+pub mod calls
+mod Splitting

@@ -1,0 +1,5 @@
+pub mod Fronts
+pub mod Orders
+pub mod ShownStep
+pub mod Reached
+pub mod Sound

@@ -1,0 +1,15 @@
+use Rattle.std.proofs.Common.{◌<◌, ◌≤◌, ◌∙◌, subst}
+use Rattle.sa_workload_lines.specs.Text.{line_text, instr_line}
+use Rattle.sa_workload_lines.proofs.calls.PrintedText.{pushed_more, pushed_program}
+use Rattle.sa_workload_lines.proofs.printing.push_program.Goals as goal
+
+pub loop-pc-preserved : goal.loop-pc-preserved
+loop-pc-preserved c =
+    pushed_more (λ i. line_text (instr_line i)) c.args.program.now c.loop-pc.pc _ c.at.result _ _ _
+    (subst (λ len. c.loop-pc.pc < len) c.len-len.ensures.len c.loop-pc-test.true) c.at.ensures.instr c.loop-pc.invariant c.in_ok-push_instr.ensures
+
+pub returns : goal.returns
+returns c =
+    pushed_program c.args.program.now c.args.out.now.items c.push_line.new.out.items c.loop-pc.out.items c.from.result c.loop-pc.pc
+    (c.from.ensures ∙ c.len-len.ensures.len) c.in_ok-push_line.ensures c.loop-pc.invariant
+    (subst (λ len. len ≤ c.loop-pc.pc) c.len-len.ensures.len c.loop-pc-test.false)
