@@ -1,9 +1,10 @@
 -- What a core keeps.
-use Rattle.std.proofs.Common.{◌≡◌, ◌≢◌, ℕ, zero, suc, ◌+◌, ◌-◌, ◌%◌, ◌<◌, ◌≤◌, ◌==◌, if◌then◌else◌, min, Bool, true, false, None, List, refl, sym, ap, subst, ◌∙◌, inl, inr, arith, mod-lt}
+use Rattle.std.proofs.Common.{◌≡◌, ◌≢◌, ℕ, zero, suc, ◌+◌, ◌-◌, ◌%◌, ◌<◌, ◌≤◌, ◌==◌, if◌then◌else◌, min, Bool, true, false, Some, None, List, refl, sym, ap, subst, ◌∙◌, inl, inr, arith, mod-lt}
 use Rattle.std.proofs.lemmas.Bool.{cases_eq}
 use Rattle.std.proofs.lemmas.Bool.Decides.{nat_tests}
 use Rattle.sa_base.specs.declared.number.ProcNo.{ProcNo}
 use Rattle.sa_base.specs.declared.limits.TheConstants.{MAX_EVENTS}
+use Rattle.sa_base.specs.declared.record.End.TheVariants.{AllDone, Stuck, Budget}
 use Rattle.sa_spaces.specs.Workload.{WorkloadView, IsWorkload}
 use Rattle.sa_instr.specs.declared.instr.Instr.{Instr}
 use Rattle.sa_abstract.specs.Calls.{Calls}
@@ -20,12 +21,20 @@ use Rattle.sa_core_model.specs.Run.{setting, opening, IsTurn, CanGo, AreNextLoca
 use Rattle.sa_core_model.specs.Standing.{IsBetween}
 use Rattle.sa_core_model.proofs.Turns.{Rests, rests-turned, between-rests}
 use Rattle.sa_core_model.proofs.Runs.{rests-committed, stands-opening, can-go}
-use Rattle.sa_core.specs.declared.machine.CoreParts.{CoreParts}
-use Rattle.sa_core.specs.declared.machine.TheConstants.{EVENT_ITEMS}
-use Rattle.sa_core.specs.View.{CoreView, machine_of, machine}
-use Rattle.sa_core.specs.Room.{owed, HasRoom, Spends, IsKept}
-use Rattle.sa_core.specs.Needs.{ByFresh}
-use Rattle.sa_core.proofs.EndLemmas.{no-end}
+use Rattle.sa_machine.specs.declared.machine.MachineParts.{MachineParts}
+use Rattle.sa_machine.specs.declared.machine.TheConstants.{EVENT_ITEMS}
+use Rattle.sa_machine.specs.View.{machine_of}
+use Rattle.sa_machine.specs.Room.{owed, HasRoom, Spends}
+use Rattle.sa_machine.specs.Needs.{ByFresh}
+use Rattle.sa_core.specs.View.{CoreView, machine}
+use Rattle.sa_core.specs.Room.{IsKept}
+
+-- what no end is found for goes on
+no-end : (a b c : Bool) → (if a then Some AllDone else if b then Some Stuck else if c then Some Budget else None) ≡ None → c ≡ false
+no-end true b c none = absurd cc
+no-end false true c none = absurd cc
+no-end false false true none = absurd cc
+no-end false false false none = refl
 
 pub goes-on : {U C : Type 0} (f : Calls U C) (budget : ℕ) (m : Machine U C) → end_of f budget m ≡ None → m.event ≤ budget → m.event < budget
 goes-on f budget m none within = elim (cases_eq m.event budget) [
@@ -35,7 +44,7 @@ goes-on f budget m none within = elim (cases_eq m.event budget) [
 ]
 
 module _ {U C : Type 0} (f : Calls U C) (stands : Standing U C) (keep : Keeps f stands) where
-  pub kept-start : (m : CoreParts U C) (w : WorkloadView) (budget : ℕ) → IsWorkload w → machine_of m ≡ opening f w → owed m ≡ 0 → m.kernel.last ≡ 0
+  pub kept-start : (m : MachineParts U C) (w : WorkloadView) (budget : ℕ) → IsWorkload w → machine_of m ≡ opening f w → owed m ≡ 0 → m.kernel.last ≡ 0
       → budget ≤ MAX_EVENTS → IsKept stands m budget 0
   kept-start m w budget ok is none last few = record {
     between = subst (λ (z : Machine U C). IsBetween stands z) (sym is) (stands-opening f stands keep w ok);
@@ -45,7 +54,7 @@ module _ {U C : Type 0} (f : Calls U C) (stands : Standing U C) (keep : Keeps f 
     room = record { entries = omega arith; items = omega (arith, none) };
   }
 
-  pub kept-room : (m new : CoreParts U C) (budget n k : ℕ) → IsKept stands m budget k → machine_of new ≡ machine_of m → new.kernel.last ≡ m.kernel.last
+  pub kept-room : (m new : MachineParts U C) (budget n k : ℕ) → IsKept stands m budget k → machine_of new ≡ machine_of m → new.kernel.last ≡ m.kernel.last
       → HasRoom new n → IsKept stands new budget n
   kept-room m new budget n k kept same last room =
       let e : new.events ≡ m.events = ap (λ (z : Machine U C). z.event) same in record {
@@ -58,13 +67,13 @@ module _ {U C : Type 0} (f : Calls U C) (stands : Standing U C) (keep : Keeps f 
 
   -- a turn
 
-  pub record Turned (m new : CoreParts U C) (p : ProcNo) (budget spare : ℕ) : Type 0 where
+  pub record Turned (m new : MachineParts U C) (p : ProcNo) (budget spare : ℕ) : Type 0 where
     pub kept : IsKept stands new budget (spare - 1)
     pub turn : IsTurn f (machine_of m) p (machine_of new)
     pub event : new.events ≡ m.events + 1
     pub workload : new.workload ≡ m.workload
 
-  pub kept-turn : (m new : CoreParts U C) (p : ProcNo) (budget spare : ℕ) → IsKept stands m budget spare
+  pub kept-turn : (m new : MachineParts U C) (p : ProcNo) (budget spare : ℕ) → IsKept stands m budget spare
       → ByFresh (machine_of m) (machine_of new) (λ fresh. turned f p fresh (machine_of m))
       → Spends m new EVENT_ITEMS 1 → p.0 < m.workload.processors → m.events < budget → 1 ≤ spare → Turned m new p budget spare
   kept-turn m new p budget spare kept by spends within left some =
@@ -127,11 +136,11 @@ pub are-left : {U C : Type 0} (budget : ℕ) (m : Machine U C) (n : ℕ) → 1 �
 are-left budget m n some left = left-of n (budget - m.event) m.workload.slice m.event (m.workload.slice == 0) refl some (omega (arith, left))
 
 module _ {U C : Type 0} (f : Calls U C) (stands : Standing U C) (keep : Keeps f stands) where
-  pub record Committed (m new : CoreParts U C) (k budget spare : ℕ) : Type 0 where
+  pub record Committed (m new : MachineParts U C) (k budget spare : ℕ) : Type 0 where
     pub kept : IsKept stands new budget (spare - k)
     pub workload : new.workload ≡ m.workload
 
-  pub kept-commit : (m new : CoreParts U C) (p : ProcNo) (k budget spare : ℕ) → IsKept stands m budget spare → machine_of new ≡ committed f p k (machine_of m)
+  pub kept-commit : (m new : MachineParts U C) (p : ProcNo) (k budget spare : ℕ) → IsKept stands m budget spare → machine_of new ≡ committed f p k (machine_of m)
       → Spends m new (k + ENTRY_ITEMS) 0 → 1 ≤ k → k ≤ spare → m.events + k ≤ budget → CanGo f (machine_of m) p k → Committed m new k budget spare
   kept-commit m new p zero budget spare kept is spends some room left can = absurd (omega (arith, some))
   kept-commit m new p (suc j) budget spare kept is spends some room left can =
@@ -154,11 +163,11 @@ module _ {U C : Type 0} (f : Calls U C) (stands : Standing U C) (keep : Keeps f 
       }
 
 -- room was made, and the run goes on
-pub record IsReady {U C : Type 0} (m : CoreParts U C) (old : CoreView U C) (budget : ℕ) : Type 0 where
+pub record IsReady {U C : Type 0} (m : MachineParts U C) (old : CoreView U C) (budget : ℕ) : Type 0 where
   pub same : machine_of m ≡ machine old
   pub left : m.events < budget
 
-pub ready : {U C : Type 0} (f : Calls U C) (stands : Standing U C) (m : CoreParts U C) (mid old : CoreView U C) (budget spare : ℕ)
+pub ready : {U C : Type 0} (f : Calls U C) (stands : Standing U C) (m : MachineParts U C) (mid old : CoreView U C) (budget spare : ℕ)
     → record { parts = m; budget = budget; spare = spare } ≡ mid → machine mid ≡ machine old → mid.budget ≡ old.budget
     → end_of f old.budget (machine old) ≡ None
     → IsKept stands m budget spare → IsReady m old budget
@@ -169,7 +178,7 @@ ready {U} {C} f stands m mid old budget spare view is budgets none kept =
     ap (λ (b : ℕ). end_of f b (machine_of m)) limit ∙ ap (λ (z : Machine U C). end_of f old.budget z) same ∙ none in
     record { same = same; left = goes-on f budget (machine_of m) on kept.within }
 
-pub next-go : {U C : Type 0} (f : Calls U C) (stands : Standing U C) (keep : Keeps f stands) (m : CoreParts U C) (old : CoreView U C) (budget spare n k : ℕ)
+pub next-go : {U C : Type 0} (f : Calls U C) (stands : Standing U C) (keep : Keeps f stands) (m : MachineParts U C) (old : CoreView U C) (budget spare n k : ℕ)
     (p : ProcNo)
     → IsReady m old budget → IsKept stands m budget spare → AreNextLocal (machine old).workload n (local_on f (machine old) p) → k ≤ n
     → CanGo f (machine_of m) p k

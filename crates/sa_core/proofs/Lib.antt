@@ -1,5 +1,2 @@
-pub mod EndLemmas
-pub mod EnterLemmas
-pub mod CallLemmas
-pub mod EntryLemmas
+pub mod DueLemmas
 pub mod CoreLemmas

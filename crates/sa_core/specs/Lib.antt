@@ -1,3 +1,2 @@
 pub mod View
 pub mod Room
-pub mod Needs

@@ -1,22 +1,12 @@
--- The machine as a value, and the core as its callers see it.
+-- The core as its callers see it.
 use Rattle.std.specs.Prelude.{◌≡◌, ℕ}
-use Rattle.sa_kernel.specs.Kept.{kernel_of}
 use Rattle.sa_core_model.specs.Machine.{Machine}
-use Rattle.sa_core.specs.declared.machine.CoreParts.{CoreParts}
-
-abbrev pub machine_of : {U C : Type 0} → CoreParts U C → Machine U C
-machine_of m = record {
-  workload = m.workload;
-  kernel = kernel_of m.kernel;
-  users = m.users;
-  contexts = m.contexts.items;
-  event = m.events;
-  items = m.trace.items;
-}
+use Rattle.sa_machine.specs.declared.machine.MachineParts.{MachineParts}
+use Rattle.sa_machine.specs.View.{machine_of}
 
 -- what a contract sees of a core
 pub record CoreView (U C : Type 0) : Type 0 where
-  pub parts : CoreParts U C
+  pub parts : MachineParts U C
   -- the number of events at which the run ends
   pub budget : ℕ
   -- for how many more events there is room

@@ -1,8 +1,7 @@
-//! The machine: the kernel, the user level of each space, and the contexts that run. One call is one event.
+//! The run within a budget: one call is one event of the machine, or a run of local instructions.
 #![tactic(auto)]
 
-mod machine;
-mod room;
 mod run;
+mod turn;
 
 pub use run::Core;

@@ -9,10 +9,11 @@ ghost use Rattle.sa_core_model.specs.Standing.{IsBetween};
 ghost use Rattle.sa_kernel.specs.Kept.{kernel_of};
 ghost use Rattle.sa_core.specs.View.{machine, IsSame};
 
-use crate::machine::CoreParts;
+use crate::turn::turn;
 use sa_abstract::{SeatState, UserLevel};
 use sa_base::{End, ProcNo, SpaceNo, Trace};
 use sa_kernel::Kernel;
+use sa_machine::MachineParts;
 use sa_spaces::Workload;
 use std::alloc::{AllocError, Global};
 use std::marker::Model;
@@ -24,7 +25,7 @@ const EVENTS_AT_ONCE: usize = 64;
 #[derive(Drop)]
 pub struct Core<U: UserLevel> {
     budget: u64,
-    machine: CoreParts<U>,
+    machine: MachineParts<U>,
     // for how many events there is room
     spare: usize,
 }
@@ -50,7 +51,7 @@ impl<U: UserLevel> Core<U> {
         ensures spare { IfOk result (λ core. core.spare ≡ 0) }
     {
         w.ranges();
-        let machine = CoreParts::start(alloc, w)?;
+        let machine = MachineParts::start(alloc, w)?;
         Ok(Core {
             budget,
             machine,
@@ -99,7 +100,7 @@ impl<U: UserLevel> Core<U> {
         ensures err { OnErr result ((self.old.spare ≡ 0) × IsSame self.old self.new) }
     {
         self.make_room(1)?;
-        self.machine.turn(p);
+        turn(&mut self.machine, p);
         self.spare -= 1;
         Ok(())
     }

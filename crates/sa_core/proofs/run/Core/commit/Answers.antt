@@ -1,6 +1,7 @@
 use Rattle.std.proofs.Common.{◌-◌, ◌≤◌, ap, ◌∙◌, arith}
 use Rattle.sa_core_model.specs.Machine.{Machine}
-use Rattle.sa_core.specs.View.{CoreView, machine_of}
+use Rattle.sa_machine.specs.View.{machine_of}
+use Rattle.sa_core.specs.View.{CoreView}
 use Rattle.sa_core.proofs.CoreLemmas.{ready, are-left, next-go, kept-commit}
 use Rattle.sa_core.proofs.run.Core.commit.Goals as goal
 

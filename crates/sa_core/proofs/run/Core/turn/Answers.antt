@@ -1,7 +1,8 @@
 use Rattle.std.proofs.Common.{◌+◌, ◌<◌, sym, ap, subst, ◌∙◌, arith}
 use Rattle.sa_core_model.specs.Machine.{Machine}
 use Rattle.sa_core_model.specs.Run.{IsTurn}
-use Rattle.sa_core.specs.View.{CoreView, machine_of}
+use Rattle.sa_machine.specs.View.{machine_of}
+use Rattle.sa_core.specs.View.{CoreView}
 use Rattle.sa_core.proofs.CoreLemmas.{ready, kept-turn}
 use Rattle.sa_core.proofs.run.Core.turn.Goals as goal
 
@@ -16,7 +17,7 @@ invariant_of-self g c =
     let within = subst (λ (z : Machine g.row.U.Denot g.row.U-Ctx.Denot). c.args.p.0 < z.workload.processors) (sym is.same) c.requires.within in
     let spare = ap (λ (v : CoreView g.row.U.Denot g.row.U-Ctx.Denot). v.spare) c.self.view_is in
     let room = c.in_ok-make_room.ensures.ok in
-    let done = kept-turn f g.U.UserLevel.stands keep k.machine c.turn.new.self c.args.p k.budget k.spare c.self.invariant c.turn.ensures.machine
+    let done = kept-turn f g.U.UserLevel.stands keep k.machine c.turn.new.machine c.args.p k.budget k.spare c.self.invariant c.turn.ensures.machine
     c.turn.ensures.spends within is.left
     (omega (arith, spare, room)) in
     done.kept
@@ -32,10 +33,10 @@ returns-clause-ok g c =
     let within = subst (λ (z : Machine g.row.U.Denot g.row.U-Ctx.Denot). c.args.p.0 < z.workload.processors) (sym is.same) c.requires.within in
     let spare = ap (λ (v : CoreView g.row.U.Denot g.row.U-Ctx.Denot). v.spare) c.self.view_is in
     let room = c.in_ok-make_room.ensures.ok in
-    let done = kept-turn f g.U.UserLevel.stands keep k.machine c.turn.new.self c.args.p k.budget k.spare c.self.invariant c.turn.ensures.machine
+    let done = kept-turn f g.U.UserLevel.stands keep k.machine c.turn.new.machine c.args.p k.budget k.spare c.self.invariant c.turn.ensures.machine
     c.turn.ensures.spends within is.left
     (omega (arith, spare, room)) in
-    subst (λ (z : Machine g.row.U.Denot g.row.U-Ctx.Denot). IsTurn f z c.args.p (machine_of c.turn.new.self)) is.same done.turn
+    subst (λ (z : Machine g.row.U.Denot g.row.U-Ctx.Denot). IsTurn f z c.args.p (machine_of c.turn.new.machine)) is.same done.turn
 
 pub returns-clause-event : goal.returns-clause-event
 returns-clause-event g c =
@@ -48,7 +49,7 @@ returns-clause-event g c =
     let within = subst (λ (z : Machine g.row.U.Denot g.row.U-Ctx.Denot). c.args.p.0 < z.workload.processors) (sym is.same) c.requires.within in
     let spare = ap (λ (v : CoreView g.row.U.Denot g.row.U-Ctx.Denot). v.spare) c.self.view_is in
     let room = c.in_ok-make_room.ensures.ok in
-    let done = kept-turn f g.U.UserLevel.stands keep k.machine c.turn.new.self c.args.p k.budget k.spare c.self.invariant c.turn.ensures.machine
+    let done = kept-turn f g.U.UserLevel.stands keep k.machine c.turn.new.machine c.args.p k.budget k.spare c.self.invariant c.turn.ensures.machine
     c.turn.ensures.spends within is.left
     (omega (arith, spare, room)) in
     done.event ∙ ap (λ (z : Machine g.row.U.Denot g.row.U-Ctx.Denot). z.event + 1) is.same
@@ -64,7 +65,7 @@ returns-clause-workload g c =
     let within = subst (λ (z : Machine g.row.U.Denot g.row.U-Ctx.Denot). c.args.p.0 < z.workload.processors) (sym is.same) c.requires.within in
     let spare = ap (λ (v : CoreView g.row.U.Denot g.row.U-Ctx.Denot). v.spare) c.self.view_is in
     let room = c.in_ok-make_room.ensures.ok in
-    let done = kept-turn f g.U.UserLevel.stands keep k.machine c.turn.new.self c.args.p k.budget k.spare c.self.invariant c.turn.ensures.machine
+    let done = kept-turn f g.U.UserLevel.stands keep k.machine c.turn.new.machine c.args.p k.budget k.spare c.self.invariant c.turn.ensures.machine
     c.turn.ensures.spends within is.left
     (omega (arith, spare, room)) in
     done.workload ∙ ap (λ (z : Machine g.row.U.Denot g.row.U-Ctx.Denot). z.workload) is.same

@@ -1,0 +1,4 @@
+pub mod EventLemmas
+pub mod EnterLemmas
+pub mod CallLemmas
+pub mod EntryLemmas

@@ -1,0 +1,41 @@
+use Rattle.std.specs.Prelude.{slice_set}
+use Rattle.std.proofs.Common.{ap, Some, refl, sym, ◌∙◌}
+use Rattle.sa_machine.specs.View.{machine_of}
+use Rattle.sa_kernel.specs.Kept.{kernel_of}
+use Rattle.sa_machine.proofs.CallLemmas.{read-ctx, next-is, told-as, told-cons, the-user, has-place, telling-here}
+use Rattle.sa_machine.proofs.machine.MachineParts.tell_one.Goals as goal
+
+pub told-requires-clause-telling : goal.told-requires-clause-telling
+told-requires-clause-telling g c = λ κs k u at.
+    let keep = (g.met.U.UserLevel g.world.𝓛 g.world.𝓜 g.world.𝓡 ((λ s x. x), (λ x. x), (λ x. x), λ x. x)).keeps in
+    let f = g.U.UserLevel.calls in
+    let stands = g.U.UserLevel.stands in
+    let m = machine_of c.args.self.now in
+    let p = c.args.p in
+    let s = c.args.s in
+    let place = has-place f stands keep m.event m p s c.requires.stands c.requires.owner in
+    let ctx = read-ctx m.contexts p.0 c.from.result c.index_mut.result.now c.in-Some-index_mut.ctx place c.from.ensures c.index_mut.ensures.value
+    c.in-Some-index_mut.is in
+    let next = next-is m.kernel c.in-Some.note c.in-Some.held (sym c.in-Some.is ∙ c.next_note.ensures.note) in
+    telling-here f stands keep m.event m p s c.requires.stands c.requires.owner u c.in-Some-index_mut.ctx at ctx c.in-Some.note next.notes c.in-Some.held
+    next.telling c.requires.claimed next.held_is
+
+pub returns-clause-some : goal.returns-clause-some
+returns-clause-some g c = λ note notes is.
+    let keep = (g.met.U.UserLevel g.world.𝓛 g.world.𝓜 g.world.𝓡 ((λ s x. x), (λ x. x), (λ x. x), λ x. x)).keeps in
+    let f = g.U.UserLevel.calls in
+    let stands = g.U.UserLevel.stands in
+    let m = machine_of c.args.self.now in
+    let p = c.args.p in
+    let s = c.args.s in
+    let place = has-place f stands keep m.event m p s c.requires.stands c.requires.owner in
+    let ctx = read-ctx m.contexts p.0 c.from.result c.index_mut.result.now c.in-Some-index_mut.ctx place c.from.ensures c.index_mut.ensures.value
+    c.in-Some-index_mut.is in
+    let user = the-user f stands keep m.event m p s c.requires.stands c.requires.owner in
+    let next = next-is m.kernel c.in-Some.note c.in-Some.held (sym c.in-Some.is ∙ c.next_note.ensures.note) in
+    let done = told-as f stands keep p s c.in-Some.note next.notes c.in-Some.held m
+    (kernel_of c.next_note.new.self) user.0 c.in-Some-index_mut.ctx c.told.new.ctx c.told.new.self _ user.1 ctx
+    next.telling next.held_is c.next_note.ensures.state (c.told.ensures.user user.0 user.1)
+    (ap (λ n. slice_set m.contexts n (Some c.told.new.ctx)) c.from.ensures)
+    (c.told.ensures.ctx user.0 user.1) in
+    (refl, done ∙ told-cons f stands keep p s m c.in-Some.note note next.notes notes (sym next.telling ∙ is))
