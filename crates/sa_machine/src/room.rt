@@ -71,5 +71,7 @@ impl<U: UserLevel> MachineParts<U> {
     }
 
     /// Lets go of all that it holds.
-    pub fn discard(self) {}
+    pub fn discard(self) {
+        let _trace = self.into_trace();
+    }
 }

@@ -32,8 +32,7 @@ pub(crate) const EVENT_ITEMS: usize = 3;
 // The one list of the queue.
 const QUEUE: u32 = 0;
 
-/// The parts of a run. A virtual processor is the place of its number.
-#[derive(Drop)]
+/// The parts of a run, which ends by `into_trace` or `into_losses`. A virtual processor is the place of its number.
 pub(crate) struct Parts {
     // the workload, and the state of the abstract machine
     pub(crate) replay: Replay,

@@ -105,7 +105,8 @@ impl Parts {
     pub(crate) fn into_trace(self) -> Trace
         ensures { result ≡ self.trace }
     {
-        self.trace
+        let (trace, _lost) = self.into_losses();
+        trace
     }
 
     /// The trace, and what each space has lost.
@@ -113,7 +114,23 @@ impl Parts {
         ensures trace { result.0 ≡ self.trace }
         ensures lost { result.1 ≡ self.lost }
     {
-        (self.trace, self.lost)
+        let Parts {
+            replay,
+            devices: _devices,
+            queue: _queue,
+            placed: _placed,
+            threads: _threads,
+            steps: _steps,
+            ready: _ready,
+            work: _work,
+            due: _,
+            blocked: _blocked,
+            lost,
+            trace,
+            number: _,
+        } = self;
+        replay.discard();
+        (trace, lost)
     }
 
     /// Whether nothing can happen any more.

@@ -15,8 +15,7 @@ use std::marker::Model;
 // For how many events at least room is made where it is wanted.
 const EVENTS_AT_ONCE: usize = 64;
 
-/// A run of a workload on virtual processors within a budget of events.
-#[derive(Drop)]
+/// A run of a workload on virtual processors within a budget of events, which ends by `into_trace` or `into_losses`.
 pub struct Vp {
     budget: u64,
     parts: Parts,
@@ -136,7 +135,12 @@ impl Vp {
     pub fn into_trace(self) -> Trace
         ensures { result.items ≡ self.board.items }
     {
-        self.parts.into_trace()
+        let Vp {
+            parts,
+            budget: _,
+            spare: _,
+        } = self;
+        parts.into_trace()
     }
 
     /// The history of the run, and what each space has lost.
@@ -144,7 +148,12 @@ impl Vp {
         ensures trace { result.0.items ≡ self.board.items }
         ensures lost { result.1.items ≡ self.board.lost }
     {
-        self.parts.into_losses()
+        let Vp {
+            parts,
+            budget: _,
+            spare: _,
+        } = self;
+        parts.into_losses()
     }
 
     /// How many turns the space has lost so far: after each event as many of its ready threads as it has blocked virtual

@@ -68,6 +68,7 @@ fn read_versions(alloc: Global, versions: u16, bytes: &[u8]) -> Result<Workload,
     while let Some(line) = lines.next() {
         let number = line.number;
         if let Err(refusal) = read_line(&mut reader, alloc, versions, bytes, line) {
+            reader.discard();
             return Err(refusal.at(number));
         }
     }

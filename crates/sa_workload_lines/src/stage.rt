@@ -125,6 +125,10 @@ impl Reader {
         }
     }
 
+    /// Lets go of the reader with all that it holds. One that goes out of scope is let go too, but by code that is made,
+    /// and proved, again in each crate where it does.
+    pub fn discard(self) {}
+
     /// The workload that was read, if no line is to come.
     pub fn finish(self) -> Option<Workload>
         requires { IfSome (closed (position_of self)) IsWorkload }
