@@ -1,5 +1,5 @@
 -- The theorem of user levels, with FastThreads and with thread priorities filled in: each run of the machine is a legal run; and
--- what follows of debugging sessions.
+-- what follows of debugging sessions of FastThreads.
 --
 -- Leading: Runs by a schedule, and chains of turns and commits, are runs from the opening that made no move after an end.
 -- Counted: How many events of a processor a history has, and how many its moves make.

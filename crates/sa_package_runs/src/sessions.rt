@@ -1,4 +1,4 @@
-//! What holds of each debugging session of FastThreads, whatever its commands are; and that each user level can be debugged. No function here does anything.
+//! What holds of each debugging session of FastThreads, whatever its commands are; and that both packages can be debugged. No function here does anything.
 ghost use Rattle.sa_package_runs.specs.Sessions.{FastThreadsCanBeDebugged, PrioThreadsCanBeDebugged, SessionsAreLegal, SessionsSoFarAreLegal};
 ghost use Rattle.sa_package_runs.specs.Told.{SessionsAreTold, SessionsSoFarAreTold, PartsOfSessionsAreTold};
 
