@@ -1,2 +1,1 @@
 mod PlainLemmas
-mod Rounds

@@ -1,4 +1,2 @@
 pub mod Asks
 pub mod Plain
-pub mod OneThread
-pub mod Kept

@@ -1,4 +1,4 @@
-//! A caller of the kernel that relies on its contracts alone; a second user level, and runs of it on the core; and what stands below
+//! A caller of the kernel that relies on its contracts alone; a run of the smallest user level on the core; and what stands below
 //! the kernel: sources and sinks, the words of a refusal, seeded orders, the workload of a probe, and what a line word holds. With a
 //! host thread for each processor: a machine behind its lock.
 #![tactic(auto)]
@@ -9,7 +9,6 @@ mod fitting;
 mod lawful;
 #[cfg(test)]
 mod lines;
-pub mod one_thread;
 #[cfg(test)]
 mod probes;
 #[cfg(test)]

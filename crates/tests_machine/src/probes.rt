@@ -5,8 +5,6 @@ use std::test::Fail;
 #[test]
 fn a_probe_is_made(rt: HostRuntime) -> Result<(), Fail> {
     let workload = probe(rt.alloc(), 2)?;
-    assert_eq!(rt; workload.processors(), 2);
-    assert_eq!(rt; workload.spaces().len(), 1);
-    assert_eq!(rt; workload.turns().len(), 28);
+    assert!(rt; workload.processors() == 2 && workload.spaces().len() == 1 && workload.turns().len() == 28);
     Ok(())
 }

@@ -58,11 +58,9 @@ fn run_ahead<U: UserLevel, K: Named, R: Wait + Abort>(
     why: BurstEnd,
     pending: u16,
 ) {
-    assert!(rt; 1 <= limit && limit <= 64);
-    assert_eq!(rt; seat.pending(), 0);
+    assert!(rt; 1 <= limit && limit <= 64 && seat.pending() == 0);
     let end = seat.burst(machine, limit);
-    assert!(rt; end == why);
-    assert_eq!(rt; seat.pending(), pending);
+    assert!(rt; end == why && seat.pending() == pending);
 }
 
 // Does what one seat is to do.
@@ -85,6 +83,19 @@ fn do_act<U: UserLevel, K: Named, R: Wait + Abort>(
     }
 }
 
+// Does in order what the seats are to do.
+fn do_acts<U: UserLevel, K: Named, R: Wait + Abort>(
+    rt: &R,
+    machine: &Machine<U, K>,
+    seats: &mut [Seat<K>],
+    acts: &[Act],
+) -> Result<(), Fail> {
+    for each in acts {
+        do_act(rt, machine, seats, *each)?;
+    }
+    Ok(())
+}
+
 // The machine that K names, whose seats act so.
 fn play_named<U: UserLevel, K: Named, R: Wait + Abort>(
     rt: &R,
@@ -103,10 +114,7 @@ fn play_named<U: UserLevel, K: Named, R: Wait + Abort>(
     requires pollers { pollers.items ≡ fresh_pollers K.table K.workload.processors }
 {
     let (machine, mut seats) = Machine::<U, K>::start(alloc, core, words, keeper, pollers)?;
-    for each in acts {
-        do_act(rt, &machine, seats.as_mut_slice(), *each)?;
-    }
-    Ok(())
+    do_acts(rt, &machine, seats.as_mut_slice(), acts)
 }
 
 // The seats of a machine for the workload of the text act so.
@@ -117,9 +125,8 @@ fn play<U: UserLevel, R: Wait + Abort>(
     acts: &[Act],
 ) -> Result<(), Fail> {
     let workload = read(alloc, text.as_bytes())?;
-    let processors = workload.processors();
+    let (words, keeper, pollers) = LineWords::new(alloc, workload.processors())?;
     let core = Core::<U>::start(alloc, workload, 100)?;
-    let (words, keeper, pollers) = LineWords::new(alloc, processors)?;
     play_named::<U, Brand, R>(rt, alloc, core, words, keeper, pollers, acts)
 }
 

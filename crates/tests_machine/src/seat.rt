@@ -74,9 +74,9 @@ fn bursts_make_fewer_entries(rt: HostRuntime) -> Result<(), Fail> {
         arrivals: AtomicU64::new(0),
     };
     let closed = run_text(&rt, rt.alloc(), text.as_str(), 100_000, &gate)?;
-    assert!(rt; closed.end() == Some(End::AllDone));
-    assert_eq!(rt; closed.turns().iter().copied().max(), Some(45));
-    assert_eq!(rt; gate.arrivals.load(Ordering::SeqCst), 9);
+    let most = closed.turns().iter().copied().max();
+    let arrivals = gate.arrivals.load(Ordering::SeqCst);
+    assert!(rt; closed.end() == Some(End::AllDone) && most == Some(45) && arrivals == 9);
     Ok(())
 }
 
@@ -85,7 +85,6 @@ fn workers_run_beside_each_other(rt: HostRuntime) -> Result<(), Fail> {
     let text = straight(rt.alloc(), 2, 0)?;
     let gate = HoldGate::new(ProcNo(0), ProcNo(1), 2_000_000_000);
     let closed = run_text(&rt, rt.alloc(), text.as_str(), 100_000, &gate)?;
-    assert!(rt; closed.end() == Some(End::AllDone));
-    assert_eq!(rt; gate.met(), Some(true));
+    assert!(rt; closed.end() == Some(End::AllDone) && gate.met() == Some(true));
     Ok(())
 }

@@ -1,5 +1,5 @@
-// Runs of another user level on the same core.
-use crate::one_thread::OneThread;
+// A run of the smallest user level on the same core.
+use sa_abstract::OneThread;
 use sa_base::{ActNo, End, Item, Note, ProcNo, Record, SpaceNo};
 use sa_run::run;
 use sa_sched::Kind;
@@ -30,8 +30,7 @@ fn ends_with(rt: &impl Abort, items: &[Item], last: &[(u64, Record)]) {
     assert!(rt; items.len() >= last.len());
     let behind = &items[items.len() - last.len()..];
     for (item, (event, what)) in behind.iter().zip(last) {
-        assert_eq!(rt; item.event, *event);
-        assert!(rt; item.what == *what, "at {event}");
+        assert!(rt; item.event == *event && item.what == *what, "at {event}");
     }
 }
 
@@ -42,8 +41,7 @@ fn another_user_level_runs(rt: HostRuntime) -> Result<(), Fail> {
     let Ok(ended) = run::<OneThread>(rt.alloc(), workload, Kind::RoundRobin, 100) else {
         return Err(Fail::from(AllocError));
     };
-    assert!(rt; ended.end == End::AllDone);
-    assert_eq!(rt; ended.events, 6);
+    assert!(rt; ended.end == End::AllDone && ended.events == 6);
     ends_with(&rt, ended.trace.items(), &OFFERED);
     Ok(())
 }

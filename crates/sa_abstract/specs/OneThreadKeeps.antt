@@ -1,4 +1,4 @@
--- The calls of the second user level keep what the core needs.
+-- The calls of the smallest user level keep what the core needs.
 use Rattle.std.proofs.Common.{◌≡◌, ℕ, zero, suc, ◌<◌, length, ◌||◌, Bool, true, false, is_none, List, [], ◌∷◌, replicate, All, refl, sym, ap, ◌∙◌, arith}
 use Rattle.std.proofs.lemmas.Bool.Decides.{nat_tests}
 use Rattle.sa_base.specs.declared.number.SpaceNo.{SpaceNo}
@@ -10,8 +10,8 @@ use Rattle.sa_instr.specs.Local.{instr_at, pc_after, regs_after}
 use Rattle.sa_abstract.specs.Walk.{Spot, after_many, ins_records, program_at}
 use Rattle.sa_abstract.specs.Keeps.{Keeps, IsAsked, IsOwn, IsSeat, StaysLocal, is_away, state_after, records_of, moved_to}
 use Rattle.sa_abstract.specs.Setting.{Setting}
-use Rattle.tests_machine.specs.declared.one_thread.OneThread.{OneThread}
-use Rattle.tests_machine.specs.OneThread.{one_thread_calls, one_thread_stands, first_instr, jumps_to_itself, the_thread, loop_regs, round_in, seat_in, said_in, carried, hints, asked_if}
+use Rattle.sa_abstract.specs.declared.one_thread.OneThread.{OneThread}
+use Rattle.sa_abstract.specs.OneThread.{one_thread_calls, one_thread_stands, first_instr, jumps_to_itself, the_thread, loop_regs, round_in, seat_in, said_in, carried, hints, asked_if}
 
 can-ask : (s : Setting) (u : OneThread) (seen : Seen) (b : Bool) → b ≡ hints u seen → IsAsked s seen (asked_if b)
 can-ask s u seen true is = grind (arith, nat_tests)

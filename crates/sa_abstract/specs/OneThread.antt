@@ -1,4 +1,4 @@
--- What the second user level does.
+-- What the smallest user level does.
 use Rattle.std.specs.Prelude.{◌≡◌, ℕ, zero, ◌-◌, ◌==◌, Bool, true, false, ◌&&◌, not, if◌then◌else◌, Option, Some, None, List, [], ◌∷◌, replicate}
 use Rattle.sa_base.specs.declared.number.SpaceNo.{SpaceNo}
 use Rattle.sa_base.specs.declared.number.ThreadNo.{ThreadNo}
@@ -19,7 +19,7 @@ use Rattle.sa_abstract.specs.Walk.{program_at}
 use Rattle.sa_abstract.specs.Calls.{Calls}
 use Rattle.sa_abstract.specs.Keeps.{Standing}
 use Rattle.sa_abstract.specs.Setting.{Setting}
-use Rattle.tests_machine.specs.declared.one_thread.OneThread.{OneThread}
+use Rattle.sa_abstract.specs.declared.one_thread.OneThread.{OneThread}
 
 -- the instruction that a space's first thread begins with
 abbrev pub first_instr : List (List Instr) → Instr

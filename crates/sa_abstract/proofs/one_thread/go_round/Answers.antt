@@ -1,9 +1,9 @@
 use Rattle.std.proofs.Common.{◌≡◌, ◌+◌, ◌-◌, ◌++◌, length, replicate, ap, ◌∙◌, arith}
 use Rattle.std.proofs.lemmas.List.{length_push}
 use Rattle.sa_base.specs.Items.{items_from}
-use Rattle.tests_machine.specs.OneThread.{round_in}
-use Rattle.tests_machine.proofs.Rounds.{items-more}
-use Rattle.tests_machine.proofs.one_thread.go_round.Goals as goal
+use Rattle.sa_abstract.specs.OneThread.{round_in}
+use Rattle.sa_abstract.proofs.Rounds.{items-more}
+use Rattle.sa_abstract.proofs.one_thread.go_round.Goals as goal
 
 pub loop-done-preserved : goal.loop-done-preserved
 loop-done-preserved c =

@@ -1,11 +1,11 @@
-//! A user level without lists, of one thread for each space. Where the space's first instruction jumps to itself, the
-//! thread does that for ever; else it looks as often as the space has cells, and is done. No context carries anything.
+// The smallest user level.
 ghost use Rattle.std.specs.Prelude.{◌≡◌, ◌+◌, ◌≤◌, ◌++◌, replicate};
 ghost use Rattle.sa_base.specs.Items.{items_from};
 ghost use Rattle.sa_abstract.specs.Keeps.{IsTelling};
-ghost use Rattle.tests_machine.specs.OneThread.{first_instr, jumps_to_itself, loop_regs, round_in, said_in, is_done};
+ghost use Rattle.sa_abstract.specs.OneThread.{first_instr, jumps_to_itself, loop_regs, round_in, said_in, is_done};
 
-use sa_abstract::{SeatState, Step, Tally, UserLevel};
+use crate::answer::{SeatState, Step, Tally};
+use crate::level::UserLevel;
 use sa_base::{MAX_EVENTS, Note, Record, Seen, SpaceNo, Stopped, ThreadNo, Trace};
 use sa_instr::{Instr, Reg, Regs};
 use sa_spaces::SpaceDef;
@@ -13,7 +13,9 @@ use std::alloc::{AllocError, Global};
 
 const THREAD: ThreadNo = ThreadNo(0);
 
-/// The one thread of a space.
+/// The smallest user level: one thread for each space, and no lists. Where the space's first instruction jumps to itself
+/// while register 0 is not 0, the thread does that for ever; else it looks as often as the space has cells, and is done.
+/// No context carries anything. It is here for who writes a user level to read first; no command runs it.
 #[derive(Drop)]
 pub struct OneThread {
     space: SpaceNo,
@@ -82,8 +84,8 @@ fn go_round(space: SpaceNo, seen: &Seen, n: u16, trace: &mut Trace)
 }
 
 impl UserLevel for OneThread {
-    ghost use Rattle.tests_machine.specs.OneThread.{one_thread_calls, one_thread_stands};
-    ghost use Rattle.tests_machine.specs.Kept.{one_thread_keeps};
+    ghost use Rattle.sa_abstract.specs.OneThread.{one_thread_calls, one_thread_stands};
+    ghost use Rattle.sa_abstract.specs.OneThreadKeeps.{one_thread_keeps};
 
     type Ctx = ();
 

@@ -1,7 +1,7 @@
 use Rattle.std.proofs.Common.{◌≡◌, ◌+◌, ◌-◌, ◌++◌, replicate}
 use Rattle.sa_base.specs.Items.{items_from}
-use Rattle.tests_machine.specs.OneThread.{round_in}
-use Rattle.tests_machine.proofs.one_thread.go_round.Given as goal
+use Rattle.sa_abstract.specs.OneThread.{round_in}
+use Rattle.sa_abstract.proofs.one_thread.go_round.Given as goal
 
 abbrev pub invariant-loop-done : goal.invariant-loop-done
 invariant-loop-done l = record {
