@@ -2,6 +2,5 @@
 #![tactic(auto)]
 
 mod run;
-mod turn;
 
 pub use run::Core;

@@ -2,3 +2,4 @@ pub mod EventLemmas
 pub mod EnterLemmas
 pub mod CallLemmas
 pub mod EntryLemmas
+pub mod CountLemmas

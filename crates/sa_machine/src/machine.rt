@@ -11,16 +11,16 @@ ghost use Rattle.sa_core_model.specs.Turn.{next_event, more_events, ticked, ends
 ghost use Rattle.sa_core_model.specs.End.{is_inside, is_any_inside, local_on};
 ghost use Rattle.sa_core_model.specs.Run.{opening, CanGo};
 ghost use Rattle.sa_core_model.specs.Standing.{Stands, IsBetween};
-ghost use Rattle.sa_users.specs.declared.users.TheConstants.{STEP_ITEMS};
+ghost use Rattle.sa_machine.specs.declared.users.TheConstants.{STEP_ITEMS};
 ghost use Rattle.sa_machine.specs.View.{machine_of};
 ghost use Rattle.sa_machine.specs.Room.{owed, Spends};
 ghost use Rattle.sa_machine.specs.Needs.{ByFresh, Welcomes, IsNext, Asks};
 
+use crate::users::{STEP_ITEMS, Users};
 use sa_abstract::{SeatState, Step, UserLevel};
 use sa_base::{IoNo, MAX_EVENTS, ProcNo, Record, SpaceNo, Stopped, Trace};
 use sa_kernel::{ENTRY_ITEMS, Entry, Given, Kernel};
 use sa_spaces::Workload;
-use sa_users::{STEP_ITEMS, Users};
 use std::alloc::{AllocError, Global};
 
 /// The items of an event at most, but for notices told and activations given back: a step's and an entry's.

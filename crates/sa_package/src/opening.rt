@@ -1,18 +1,13 @@
 // The opening of a space.
-ghost use Rattle.std.specs.Prelude.{◌≡◌, ◌≤◌, IfOk};
+ghost use Rattle.std.specs.Prelude.{◌≡◌, IfOk};
 ghost use Rattle.sa_abstract.specs.Setting.{Setting, IsSetting};
-ghost use Rattle.sa_package_model.specs.Step.{started, started_with, opened};
+ghost use Rattle.sa_package_model.specs.Step.{started, started_with};
 
 use crate::package::FastThreads;
-use sa_base::{MAX_PROCESSORS, MAX_THREADS, ProcNo, SpaceNo, ThreadNo};
-use sa_code::{MAX_LISTS, PackageState, routines};
-use sa_copies::make_copies;
-use sa_fast::{Block, KeptPlace, Shared, Threads, WorkLists};
-use sa_instr::Regs;
-use sa_lists::{Ranks, ReadyLists};
+use sa_base::SpaceNo;
+use sa_lists::Ranks;
 use sa_package_model::Package;
 use sa_spaces::SpaceDef;
-use sa_sync::SyncState;
 use std::alloc::{AllocError, Global};
 
 impl FastThreads {
@@ -55,53 +50,7 @@ impl FastThreads {
           fetch = fetch;
         } in IfOk result (λ user. user ≡ started_with ranks setting) }
     {
-        let sync = SyncState::new(alloc, &def)?;
-        let mut threads = Threads::new(alloc)?;
-        threads.set(
-            ThreadNo(0),
-            Block {
-                program: 0,
-                pc: 0,
-                regs: Regs::zero(),
-                place: KeptPlace::Ready,
-            },
-        );
-        let state = PackageState {
-            space,
-            lists: open_lists(alloc, ranks, processors)?,
-            holders: [None; MAX_LISTS],
-            code: make_copies(&routines()),
-        };
-        Ok(FastThreads {
-            package: Package {
-                def,
-                processors,
-                fetch,
-                shared: Shared {
-                    state,
-                    sync,
-                    threads,
-                    works: WorkLists::new(alloc)?,
-                },
-            },
-        })
+        let package = Package::open(alloc, ranks, space, def, processors, fetch)?;
+        Ok(FastThreads { package })
     }
-}
-
-// The ready lists of a space at its opening.
-fn open_lists(alloc: Global, ranks: Ranks, processors: u16) -> Result<ReadyLists, AllocError>
-    requires some { 1 ≤ processors }
-    requires few { processors ≤ MAX_PROCESSORS }
-    ensures { IfOk result (λ lists. lists ≡ opened ranks processors) }
-{
-    let count = match ranks {
-        Ranks::One => processors,
-        Ranks::Many => 1,
-    };
-    let mut lists = ReadyLists::new(alloc, count, ranks, MAX_THREADS)?;
-    let _ = lists.make(0);
-    let _ = lists.try_lock(ProcNo(0));
-    lists.push(ProcNo(0), ThreadNo(0));
-    lists.unlock(ProcNo(0));
-    Ok(lists)
 }

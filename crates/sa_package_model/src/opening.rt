@@ -1,0 +1,85 @@
+// The opening of a space.
+ghost use Rattle.std.specs.Prelude.{◌≡◌, ◌≤◌, IfOk};
+ghost use Rattle.sa_abstract.specs.Setting.{Setting, IsSetting};
+ghost use Rattle.sa_package_model.specs.Step.{started_with, opened};
+
+use crate::package::Package;
+use sa_base::{MAX_PROCESSORS, MAX_THREADS, ProcNo, SpaceNo, ThreadNo};
+use sa_code::{MAX_LISTS, PackageState, routines};
+use sa_copies::make_copies;
+use sa_fast::{Block, KeptPlace, Shared, Threads, WorkLists};
+use sa_instr::Regs;
+use sa_lists::{Ranks, ReadyLists};
+use sa_spaces::SpaceDef;
+use sa_sync::SyncState;
+use std::alloc::{AllocError, Global};
+
+impl Package {
+    /// What a package keeps at the opening of its space: thread 0 is ready in list 0, and all locks are free. There are lists
+    /// of one rank, one for each processor, or one list of many ranks, in which a thread has the rank of its program's number.
+    /// The space has this many processors at most, 1 to 16, and the fetch of a page takes `fetch` events, 1 to 1,000. Fails
+    /// only where memory runs out.
+    pub fn open(
+        alloc: Global,
+        ranks: Ranks,
+        space: SpaceNo,
+        def: SpaceDef,
+        processors: u16,
+        fetch: u32,
+    ) -> Result<Package, AllocError>
+        requires { IsSetting (record { space = space; def = def; processors = processors; fetch = fetch }) }
+        ensures { let setting : Setting = record {
+          space = space;
+          def = def;
+          processors = processors;
+          fetch = fetch;
+        } in IfOk result (λ package. package ≡ started_with ranks setting) }
+    {
+        let sync = SyncState::new(alloc, &def)?;
+        let mut threads = Threads::new(alloc)?;
+        threads.set(
+            ThreadNo(0),
+            Block {
+                program: 0,
+                pc: 0,
+                regs: Regs::zero(),
+                place: KeptPlace::Ready,
+            },
+        );
+        let state = PackageState {
+            space,
+            lists: open_lists(alloc, ranks, processors)?,
+            holders: [None; MAX_LISTS],
+            code: make_copies(&routines()),
+        };
+        Ok(Package {
+            def,
+            processors,
+            fetch,
+            shared: Shared {
+                state,
+                sync,
+                threads,
+                works: WorkLists::new(alloc)?,
+            },
+        })
+    }
+}
+
+// The ready lists of a space at its opening.
+fn open_lists(alloc: Global, ranks: Ranks, processors: u16) -> Result<ReadyLists, AllocError>
+    requires some { 1 ≤ processors }
+    requires few { processors ≤ MAX_PROCESSORS }
+    ensures { IfOk result (λ lists. lists ≡ opened ranks processors) }
+{
+    let count = match ranks {
+        Ranks::One => processors,
+        Ranks::Many => 1,
+    };
+    let mut lists = ReadyLists::new(alloc, count, ranks, MAX_THREADS)?;
+    let _ = lists.make(0);
+    let _ = lists.try_lock(ProcNo(0));
+    lists.push(ProcNo(0), ThreadNo(0));
+    lists.unlock(ProcNo(0));
+    Ok(lists)
+}
