@@ -1,7 +1,6 @@
 // What the adapters over std's readers and writers do, and that a sink in memory is made where there is memory.
 use sa_io::{MemSink, Sink, Source, StdSink, StdSource};
-use std::alloc::{AllocError, Global};
-use std::collections::VecDeque;
+use std::alloc::Global;
 use std::io::{Error, ErrorKind, Read, Write};
 use std::process::Abort;
 use std::test::Fail;
@@ -10,7 +9,7 @@ use std::test::Fail;
 fn read_through<S: Source>(rt: &impl Abort, source: &mut S, answers: &[Option<usize>]) {
     let mut room = [0u8; 4];
     for answer in answers {
-        assert_eq!(rt; source.read(&mut room).ok(), *answer);
+        assert!(rt; source.read(&mut room).ok() == *answer);
     }
 }
 
@@ -26,45 +25,37 @@ fn write_through<K: Sink>(rt: &impl Abort, sink: &mut K, answers: [bool; 3]) {
 fn a_sink_in_memory_is_made(rt: HostRuntime) -> Result<(), Fail> {
     let mut sink = MemSink::new(rt.alloc(), 6, Vec::new(rt.alloc()))?;
     write_through(&rt, &mut sink, [true, true, true]);
-    assert_eq!(rt; sink.taken(), b"abcdef".as_slice());
+    assert!(rt; sink.taken() == b"abcdef".as_slice());
     Ok(())
 }
 
-/// A reader and a writer that moves at most that many bytes a call, or fails in this way.
+/// A reader and a writer that moves at most so many bytes a call, or fails in this way, turn by turn.
 #[derive(Drop)]
-struct Halting {
-    turns: VecDeque<Result<usize, ErrorKind>>,
+struct Halting<'a> {
+    turns: &'a [Result<usize, ErrorKind>],
     written: Vec<u8>,
 }
 
-impl Halting {
-    fn new(alloc: Global, turns: &[Result<usize, ErrorKind>]) -> Result<Halting, AllocError> {
-        let mut all = VecDeque::new(alloc);
-        for turn in turns {
-            all.push_back(*turn)?;
-        }
-        Ok(Halting {
-            turns: all,
-            written: Vec::new(alloc),
-        })
-    }
-
+impl<'a> Halting<'a> {
     fn next_turn(&mut self) -> Result<usize, Error> {
-        match self.turns.pop_front() {
-            Some(Err(kind)) => Err(Error::from(kind)),
-            Some(Ok(most)) => Ok(most),
-            None => Ok(0),
+        let Some((turn, rest)) = self.turns.split_first() else {
+            return Ok(0);
+        };
+        self.turns = rest;
+        match *turn {
+            Ok(most) => Ok(most),
+            Err(kind) => Err(Error::from(kind)),
         }
     }
 }
 
-impl Read for Halting {
+impl<'a> Read for Halting<'a> {
     fn read(&mut self, buf: &mut [u8]) -> std::io::Result<usize> {
         Ok(self.next_turn()?.min(buf.len()))
     }
 }
 
-impl Write for Halting {
+impl<'a> Write for Halting<'a> {
     fn write(&mut self, buf: &[u8]) -> std::io::Result<usize> {
         let count = self.next_turn()?.min(buf.len());
         self.written.extend_from_slice(&buf[..count])?;
@@ -76,23 +67,41 @@ impl Write for Halting {
     }
 }
 
+const AGAIN: Result<usize, ErrorKind> = Err(ErrorKind::Interrupted);
+
+const BROKEN: Result<usize, ErrorKind> = Err(ErrorKind::BrokenPipe);
+
 #[test]
-fn an_interrupted_call_is_made_again(rt: HostRuntime) -> Result<(), Fail> {
-    let alloc = rt.alloc();
-    let again = Err(ErrorKind::Interrupted);
-    let broken = Err(ErrorKind::BrokenPipe);
-    let turns = [again, again, Ok(3), broken, again, Ok(9), Ok(0)];
-    let mut source = StdSource::new(Halting::new(alloc, &turns)?);
+fn an_interrupted_read_is_made_again(rt: HostRuntime) {
+    let turns = [AGAIN, AGAIN, Ok(3), BROKEN, AGAIN, Ok(9), Ok(0)];
+    let mut source = StdSource::new(Halting {
+        turns: &turns,
+        written: Vec::new(rt.alloc()),
+    });
     read_through(&rt, &mut source, &[Some(3), None, Some(4), Some(0)]);
+}
 
-    // The whole piece in parts; nothing to write; a write of no byte.
-    let mut halting = Halting::new(alloc, &[Ok(1), again, Ok(2), Ok(1), again, Ok(0)])?;
-    write_through(&rt, &mut StdSink::new(&mut halting), [true, true, false]);
-    assert_eq!(rt; halting.written.as_slice(), b"abcd".as_slice());
+/// Writes through a writer of these turns, and compares the answers and what was written.
+fn write_halting(
+    rt: &impl Abort,
+    alloc: Global,
+    turns: &[Result<usize, ErrorKind>],
+    answers: [bool; 3],
+    written: &[u8],
+) {
+    let mut halting = Halting {
+        turns,
+        written: Vec::new(alloc),
+    };
+    write_through(rt, &mut StdSink::new(&mut halting), answers);
+    assert!(rt; halting.written.as_slice() == written);
+}
 
-    // An error in mid-piece, and a write after it.
-    let mut halting = Halting::new(alloc, &[Ok(2), again, broken, Ok(3)])?;
-    write_through(&rt, &mut StdSink::new(&mut halting), [false, true, true]);
-    assert_eq!(rt; halting.written.as_slice(), b"abdef".as_slice());
-    Ok(())
+// The whole piece in parts, nothing to write, and a write of no byte; then an error in mid-piece, and a write after it.
+#[test]
+fn an_interrupted_write_is_made_again(rt: HostRuntime) {
+    let parts = [Ok(1), AGAIN, Ok(2), Ok(1), AGAIN, Ok(0)];
+    write_halting(&rt, rt.alloc(), &parts, [true, true, false], b"abcd");
+    let breaks = [Ok(2), AGAIN, BROKEN, Ok(3)];
+    write_halting(&rt, rt.alloc(), &breaks, [false, true, true], b"abdef");
 }
