@@ -8,8 +8,8 @@ use Rattle.sa_spaces.specs.Workload.{WorkloadView}
 use Rattle.sa_workload_lines.specs.Text.{IsText}
 use Rattle.sa_workload_lines.specs.Bad.{BadAt}
 use Rattle.sa_trace.specs.TraceText.{trace_text}
-use Rattle.sa_script.specs.declared.command.DebugCommand.{DebugCommand}
-use Rattle.sa_script.specs.Reading.{script_of}
+use Rattle.sa_debug.specs.declared.script.command.DebugCommand.{DebugCommand}
+use Rattle.sa_debug.specs.script.Reading.{script_of}
 use Rattle.sa_cli.specs.Debugged.{IsOver, RanSoFar}
 use Rattle.sa_cli.specs.declared.limits.TheConstants.{SCRIPTS_LIMIT}
 use Rattle.sa_cli.specs.declared.limits.TheConstants.{INPUT_LIMIT}

@@ -3,7 +3,7 @@ use Rattle.std.specs.Prelude.{◌≡◌, ◌⊎◌, ℕ, List, []}
 use Rattle.sa_base.specs.declared.record.End.{End}
 use Rattle.sa_base.specs.declared.record.Item.{Item}
 use Rattle.sa_spaces.specs.Workload.{WorkloadView}
-use Rattle.sa_script.specs.declared.command.DebugCommand.{DebugCommand}
+use Rattle.sa_debug.specs.declared.script.command.DebugCommand.{DebugCommand}
 use Rattle.sa_cli.specs.Debugged.{IsOver, RanSoFar}
 use Rattle.sa_cli.specs.declared.debug.Stopped.{Stopped}
 use Rattle.sa_cli.specs.declared.debug.Stopped.TheVariants.{BadWorkload, BadScript, OutOfMemory}

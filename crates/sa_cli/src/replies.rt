@@ -3,13 +3,12 @@ ghost use Rattle.std.specs.Prelude.{◌≡◌, All, IfOk, OnErr};
 ghost use Rattle.sa_core.specs.View.{machine};
 ghost use Rattle.sa_debug.specs.OverMachines.{over_machines, session};
 ghost use Rattle.sa_package_model.specs.Step.{fast_calls};
-ghost use Rattle.sa_script.specs.Text.{FitsCommand};
+ghost use Rattle.sa_debug.specs.script.Text.{FitsCommand};
 ghost use Rattle.sa_package_runs.specs.Told.{CameSoFar};
 ghost use Rattle.sa_cli.specs.Debugged.{AreDone};
 
-use sa_debug::Session;
+use sa_debug::{DebugCommand, Session, print_reply};
 use sa_package::FastThreads;
-use sa_script::{DebugCommand, print_reply};
 use std::alloc::{AllocError, Global};
 
 /// Does the commands, whose numbers are in the ranges of the workload. Answers the texts of the replies, one after another.

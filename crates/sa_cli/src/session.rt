@@ -1,19 +1,18 @@
 // A debugging session of FastThreads by a script: its replies, and the trace of its machine.
 ghost use Rattle.std.specs.Prelude.{◌≤◌, All, IfOk, IfErr};
-ghost use Rattle.sa_script.specs.Text.{FitsCommand};
+ghost use Rattle.sa_debug.specs.script.Text.{FitsCommand};
 ghost use Rattle.sa_cli.specs.Debugged.{IsOver, RanSoFar, IsDebugged, IsUndebugged};
 
 use crate::replies::do_all;
 use sa_base::{Bad, End, MAX_EVENTS, Trace, Unread};
 use sa_core::Core;
-use sa_debug::Session;
+use sa_debug::laws::scripts_are_read;
+use sa_debug::{DebugCommand, Session, read_script};
 use sa_package::FastThreads;
 use sa_package_runs::sessions::{
     fast_threads_can_be_debugged, sessions_are_legal, sessions_are_told,
 };
 use sa_replay::Replay;
-use sa_script::laws::scripts_are_read;
-use sa_script::{DebugCommand, read_script};
 use sa_spaces::Workload;
 use std::alloc::Global;
 

@@ -1,3 +1,4 @@
+pub mod script
 pub mod Playing
 pub mod Ordering
 pub mod Keeping

@@ -6,7 +6,7 @@ use Rattle.std.proofs.lemmas.Bool.{eqb-true, false_from_ne_true}
 use Rattle.std.proofs.lemmas.List.{get_or-set_same}
 use Rattle.std.proofs.lemmas.List.Elements.{All-nil, All-cons, All-append}
 use Rattle.std.proofs.lemmas.List.Folds.{list_any_none}
-use Rattle.sa_script.specs.declared.command.Point.{Point}
+use Rattle.sa_debug.specs.declared.script.command.Point.{Point}
 use Rattle.sa_debug.specs.Points.{same_point, IsMarked}
 
 second : (x y z : Bool) → y ≡ false → (x && y && z) ≡ false

@@ -1,3 +1,4 @@
+pub mod script
 pub mod Points
 pub mod Order
 pub mod Session

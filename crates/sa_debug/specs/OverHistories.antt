@@ -12,7 +12,7 @@ use Rattle.sa_laws.specs.Opening.{opening_event}
 use Rattle.sa_laws.specs.Readings.{Readings, line_of, life_on}
 use Rattle.sa_laws.specs.Rules.{UserRules}
 use Rattle.sa_laws.specs.State.{State, Runner, thread_at, runner_on}
-use Rattle.sa_script.specs.declared.command.Point.{Point}
+use Rattle.sa_debug.specs.declared.script.command.Point.{Point}
 use Rattle.sa_debug.specs.Order.{last_proc}
 use Rattle.sa_debug.specs.Session.{Watched}
 use Rattle.sa_debug.specs.Views.{view_in}

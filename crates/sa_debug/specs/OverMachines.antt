@@ -10,7 +10,7 @@ use Rattle.sa_core_model.specs.Run.Move.{turn}
 use Rattle.sa_core_model.specs.End.{end_of, local_on}
 use Rattle.sa_core.specs.View.{CoreView, machine}
 use Rattle.sa_laws.specs.State.{opening_state}
-use Rattle.sa_script.specs.declared.command.Point.{Point}
+use Rattle.sa_debug.specs.declared.script.command.Point.{Point}
 use Rattle.sa_debug.specs.Order.{last_proc}
 use Rattle.sa_debug.specs.Session.{Watched, Session}
 use Rattle.sa_debug.specs.Views.{view_in, state_behind}

@@ -1,6 +1,6 @@
 -- Breakpoints.
 use Rattle.std.specs.Prelude.{◌≡◌, Bool, true, false, not, ◌&&◌, ◌==◌, ◌%◌, List, slice_index_or}
-use Rattle.sa_script.specs.declared.command.Point.{Point}
+use Rattle.sa_debug.specs.declared.script.command.Point.{Point}
 
 abbrev pub same_point : Point → Point → Bool
 same_point a b = a.space.0 == b.space.0 && a.thread.0 == b.thread.0 && a.place == b.place

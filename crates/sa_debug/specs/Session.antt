@@ -5,12 +5,12 @@ use Rattle.sa_base.specs.declared.number.ProcNo.{ProcNo}
 use Rattle.sa_base.specs.declared.number.SpaceNo.{SpaceNo}
 use Rattle.sa_base.specs.declared.number.ThreadNo.{ThreadNo}
 use Rattle.sa_base.specs.declared.record.End.{End}
-use Rattle.sa_script.specs.declared.command.Point.{Point}
-use Rattle.sa_script.specs.declared.command.DebugCommand.{DebugCommand}
-use Rattle.sa_script.specs.declared.command.DebugCommand.TheVariants.{Break, Clear, Halt, Go, Step, Run, Show}
-use Rattle.sa_script.specs.declared.reply.View.{View}
-use Rattle.sa_script.specs.declared.reply.Reply.{Reply}
-use Rattle.sa_script.specs.declared.reply.Reply.TheVariants.{Accepted, Full, NotThere, Event, Ended, AtBreak, Halted, Shown}
+use Rattle.sa_debug.specs.declared.script.command.Point.{Point}
+use Rattle.sa_debug.specs.declared.script.command.DebugCommand.{DebugCommand}
+use Rattle.sa_debug.specs.declared.script.command.DebugCommand.TheVariants.{Break, Clear, Halt, Go, Step, Run, Show}
+use Rattle.sa_debug.specs.declared.script.reply.View.{View}
+use Rattle.sa_debug.specs.declared.script.reply.Reply.{Reply}
+use Rattle.sa_debug.specs.declared.script.reply.Reply.TheVariants.{Accepted, Full, NotThere, Event, Ended, AtBreak, Halted, Shown}
 use Rattle.sa_debug.specs.declared.points.TheConstants.{MAX_POINTS}
 use Rattle.sa_debug.specs.Points.{same_point, is_other}
 use Rattle.sa_debug.specs.Order.{none_halted, goes, EachGoes, in_order}

@@ -7,7 +7,7 @@ use Rattle.sa_base.specs.declared.record.Item.{Item}
 use Rattle.sa_spaces.specs.Workload.{WorkloadView}
 use Rattle.sa_laws.specs.State.{State, Thread, space_at, opening_state}
 use Rattle.sa_laws.specs.Machine.{changed}
-use Rattle.sa_script.specs.declared.reply.View.{View}
+use Rattle.sa_debug.specs.declared.script.reply.View.{View}
 
 abbrev pub view_of : Thread → View
 view_of thread = record { place = thread.place; pc = thread.pc; regs = thread.regs }

@@ -6,7 +6,7 @@ ghost use Rattle.sa_debug.specs.Views.{view_in, IsBehind};
 
 use sa_base::{Item, SpaceNo, ThreadNo};
 use sa_replay::Replay;
-use sa_script::View;
+use crate::script::View;
 use std::alloc::AllocError;
 use std::marker::Model;
 

@@ -3,7 +3,7 @@ ghost use Rattle.std.specs.Prelude.{◌≡◌, ◌≤◌, ◌<◌, [], ◌∷◌
 ghost use Rattle.std.specs.List.{list_any};
 ghost use Rattle.sa_debug.specs.Points.{same_point, is_other};
 
-use sa_script::Point;
+use crate::script::Point;
 use std::alloc::{AllocError, Global};
 use std::marker::Model;
 
@@ -24,7 +24,7 @@ pub(crate) struct Points {
 
 impl Model for Points {
     ghost use Rattle.std.specs.Prelude.{List};
-    ghost use Rattle.sa_script.specs.declared.command.Point.{Point};
+    ghost use Rattle.sa_debug.specs.declared.script.command.Point.{Point};
     ghost use Rattle.std.specs.List.{All};
     ghost use Rattle.sa_debug.specs.Points.{IsMarked};
 

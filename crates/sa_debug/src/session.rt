@@ -5,7 +5,7 @@ ghost use Rattle.sa_replay.specs.Replayed.{opened};
 ghost use Rattle.sa_core.specs.View.{machine};
 ghost use Rattle.sa_core_model.specs.End.{end_of};
 ghost use Rattle.sa_core_model.specs.Run.{opening};
-ghost use Rattle.sa_script.specs.Text.{FitsCommand};
+ghost use Rattle.sa_debug.specs.script.Text.{FitsCommand};
 ghost use Rattle.sa_debug.specs.Session.{Gives, fresh, broken, cleared, with_halt, shown, first, next, point_at, IsFree, IsNext, SaysEnded, Stops, Turns, Steps, RunsTo, RunsSoFar, Does, DoesSoFar};
 ghost use Rattle.sa_debug.specs.OverMachines.{over_machines, session};
 ghost use Rattle.sa_debug.specs.Reached.{IsPlayable};
@@ -17,7 +17,7 @@ use sa_abstract::{SeatState, UserLevel};
 use sa_base::{End, ProcNo, SpaceNo, ThreadNo, Trace};
 use sa_core::Core;
 use sa_replay::Replay;
-use sa_script::{DebugCommand, Point, Reply};
+use crate::script::{DebugCommand, Point, Reply};
 use std::alloc::{AllocError, Global};
 use std::marker::Model;
 

@@ -2,11 +2,11 @@
 use Rattle.std.proofs.Common.{◌≡◌, ℕ, zero, suc, Bool, true, false, List, [], ◌∷◌, Option, Some, None, inl, inr, refl, sym, ap, ◌∙◌, subst}
 use Rattle.std.specs.Prelude.{MatchOption}
 use Rattle.sa_base.specs.declared.number.ProcNo.{ProcNo}
-use Rattle.sa_script.specs.declared.command.Point.{Point}
-use Rattle.sa_script.specs.declared.command.DebugCommand.{DebugCommand}
-use Rattle.sa_script.specs.declared.command.DebugCommand.TheVariants.{Break, Clear, Halt, Go, Step, Run, Show}
-use Rattle.sa_script.specs.declared.reply.Reply.{Reply}
-use Rattle.sa_script.specs.declared.reply.Reply.TheVariants.{AtBreak}
+use Rattle.sa_debug.specs.declared.script.command.Point.{Point}
+use Rattle.sa_debug.specs.declared.script.command.DebugCommand.{DebugCommand}
+use Rattle.sa_debug.specs.declared.script.command.DebugCommand.TheVariants.{Break, Clear, Halt, Go, Step, Run, Show}
+use Rattle.sa_debug.specs.declared.script.reply.Reply.{Reply}
+use Rattle.sa_debug.specs.declared.script.reply.Reply.TheVariants.{AtBreak}
 use Rattle.sa_debug.specs.Session.{Watched, Session, with_point, without_point, has_point, with_halt, next, point_at}
 use Rattle.sa_debug.specs.Session.{SaysEnded, Turns, IsHeld, RunsTo, RunsSoFar, Does, DoesSoFar, DoAll}
 

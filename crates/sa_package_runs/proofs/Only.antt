@@ -4,11 +4,11 @@ use Rattle.std.specs.Prelude.{MatchOption}
 use Rattle.std.proofs.lemmas.Option.{same_Some, none-some}
 use Rattle.sa_base.specs.declared.number.ProcNo.{ProcNo}
 use Rattle.sa_base.specs.declared.record.End.{End}
-use Rattle.sa_script.specs.declared.command.Point.{Point}
-use Rattle.sa_script.specs.declared.command.DebugCommand.{DebugCommand}
-use Rattle.sa_script.specs.declared.command.DebugCommand.TheVariants.{Break, Clear, Halt, Go, Step, Run, Show}
-use Rattle.sa_script.specs.declared.reply.Reply.{Reply}
-use Rattle.sa_script.specs.declared.reply.Reply.TheVariants.{Event, Ended, AtBreak}
+use Rattle.sa_debug.specs.declared.script.command.Point.{Point}
+use Rattle.sa_debug.specs.declared.script.command.DebugCommand.{DebugCommand}
+use Rattle.sa_debug.specs.declared.script.command.DebugCommand.TheVariants.{Break, Clear, Halt, Go, Step, Run, Show}
+use Rattle.sa_debug.specs.declared.script.reply.Reply.{Reply}
+use Rattle.sa_debug.specs.declared.script.reply.Reply.TheVariants.{Event, Ended, AtBreak}
 use Rattle.sa_debug.specs.Session.{Watched, Session, Gives, with_halt, with_machine, next, point_at}
 use Rattle.sa_debug.specs.Session.{SaysEnded, Turns, Steps, IsHeld, Stops, IsNext, IsOver, RunsTo, Does, DoAll}
 use Rattle.sa_package_runs.proofs.Keeping.{ran, does-all}

@@ -39,7 +39,7 @@ use Rattle.sa_legal_runs.proofs.matching.EventBegins.{begins-now, acts-at, nobod
 use Rattle.sa_legal_runs.proofs.matching.Shown.{line-reads, owner-reads}
 use Rattle.sa_fast_laws.proofs.FastLaws.{fast_level}
 use Rattle.sa_package_runs.specs.Runs.{FastMachine}
-use Rattle.sa_script.specs.declared.command.Point.{Point}
+use Rattle.sa_debug.specs.declared.script.command.Point.{Point}
 use Rattle.sa_debug.specs.OverMachines.{point_of as point_in}
 use Rattle.sa_debug.specs.OverHistories.{is_in, point_of, stands_on}
 

@@ -22,8 +22,8 @@ use Rattle.sa_fast_laws.proofs.FastLaws.{fast_level}
 use Rattle.sa_package_runs.specs.Runs.{FastMachine}
 use Rattle.sa_package_runs.specs.Calls.{IsReachedByTurns}
 use Rattle.sa_package_runs.proofs.Calls.{start-reaches, reached-legal, reached-strict, reached-ends}
-use Rattle.sa_script.specs.declared.command.DebugCommand.{DebugCommand}
-use Rattle.sa_script.specs.declared.reply.Reply.{Reply}
+use Rattle.sa_debug.specs.declared.script.command.DebugCommand.{DebugCommand}
+use Rattle.sa_debug.specs.declared.script.reply.Reply.{Reply}
 use Rattle.sa_debug.specs.OverHistories.{AddsTurn, over_histories, opening_items, stands_on, read as read_of}
 use Rattle.sa_debug.specs.OverMachines.{over_machines}
 use Rattle.sa_debug.specs.Session.{Session, fresh, DoAll, DoesSoFar}

@@ -11,8 +11,8 @@ use Rattle.sa_package_model.specs.Step.{fast_calls}
 use Rattle.sa_prio_model.specs.Step.{prio_calls}
 use Rattle.sa_package_runs.specs.Runs.{FastMachine}
 use Rattle.sa_package_runs.specs.Whole.{IsLegalRun}
-use Rattle.sa_script.specs.declared.command.DebugCommand.{DebugCommand}
-use Rattle.sa_script.specs.declared.reply.Reply.{Reply}
+use Rattle.sa_debug.specs.declared.script.command.DebugCommand.{DebugCommand}
+use Rattle.sa_debug.specs.declared.script.reply.Reply.{Reply}
 use Rattle.sa_debug.specs.Session.{Session, fresh, DoAll, DoesSoFar}
 use Rattle.sa_debug.specs.OverMachines.{over_machines}
 use Rattle.sa_debug.specs.Reached.{IsPlayable}

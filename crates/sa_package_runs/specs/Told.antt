@@ -6,8 +6,8 @@ use Rattle.sa_laws.specs.Rules.{fast_threads}
 use Rattle.sa_core_model.specs.Run.{opening}
 use Rattle.sa_package_model.specs.Step.{fast_calls}
 use Rattle.sa_package_runs.specs.Runs.{FastMachine}
-use Rattle.sa_script.specs.declared.command.DebugCommand.{DebugCommand}
-use Rattle.sa_script.specs.declared.reply.Reply.{Reply}
+use Rattle.sa_debug.specs.declared.script.command.DebugCommand.{DebugCommand}
+use Rattle.sa_debug.specs.declared.script.reply.Reply.{Reply}
 use Rattle.sa_debug.specs.OverHistories.{over_histories, opening_items}
 use Rattle.sa_debug.specs.OverMachines.{over_machines}
 use Rattle.sa_debug.specs.Session.{Watched, Session, fresh, DoAll, DoesSoFar}

@@ -1,9 +1,9 @@
 use Rattle.std.proofs.Common.{◌∙◌, get_or, refl, sym, subst}
 use Rattle.sa_spaces.specs.Workload.{WorkloadView}
 use Rattle.sa_lemmas.proofs.Results.{on_err}
-use Rattle.sa_script.specs.declared.command.DebugCommand.{DebugCommand}
-use Rattle.sa_script.specs.declared.command.DebugCommand.TheVariants.{Break}
-use Rattle.sa_script.specs.Text.{FitsCommand}
+use Rattle.sa_debug.specs.declared.script.command.DebugCommand.{DebugCommand}
+use Rattle.sa_debug.specs.declared.script.command.DebugCommand.TheVariants.{Break}
+use Rattle.sa_debug.specs.script.Text.{FitsCommand}
 use Rattle.sa_debug.specs.OverMachines.{session}
 use Rattle.sa_cli.proofs.ScriptCommands.{done-more, came-at, came-behind}
 use Rattle.sa_cli.proofs.replies.do_all.Goals as goal

@@ -1,6 +1,6 @@
 use Rattle.std.proofs.Common.{sym, subst}
 use Rattle.std.specs.Prelude.{All}
-use Rattle.sa_script.specs.Text.{FitsCommand}
+use Rattle.sa_debug.specs.script.Text.{FitsCommand}
 use Rattle.sa_cli.proofs.session.debug.Goals as goal
 
 pub do_script-done-requires-clause-fit : goal.do_script-done-requires-clause-fit

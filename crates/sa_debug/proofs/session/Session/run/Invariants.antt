@@ -1,7 +1,7 @@
 use Rattle.std.proofs.Common.{◌≡◌, ◌-◌}
 use Rattle.sa_core.specs.View.{machine}
 use Rattle.sa_core_model.specs.Machine.{Machine}
-use Rattle.sa_script.specs.declared.reply.Reply.{Reply}
+use Rattle.sa_debug.specs.declared.script.reply.Reply.{Reply}
 use Rattle.sa_debug.specs.Session.{Session, RunsTo, RunsSoFar}
 use Rattle.sa_debug.specs.OverMachines.{over_machines, session}
 use Rattle.sa_debug.proofs.session.Session.run.Given as goal

@@ -1,7 +1,0 @@
-pub mod Words
-pub mod Fields
-pub mod Line
-pub mod Reading
-pub mod Text
-pub mod TextLaws
-pub mod Reply
