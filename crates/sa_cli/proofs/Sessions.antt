@@ -1,5 +1,5 @@
 -- What the parts of `debug` say together.
-use Rattle.std.proofs.Common.{◌≡◌, ◌⊎◌, ℕ, List, [], ◌++◌, Option, refl, sym, ap, subst, inl, inr, append-nil}
+use Rattle.std.proofs.Common.{◌≡◌, ℕ, List, [], ◌++◌, Option, refl, sym, ap, subst, inl, inr, append-nil}
 use Rattle.sa_base.specs.Recorded.{Recorded}
 use Rattle.sa_base.specs.declared.record.End.{End}
 use Rattle.sa_base.specs.declared.refusal.Bad.{Bad}
@@ -16,8 +16,8 @@ use Rattle.sa_cli.specs.declared.outcome.Ran.TheVariants.{Nothing, Plain}
 use Rattle.sa_cli.specs.declared.outcome.Status.{Status}
 use Rattle.sa_cli.specs.declared.outcome.Status.TheVariants as status
 use Rattle.sa_cli.specs.Answers.{World, TookAll, TookSome, Writes}
-use Rattle.sa_cli.specs.Debugging.{Debugged, DebuggedSoFar, AnswersDebug}
-use Rattle.sa_cli.specs.Debugging.Scripted.{Accepted, BadWorkload, BadScript}
+use Rattle.sa_cli.specs.Debugging.{Debugged, AnswersDebug}
+use Rattle.sa_cli.specs.Debugging.Scripted.{Accepted, BadScript}
 use Rattle.sa_io.specs.Input.{ReadsInput}
 use Rattle.sa_cli.specs.Outcome.{history, status_of}
 use Rattle.sa_cli.specs.Scripted.{IsDone, IsStopped}
@@ -57,30 +57,10 @@ module _ (budget : ℕ) (old new : World) where
       ]
 
   -- a refusal
-  pub workload-answers : (bytes : List ℕ) (bad : Bad) (ran : Ran) (s : Status) → ReadsInput SCRIPTS_LIMIT old.left new.left bytes
-      → IsStopped budget bytes (stopped.BadWorkload bad) → ran ≡ Nothing → s ≡ status.BadWorkload bad → AnswersDebug budget old new ran s
-  workload-answers bytes bad ran s reads wrong none is =
-      subst (λ (x : Status). AnswersDebug budget old new ran x) (sym is) (gave-scripted old.left new.left bytes (BadWorkload bad) reads wrong, none)
-
   pub script-answers : (bytes : List ℕ) (bad : Bad) (ran : Ran) (s : Status) → ReadsInput SCRIPTS_LIMIT old.left new.left bytes
       → IsStopped budget bytes (stopped.BadScript bad) → ran ≡ Nothing → s ≡ status.BadScript bad → AnswersDebug budget old new ran s
   script-answers bytes bad ran s reads wrong none is =
       subst (λ (x : Status). AnswersDebug budget old new ran x) (sym is) (gave-scripted old.left new.left bytes (BadScript bad) reads wrong, none)
-
-  -- memory ran out
-  pub half-answers : (bytes : List ℕ) (trace : Recorded) (ran : Ran) (s : Status) → ReadsInput SCRIPTS_LIMIT old.left new.left bytes
-      → IsStopped budget bytes (stopped.OutOfMemory trace) → ran ≡ Plain trace → s ≡ status.OutOfMemory → AnswersDebug budget old new ran s
-  half-answers bytes trace ran s reads part is what =
-      subst (λ (x : Status). AnswersDebug budget old new ran x) (sym what)
-      (subst (λ (r : Ran). (history r ≡ []) ⊎ DebuggedSoFar budget old new (history r)) (sym is) (elim part [
-        | inl none ↦ inl none
-        | inr half ↦ inr (record {
-          workload = half.workload;
-          commands = half.commands;
-          gave = gave-scripted old.left new.left bytes (Accepted half.workload half.commands) reads half.is;
-          came = half.came;
-        })
-      ]))
 
   -- nothing was read
   pub unread-answers : (error : ReadError) (ran : Ran) (s : Status) → (error ≡ read.Fault → HasRisen old.reads new.reads) → ran ≡ Nothing → s ≡ status_of error

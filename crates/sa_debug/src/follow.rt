@@ -4,9 +4,9 @@ ghost use Rattle.sa_laws.specs.State.{opening_state};
 ghost use Rattle.sa_debug.specs.Reached.{CanPlay};
 ghost use Rattle.sa_debug.specs.Views.{view_in, IsBehind};
 
+use crate::script::View;
 use sa_base::{Item, SpaceNo, ThreadNo};
 use sa_replay::Replay;
-use crate::script::View;
 use std::alloc::AllocError;
 use std::marker::Model;
 

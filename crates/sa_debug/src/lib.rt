@@ -10,7 +10,5 @@ mod script;
 mod session;
 
 pub use points::MAX_POINTS;
-pub use script::{
-    DebugCommand, MAX_LINES, Point, Reply, Script, View, print_reply, read_script,
-};
+pub use script::{DebugCommand, MAX_LINES, Point, Reply, Script, View, print_reply, read_script};
 pub use session::Session;

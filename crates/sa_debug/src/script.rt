@@ -14,7 +14,6 @@ pub use command::{DebugCommand, Point};
 pub use printing::print_reply;
 pub use reading::read_script;
 pub use reply::{Reply, View};
-
 use std::alloc::{AllocError, Global};
 use std::marker::Model;
 

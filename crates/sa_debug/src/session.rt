@@ -13,11 +13,11 @@ ghost use Rattle.sa_debug.specs.Reached.{IsPlayable};
 use crate::follow::Follower;
 use crate::halts::{Halts, cyclic};
 use crate::points::Points;
+use crate::script::{DebugCommand, Point, Reply};
 use sa_abstract::{SeatState, UserLevel};
 use sa_base::{End, ProcNo, SpaceNo, ThreadNo, Trace};
 use sa_core::Core;
 use sa_replay::Replay;
-use crate::script::{DebugCommand, Point, Reply};
 use std::alloc::{AllocError, Global};
 use std::marker::Model;
 

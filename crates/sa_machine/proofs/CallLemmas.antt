@@ -1,5 +1,5 @@
 -- What calls of a user level need, and what they make of the machine.
-use Rattle.std.proofs.Common.{◌≡◌, ◌≢◌, ℕ, zero, suc, ◌+◌, ◌<◌, ◌≤◌, Bool, true, false, cond, Option, Some, None, List, [], ◌∷◌, ◌++◌, length, get_or, slice_get, slice_set, drop, refl, sym, ap, subst, ◌∙◌, arith}
+use Rattle.std.proofs.Common.{◌≡◌, ℕ, zero, suc, ◌+◌, ◌<◌, ◌≤◌, Bool, true, false, cond, Option, Some, None, List, [], ◌∷◌, ◌++◌, length, get_or, slice_get, slice_set, drop, refl, sym, ap, subst, ◌∙◌, arith}
 use Rattle.std.specs.Option.{option_map}
 use Rattle.std.proofs.lemmas.Option.{same_Some}
 use Rattle.sa_base.specs.declared.number.ProcNo.{ProcNo}
@@ -141,17 +141,11 @@ module _ {U C : Type 0} (f : Calls U C) (stands : Standing U C) (keep : Keeps f 
     pub has-place : p.0 < length m.contexts
     has-place = let here = at-owned f stands keep e m p s st owner in omega (arith, here.within, st.lives, st.contexts)
 
-    pub has-processor : p.0 < m.workload.processors
-    has-processor = let here = at-owned f stands keep e m p s st owner in omega (arith, here.within, st.lives)
-
     pub has-life : p.0 < length m.kernel.lives
     has-life = (at-owned f stands keep e m p s st owner).within
 
     pub has-space : s.0 < length m.users
     has-space = let below = st.sound.formed.owners p.0 s owner in omega (arith, below, st.demands, st.users)
-
-    pub some-ctx : context_on m p ≢ None
-    some-ctx none = let here = at-owned f stands keep e m p s st owner in let is = sym here.is_ctx ∙ none in cc
 
     module _ (u : U) (c : C) (user : user_of m s ≡ Some u) (ctx : context_on m p ≡ Some c) where
       here-as : (P : U → C → Type 0) → ((here : IsAt f stands keep m p s) → P here.user here.ctx) → P u c

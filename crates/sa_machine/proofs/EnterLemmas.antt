@@ -1,5 +1,5 @@
 -- What entries and steps need, and what holds after them.
-use Rattle.std.proofs.Common.{◌≡◌, ◌≢◌, ℕ, ◌+◌, ◌<◌, ◌≤◌, true, Option, Some, None, IsSome, length, refl, sym, ap, subst, ◌∙◌, arith}
+use Rattle.std.proofs.Common.{◌≡◌, ℕ, ◌+◌, ◌<◌, ◌≤◌, true, Option, Some, None, IsSome, length, refl, sym, ap, subst, ◌∙◌, arith}
 use Rattle.sa_base.specs.declared.number.ProcNo.{ProcNo}
 use Rattle.sa_base.specs.declared.number.SpaceNo.{SpaceNo}
 use Rattle.sa_base.specs.declared.number.ActNo.{ActNo}
@@ -21,7 +21,7 @@ use Rattle.sa_core_model.specs.Run.{CanGo}
 use Rattle.sa_core_model.specs.Standing.{Stands, IsBetween}
 use Rattle.sa_core_model.proofs.Effects.{same-more, same-idled, same-own}
 use Rattle.sa_core_model.proofs.Phases.{some-is, at-owned, stands-later}
-use Rattle.sa_core_model.proofs.Turns.{Rests, begun-is, rests-next, Welcomed, CanEnter, can-interrupt, can-block, welcomed-upcall, rests-between, rests-entered, rests-given, stopped-is, stepped-is, rests-stepped, step-law, between-rests, own-page}
+use Rattle.sa_core_model.proofs.Turns.{Rests, begun-is, rests-next, Welcomed, CanEnter, can-interrupt, can-block, welcomed-upcall, rests-between, rests-entered, rests-given, stepped-is, rests-stepped, step-law, between-rests, own-page}
 use Rattle.sa_machine.specs.Needs.{Welcomes, IsNext, Asks}
 
 module _ {U C : Type 0} (f : Calls U C) (stands : Standing U C) (keep : Keeps f stands) where
@@ -54,11 +54,6 @@ module _ {U C : Type 0} (f : Calls U C) (stands : Standing U C) (keep : Keeps f 
       let line = some-is (line_of m.kernel p) raised in
       can-interrupt f stands keep m.workload next.last m.event m p n line.0 (rests m next) (lives-of next.last m p next.standing within) line.1 unused
 
-  pub interrupt-fits : (m : Machine U C) (p : ProcNo) (n : ActNo) (held : Option (Stopped C)) → IsNext stands m → p.0 < m.workload.processors
-      → IsSome (line_of m.kernel p)
-      → m.kernel.acts n.0 ≡ None → held ≡ stopped_in f m p (owner_of m.kernel p) → MayEnter m.kernel p m.event (Interrupt held)
-  interrupt-fits m p n held next within raised unused is = rw is ((can-stop m p n next within raised unused).fit)
-
   pub interrupt-welcomes : (m : Machine U C) (p : ProcNo) (n : ActNo) (held : Option (Stopped C)) → IsNext stands m → p.0 < m.workload.processors
       → IsSome (line_of m.kernel p)
       → m.kernel.acts n.0 ≡ None → held ≡ stopped_in f m p (owner_of m.kernel p) → upcalls m.kernel p (Interrupt held) ≡ true
@@ -72,23 +67,12 @@ module _ {U C : Type 0} (f : Calls U C) (stands : Standing U C) (keep : Keeps f 
       (lives-of next.last m p next.standing within) can.fit unused can.pauses up))
 
   -- a block
-  pub blocks-held : (m : Machine U C) (p : ProcNo) (asked : Step) → Asks stands p asked m → stopped_in f m p (owner_of m.kernel p) ≢ None
-  blocks-held m p asked asks none =
-      let here = at-owned f stands keep m.event m p asks.space asks.between.standing asks.owner in
-      let is = sym (stopped-is f stands keep m p asks.space here) ∙ none in
-      cc
-
   can-hold : (m : Machine U C) (p : ProcNo) (n : ActNo) (len : ℕ) (page : Option ℕ) (held : Stopped C) → Asks stands p (Block len page) m
       → m.kernel.acts n.0 ≡ None
       → stopped_in f m p (owner_of m.kernel p) ≡ Some held → CanEnter f stands keep m.event m p n (BlockEntry held len page)
   can-hold m p n len page held asks unused is =
       can-block f stands keep m.workload m.event m.event m p n asks.space len page held (rests-between f stands keep m asks.between) asks.owner asks.low unused
       (own-page f stands keep page (asks.can.2)) is
-
-  pub block-fits : (m : Machine U C) (p : ProcNo) (n : ActNo) (len : ℕ) (page : Option ℕ) (held : Stopped C) → Asks stands p (Block len page) m
-      → m.kernel.acts n.0 ≡ None
-      → stopped_in f m p (owner_of m.kernel p) ≡ Some held → MayEnter m.kernel p m.event (BlockEntry held len page)
-  block-fits m p n len page held asks unused is = (can-hold m p n len page held asks unused is).fit
 
   pub asks-within : (m : Machine U C) (p : ProcNo) (asked : Step) → Asks stands p asked m → p.0 < length m.kernel.lives
   asks-within m p asked asks = (at-owned f stands keep m.event m p asks.space asks.between.standing asks.owner).within

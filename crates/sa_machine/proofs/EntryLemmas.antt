@@ -1,48 +1,18 @@
--- What an entry makes of the machine, and the upcall after it.
-use Rattle.std.proofs.Common.{◌≡◌, true, false, Some, None, refl, sym, ap, subst, ◌∙◌}
+-- What the upcall of an entry makes of the machine.
+use Rattle.std.proofs.Common.{◌≡◌, Some, refl, sym, ap, subst, ◌∙◌}
 use Rattle.std.proofs.lemmas.Option.{same_Some}
 use Rattle.sa_base.specs.declared.number.ProcNo.{ProcNo}
 use Rattle.sa_base.specs.declared.number.SpaceNo.{SpaceNo}
-use Rattle.sa_base.specs.declared.number.ActNo.{ActNo}
 use Rattle.sa_abstract.specs.Calls.{Calls}
 use Rattle.sa_abstract.specs.Keeps.{Standing}
-use Rattle.sa_kernel_model.specs.declared.entry.Entry.{Entry}
-use Rattle.sa_kernel_model.specs.State.{KernelState, Scene, owner_of}
-use Rattle.sa_kernel_model.specs.Entries.{entered}
-use Rattle.sa_kernel_model.specs.Entering.{upcalls}
+use Rattle.sa_kernel_model.specs.State.{KernelState, owner_of}
 use Rattle.sa_kernel_model.specs.Sound.{AreClaimed}
-use Rattle.sa_core_model.specs.Machine.{Machine, user_of, seen_on, scene_of, with_scene, with_pair, context_begun, answered}
-use Rattle.sa_core_model.specs.Turn.{kernel_entered, told_all, welcomed_in, welcomed_if, entered_on, hinted, answered_in}
+use Rattle.sa_core_model.specs.Machine.{Machine, user_of, seen_on, with_pair, context_begun, answered}
+use Rattle.sa_core_model.specs.Turn.{told_all, welcomed_in}
 use Rattle.sa_core_model.specs.Standing.{Stands}
 use Rattle.sa_machine.specs.Needs.{Welcomes}
 
-module _ {U C : Type 0} where
-  -- an entry of the kernel is one of the machine
-  pub entered-scene : (m : Machine U C) (p : ProcNo) (n : ActNo) (entry : Entry C) (x : Scene C) → x ≡ entered m.event p n entry (scene_of m)
-      → with_scene x m ≡ kernel_entered p n entry m
-  entered-scene m p n entry x is = ap (λ z. with_scene z m) is
-
 module _ {U C : Type 0} (f : Calls U C) where
-  pub entered-upcall : (m k n : Machine U C) (p : ProcNo) (a : ActNo) (entry : Entry C) → upcalls m.kernel p entry ≡ true → k ≡ kernel_entered p a entry m
-      → n ≡ welcomed_in f p (owner_of k.kernel p) k → n ≡ entered_on f p a entry m
-  entered-upcall m k n p a entry up is_k is_n =
-      is_n ∙ ap (λ (z : Machine U C). welcomed_in f p (owner_of z.kernel p) z) is_k ∙ sym (ap (λ b. welcomed_if f p b (kernel_entered p a entry m)) up)
-
-  pub entered-plain : (m n : Machine U C) (p : ProcNo) (a : ActNo) (entry : Entry C) → upcalls m.kernel p entry ≡ false → n ≡ kernel_entered p a entry m
-      → n ≡ entered_on f p a entry m
-  entered-plain m n p a entry up is = is ∙ sym (ap (λ b. welcomed_if f p b (kernel_entered p a entry m)) up)
-
-  pub hinted-some : (m k n : Machine U C) (p : ProcNo) (s : SpaceNo) (a : ActNo) (entry : Entry C) → k ≡ kernel_entered p a entry m
-      → owner_of k.kernel p ≡ Some s → n ≡ answered f p s k
-      → n ≡ hinted f p a entry m
-  hinted-some m k n p s a entry is_k owner is_n =
-      is_n ∙ sym (ap (λ o. answered_in f p o k) owner) ∙ ap (λ (z : Machine U C). answered_in f p (owner_of z.kernel p) z) is_k
-
-  pub hinted-none : (m k : Machine U C) (p : ProcNo) (a : ActNo) (entry : Entry C) → k ≡ kernel_entered p a entry m → owner_of k.kernel p ≡ None
-      → k ≡ hinted f p a entry m
-  hinted-none m k p a entry is_k owner =
-      sym (ap (λ o. answered_in f p o k) owner) ∙ ap (λ (z : Machine U C). answered_in f p (owner_of z.kernel p) z) is_k
-
   begun-is : (p : ProcNo) (s : SpaceNo) (m : Machine U C) (u : U) → user_of m s ≡ Some u
       → context_begun f p s m ≡ with_pair p s (f.begun u (seen_on m p s)).0 (f.begun u (seen_on m p s)).1 m
   begun-is p s m u user = rw user refl

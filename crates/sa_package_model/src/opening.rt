@@ -33,7 +33,7 @@ impl Package {
           def = def;
           processors = processors;
           fetch = fetch;
-        } in IfOk result (λ package. package ≡ started_with ranks setting) }
+        } in IfOk result (λ made. made ≡ started_with ranks setting) }
     {
         let sync = SyncState::new(alloc, &def)?;
         let mut threads = Threads::new(alloc)?;

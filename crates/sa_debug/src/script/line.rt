@@ -4,9 +4,9 @@ ghost use Rattle.sa_text.specs.Line.{IsWithin, text_of_line};
 ghost use Rattle.sa_trace.specs.Pieces.{with_rest};
 ghost use Rattle.sa_debug.specs.script.Line.{command_at, said_by, line_in, cause_after};
 
+use crate::script::MAX_LINES;
 use crate::script::command::DebugCommand;
 use crate::script::fields::{read_point, read_proc, read_thread, read_turns};
-use crate::script::MAX_LINES;
 use crate::script::word::{Word, read_word};
 use sa_base::Cause;
 use sa_spaces::Workload;

@@ -5,8 +5,8 @@ ghost use Rattle.sa_debug.specs.script.Reading.{script_of, IsReading};
 ghost use Rattle.sa_trace.specs.Reading.{bad_after};
 ghost use Rattle.sa_debug.specs.script.Line.{cause_after};
 
-use crate::script::line::{cause_after, read_line};
 use crate::script::Script;
+use crate::script::line::{cause_after, read_line};
 use sa_base::{Bad, Cause, Unread};
 use sa_spaces::Workload;
 use sa_text::Lines;
