@@ -1,6 +1,6 @@
 //! One event of a machine: what it does is the first that applies of a raised line, an I/O that is due, and a step.
 #![tactic(auto)]
 
-mod turn;
+mod event;
 
-pub use turn::turn;
+pub use event::turn;

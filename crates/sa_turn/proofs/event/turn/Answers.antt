@@ -3,7 +3,7 @@ use Rattle.sa_machine.specs.View.{machine_of}
 use Rattle.sa_core_model.specs.Machine.{Machine}
 use Rattle.sa_core_model.specs.Turn.{turned_now}
 use Rattle.sa_machine.proofs.EnterLemmas.{next-of}
-use Rattle.sa_turn.proofs.turn.turn.Goals as goal
+use Rattle.sa_turn.proofs.event.turn.Goals as goal
 
 pub turn_now-requires-clause-next : goal.turn_now-requires-clause-next
 turn_now-requires-clause-next g c = λ κs k.

@@ -3,7 +3,7 @@ use Rattle.sa_machine.specs.View.{machine_of}
 use Rattle.sa_kernel_model.specs.State.{line_of}
 use Rattle.sa_core_model.proofs.Phases.{none-is}
 use Rattle.sa_turn.proofs.DueLemmas.{due-fits}
-use Rattle.sa_turn.proofs.turn.turn_now.Goals as goal
+use Rattle.sa_turn.proofs.event.turn_now.Goals as goal
 
 pub complete-requires-clause-fit : goal.complete-requires-clause-fit
 complete-requires-clause-fit g c = λ κs k.
