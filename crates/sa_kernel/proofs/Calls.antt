@@ -1,5 +1,6 @@
 -- What a call leaves to the next one: its room, and the lengths of the lists.
-use Rattle.std.proofs.Common.{◌≡◌, ℕ, ◌+◌, ◌≤◌, ◌<◌, Bool, true, false, Option, Some, None, [], ◌∷◌, ◌++◌, length, slice_set, refl, sym, ap, subst, ◌∙◌, arith}
+use Rattle.std.proofs.Common.{◌≡◌, ℕ, ◌+◌, ◌≤◌, ◌<◌, Bool, true, false, Option, Some, None, List, [], ◌∷◌, ◌++◌, length, get_or, slice_index, slice_set, refl, sym, ap, subst, ◌∙◌, arith}
+use Rattle.std.proofs.lemmas.Grind.{get_or_default_zero}
 use Rattle.std.proofs.Math.ListN.{length-set}
 use Rattle.sa_base.specs.declared.number.ProcNo.{ProcNo}
 use Rattle.sa_base.specs.declared.number.SpaceNo.{SpaceNo}
@@ -33,6 +34,11 @@ adds-more first next = record { spare = two-spent _ _ _ _ _ first.spare next.spa
 -- what adds few items adds at most more
 pub adds-within : {m : ℕ} {t u : Recorded} (n : ℕ) → m ≤ n → Adds m t u → Adds n t u
 adds-within n few adds = record { spare = omega (arith, adds.spare); same = adds.same }
+
+-- a read of a list of numbers, by an equal index
+pub demand-read : (demands : List ℕ) (i j demand : ℕ) → demand ≡ get_or demands i demand → i ≡ j → j < length demands → demand ≡ slice_index demands j
+demand-read demands i j demand is same within =
+    is ∙ ap (λ (n : ℕ). get_or demands n demand) same ∙ get_or_default_zero demands j demand within
 
 module _ {C : Type 0} where
   -- another assignment spends nothing

@@ -1,6 +1,6 @@
-use Rattle.std.proofs.Common.{◌≡◌, ℕ, suc, ◌+◌, List, [], ◌∷◌, ◌++◌, map, take, get_or, sym, ap, ◌∙◌, arith}
+use Rattle.std.proofs.Common.{◌≡◌, ℕ, suc, ◌+◌, List, [], ◌∷◌, ◌++◌, map, take, length, get_or, sym, ap, ◌∙◌, arith}
 use Rattle.std.proofs.lemmas.List.{map_push}
-use Rattle.std.proofs.Math.Seq.{take-suc}
+use Rattle.std.proofs.Math.Seq.{take-suc, take-length}
 use Rattle.sa_spaces.specs.Space.{SpaceView}
 use Rattle.sa_kernel.proofs.start.priorities.Goals as goal
 
@@ -15,3 +15,11 @@ loop-space-preserved c =
     ∙ ap (λ (n : ℕ). map priority (take i spaces) ++ n ∷ []) (c.priority.ensures.value ∙ ap priority c.space-item.is)
     ∙ sym (map_push priority (take i spaces) (get_or spaces i space)) ∙ ap (map priority) (sym (take-suc spaces i space c.loop-space-test.true))
     ∙ ap (λ (n : ℕ). map priority (take n spaces)) next
+
+pub returns : goal.returns
+returns c =
+    let spaces = c.args.spaces.now in
+    let all : c.loop-space.space-index ≡ length spaces = omega arith in
+    c.loop-space.invariant
+    ∙ ap (λ (n : ℕ). map (λ (s : SpaceView). s.priority) (take n spaces)) all
+    ∙ ap (map (λ (s : SpaceView). s.priority)) (take-length spaces)
