@@ -34,25 +34,29 @@ returns-in-InterruptOwn-clause-exact g c =
 pub block-requires-clause-page : goal.block-requires-clause-page
 block-requires-clause-page g c =
     let k = state_of c.args.self.now in
-    let fits : MayBlock k c.args.p c.in-Block.page = subst (λ (e : Entry g.row.C.Denot). MayEnter k c.args.p c.args.event e) c.in-Block.is c.requires.fit in
+    let fits : MayBlock k c.args.p c.in-Block.page =
+    subst (λ (e : Entry g.row.C.Denot). MayEnter k c.args.p c.args.event e) c.in-Block.is c.requires.fit in
     fits.page
 
 pub complete-requires-clause-under_way : goal.complete-requires-clause-under_way
 complete-requires-clause-under_way g c =
     let k = state_of c.args.self.now in
-    let fits : MayComplete k c.args.p c.args.event c.in-Complete.io = subst (λ (e : Entry g.row.C.Denot). MayEnter k c.args.p c.args.event e) c.in-Complete.is c.requires.fit in
+    let fits : MayComplete k c.args.p c.args.event c.in-Complete.io =
+    subst (λ (e : Entry g.row.C.Denot). MayEnter k c.args.p c.args.event e) c.in-Complete.is c.requires.fit in
     some-io _ fits.here fits.under_way
 
 pub more-requires-clause-few : goal.more-requires-clause-few
 more-requires-clause-few g c =
     let k = state_of c.args.self.now in
-    let fits : MayAskForMore k c.args.p c.in-More.n = subst (λ (e : Entry g.row.C.Denot). MayEnter k c.args.p c.args.event e) c.in-More.is c.requires.fit in
+    let fits : MayAskForMore k c.args.p c.in-More.n =
+    subst (λ (e : Entry g.row.C.Denot). MayEnter k c.args.p c.args.event e) c.in-More.is c.requires.fit in
     few-asked k c.args.p c.in-More.n c.requires.sound.sizes fits
 
 pub interrupt_own-requires : goal.interrupt_own-requires
 interrupt_own-requires g c =
     let k = state_of c.args.self.now in
-    let fits : MayInterruptOwn k c.args.p c.in-InterruptOwn.q = subst (λ (e : Entry g.row.C.Denot). MayEnter k c.args.p c.args.event e) c.in-InterruptOwn.is c.requires.fit in
+    let fits : MayInterruptOwn k c.args.p c.in-InterruptOwn.q =
+    subst (λ (e : Entry g.row.C.Denot). MayEnter k c.args.p c.args.event e) c.in-InterruptOwn.is c.requires.fit in
     record { proc = record { sizes = c.requires.sound.sizes; within = fits.within }; low = fits.owned.low; trace = omega arith }
 
 pub returns-in-Interrupt-clause-room : goal.returns-in-Interrupt-clause-room

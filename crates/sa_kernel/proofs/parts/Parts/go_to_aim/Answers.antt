@@ -11,9 +11,9 @@ use Rattle.sa_kernel.proofs.FreshActivations.{vacant, vacant-unused, enters-no_a
 use Rattle.sa_kernel.proofs.Calls.{adds-within, spends-none, spends-within}
 use Rattle.sa_kernel.proofs.parts.Parts.go_to_aim.Goals as goal
 
-few_untold : {C : Type 0} (k : KernelState C) (aim : Option SpaceNo) (s : SpaceNo) → HasSizes k → aim ≡ Some s
+few-untold : {C : Type 0} (k : KernelState C) (aim : Option SpaceNo) (s : SpaceNo) → HasSizes k → aim ≡ Some s
     → IfSome aim (λ (t : SpaceNo). t.0 < length k.demands) → length (untold_of k s.0) ≤ untold_count k
-few_untold k aim s sizes is inside =
+few-untold k aim s sizes is inside =
     let within : s.0 < length k.demands = subst (λ (o : Option SpaceNo). IfSome o (λ (t : SpaceNo). t.0 < length k.demands)) is inside in
     get_or-le-sum_by length k.untold s.0 [] (omega (arith, sizes.untold))
 
@@ -33,16 +33,16 @@ go_to-requires-clause-space g c = record {
 
 pub go_to-requires-clause-trace : goal.go_to-requires-clause-trace
 go_to-requires-clause-trace g c =
-    let few = few_untold (state_of c.args.self.now) c.args.aim c.in-Some.s c.requires.proc.sizes c.in-Some.is c.requires.aim in
+    let few = few-untold (state_of c.args.self.now) c.args.aim c.in-Some.s c.requires.proc.sizes c.in-Some.is c.requires.aim in
     omega arith
 
 pub returns-in-Some-clause-exact : goal.returns-in-Some-clause-exact
 returns-in-Some-clause-exact g c =
     let k = state_of c.args.self.now in
     subst (λ (aim : Option SpaceNo). Enters (scene_of c.args.self.now c.args.trace.now) (scene_of c.go_to.new.self c.go_to.new.trace) c.go_to.result
-      (upcalls_for k aim) (λ a. go_to_aim c.args.event c.args.p a aim)) (sym c.in-Some.is) c.go_to.ensures.exact
+    (upcalls_for k aim) (λ a. go_to_aim c.args.event c.args.p a aim)) (sym c.in-Some.is) c.go_to.ensures.exact
 
 pub returns-in-Some-clause-items : goal.returns-in-Some-clause-items
 returns-in-Some-clause-items g c =
-    let few = few_untold (state_of c.args.self.now) c.args.aim c.in-Some.s c.requires.proc.sizes c.in-Some.is c.requires.aim in
+    let few = few-untold (state_of c.args.self.now) c.args.aim c.in-Some.s c.requires.proc.sizes c.in-Some.is c.requires.aim in
     adds-within _ (omega arith) c.go_to.ensures.items

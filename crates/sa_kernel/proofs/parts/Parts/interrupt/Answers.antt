@@ -49,15 +49,20 @@ stop-requires-clause-lives g c =
 
 pub go_to_aim-requires-clause-proc : goal.go_to_aim-requires-clause-proc
 go_to_aim-requires-clause-proc g c =
-    let before : HasProc (state_of c.args.self.now) c.args.p = record { sizes = c.requires.sound.sizes; within = c.requires.within } in
-    proc-kept _ _ c.args.p (ap (λ (x : Scene _). sizes_of x.state) (stopped-low c.args.event c.args.p c.args.held c.lower.new.self (scene_of c.args.self.now c.args.trace.now)
-    (scene_of c.stop.new.self c.stop.new.trace) c.lower.ensures c.stop.ensures.exact) ∙ sizes-stopped c.args.event c.args.p _ _ c.args.held _ ∙ sizes-line c.args.p None (state_of c.args.self.now)) before
+    let old = scene_of c.args.self.now c.args.trace.now in
+    let mid = scene_of c.stop.new.self c.stop.new.trace in
+    let stops = stopped-low c.args.event c.args.p c.args.held c.lower.new.self old mid c.lower.ensures c.stop.ensures.exact in
+    let before : HasProc old.state c.args.p = record { sizes = c.requires.sound.sizes; within = c.requires.within } in
+    proc-kept old.state mid.state c.args.p
+    (ap (λ (x : Scene _). sizes_of x.state) stops ∙ sizes-stopped c.args.event c.args.p _ _ c.args.held _ ∙ sizes-line c.args.p None old.state) before
 
 pub go_to_aim-requires-clause-upcall : goal.go_to_aim-requires-clause-upcall
 go_to_aim-requires-clause-upcall g c =
+    let old = scene_of c.args.self.now c.args.trace.now in
+    let mid = scene_of c.stop.new.self c.stop.new.trace in
+    let stops = stopped-low c.args.event c.args.p c.args.held c.lower.new.self old mid c.lower.ensures c.stop.ensures.exact in
     upcall-kept (spends-more (spends-none c.args.self.now c.lower.new.self) c.stop.ensures.room)
-    (ap (λ (x : Scene _). x.state.telling) (stopped-low c.args.event c.args.p c.args.held c.lower.new.self (scene_of c.args.self.now c.args.trace.now)
-    (scene_of c.stop.new.self c.stop.new.trace) c.lower.ensures c.stop.ensures.exact) ∙ telling-stopped c.args.event c.args.p _ _ c.args.held _) c.requires.upcall
+    (ap (λ (x : Scene _). x.state.telling) stops ∙ telling-stopped c.args.event c.args.p _ _ c.args.held _) c.requires.upcall
 
 pub returns-clause-room : goal.returns-clause-room
 returns-clause-room g c =
