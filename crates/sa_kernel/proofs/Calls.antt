@@ -1,5 +1,5 @@
 -- What a call leaves to the next one: its room, and the lengths of the lists.
-use Rattle.std.proofs.Common.{◌≡◌, ℕ, ◌+◌, ◌-◌, ◌≤◌, ◌<◌, Bool, true, false, Option, Some, None, List, [], ◌∷◌, ◌++◌, length, get_or, slice_index, refl, sym, ap, subst, ◌∙◌, arith}
+use Rattle.std.proofs.Common.{◌≡◌, ℕ, ◌+◌, ◌≤◌, ◌<◌, Bool, true, false, Option, Some, None, List, [], ◌∷◌, ◌++◌, length, get_or, slice_index, refl, sym, ap, subst, ◌∙◌, arith}
 use Rattle.std.proofs.lemmas.Grind.{get_or_default_zero}
 use Rattle.std.proofs.Math.ListN.{length-set}
 use Rattle.sa_base.specs.declared.number.ProcNo.{ProcNo}
@@ -14,7 +14,6 @@ use Rattle.sa_kernel.specs.View.{Spends}
 use Rattle.sa_kernel.specs.Needs.{HasProc, HasSpace, MayUpcall}
 use Rattle.sa_kernel_model.specs.State.{KernelState, Scene, untold_of}
 use Rattle.sa_kernel_model.specs.Parts.{with_line, moved}
-use Rattle.sa_kernel_model.specs.Closing.{for_spaces}
 use Rattle.sa_kernel_model.specs.Entries.{stopped}
 use Rattle.sa_kernel_model.proofs.parts.Sizes.{Sizes, sizes_of, sizes-kept}
 
@@ -114,10 +113,3 @@ module _ {C : Type 0} where
   telling-stopped e p (Some s) None held x = refl
   telling-stopped e p (Some s) (Some a) None x = refl
   telling-stopped e p (Some s) (Some a) (Some h) x = refl
-
-  -- after the last space
-  pub all-served : (f : ℕ → Scene C → Scene C) (s n m : ℕ) (here old : Scene C) → n ≤ s → for_spaces f s (n - s) here ≡ for_spaces f 0 n old → n ≡ m
-      → here ≡ for_spaces f 0 m old
-  all-served f s n m here old past served same =
-      let none : n - s ≡ 0 = omega arith in
-      sym (ap (λ (k : ℕ). for_spaces f s k here) none) ∙ served ∙ ap (λ (k : ℕ). for_spaces f 0 k old) same

@@ -1,10 +1,8 @@
 -- Calls that may take a fresh activation.
-use Rattle.std.proofs.Common.{◌≡◌, ℕ, ◌+◌, ◌≤◌, Bool, true, false, not, Option, Some, None, List, [], ◌∷◌, ◌++◌, length, sum_by, slice_index, slice_set, get_or, refl, sym, ap, subst, ◌∙◌, ◌⊎◌, inl, inr, arith, rules, length-append}
+use Rattle.std.proofs.Common.{◌≡◌, ℕ, ◌+◌, ◌≤◌, Bool, true, false, not, Option, Some, None, List, [], ◌∷◌, ◌++◌, length, sum_by, slice_index, slice_set, get_or, refl, sym, ap, ◌∙◌, ◌⊎◌, inl, inr, arith, length-append}
 use Rattle.std.proofs.lemmas.Bool.{cases_eq, cases_lt}
 use Rattle.std.proofs.lemmas.List.{get_or_past, set_past}
 use Rattle.std.proofs.lemmas.List.Sums.{sum_by-set}
-use Rattle.std.specs.Prelude.{IsSome}
-use Rattle.sa_base.specs.declared.limits.TheConstants.{MAX_PROCESSORS}
 use Rattle.sa_base.specs.declared.number.ProcNo.{ProcNo}
 use Rattle.sa_base.specs.declared.number.SpaceNo.{SpaceNo}
 use Rattle.sa_base.specs.declared.number.ActNo.{ActNo}
@@ -18,16 +16,15 @@ use Rattle.sa_acts.specs.Table.{Slots, acts_of, holding, runs_in, IsRunning}
 use Rattle.sa_assign.specs.AssignView.{AssignView}
 use Rattle.sa_assign.specs.Aims.{is_aim}
 use Rattle.sa_base.specs.Pages.{has_page}
-use Rattle.sa_devices.specs.Ios.{Io}
 use Rattle.sa_kernel_model.specs.declared.entry.Entry.{Entry}
 use Rattle.sa_kernel_model.specs.declared.entry.Given.{Given}
 use Rattle.sa_kernel_model.specs.declared.entry.Given.TheVariants.{Nothing, Upcall}
-use Rattle.sa_kernel_model.specs.State.{KernelState, Scene, owner_of, aim_of, life_of, demand_of, can_upcall}
+use Rattle.sa_kernel_model.specs.State.{KernelState, Scene, owner_of, aim_of, life_of, can_upcall}
 use Rattle.sa_kernel_model.specs.Parts.{with_line, leave, moved, upcall, go_to, go_to_by}
 use Rattle.sa_kernel_model.specs.Entries.{entered_as, stopped, go_to_aim, interrupted, told_or_left, block_begun, blocked, blocked_by}
-use Rattle.sa_kernel_model.specs.Entering.{upcalls, MayAskForMore}
+use Rattle.sa_kernel_model.specs.Entering.{upcalls}
 use Rattle.sa_kernel_model.specs.Enters.{Enters, given_by, upcalls_for, upcalls_in, untold_count}
-use Rattle.sa_kernel_model.specs.Sound.{RunsIn, HasSizes}
+use Rattle.sa_kernel_model.specs.Sound.{RunsIn}
 use Rattle.sa_kernel_model.proofs.sound.Formed.{acts-moved}
 use Rattle.sa_kernel_model.proofs.sound.Held.{pages-stopped}
 
@@ -225,16 +222,3 @@ module _ {C : Type 0} where
       let quiet : upcalls old.state p entry ≡ false = ap (λ (x : Entry C). upcalls old.state p x) is ∙ none in
       let now : new ≡ entered_as e p a entry old = scene ∙ ap (λ (x : Entry C). entered_as e p a x old) (sym is) in
       record { fresh = a; unused = unused; given = ap (λ b. given_by b a) (sym quiet); scene = now }
-
-  -- what an entry says of its processor is what its call needs
-  pub few-asked : (k : KernelState C) (p : ProcNo) (n : ℕ) → HasSizes k → MayAskForMore k p n → (s : SpaceNo) → owner_of k p ≡ Some s
-      → demand_of k s.0 + n ≤ MAX_PROCESSORS
-  few-asked k p n sizes may s owner =
-      let owned : owner_of k p ≡ Some may.space = may.asks.owner in
-      let same : may.space ≡ s = cc in
-      let few : demand_of k s.0 + n ≤ length k.lives = subst (λ (t : SpaceNo). demand_of k t.0 + n ≤ length k.lives) same may.few in
-      omega (arith, sizes.few_processors)
-
-pub some-io : (io : Option Io) (here : Io) → io ≡ Some here → IsSome io
-some-io None here is = absurd cc
-some-io (Some x) here is = search rules

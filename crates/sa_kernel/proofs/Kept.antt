@@ -24,7 +24,7 @@ use Rattle.sa_kernel_model.specs.Opening.{opening_state, first_wants, opened}
 use Rattle.sa_kernel_model.specs.Enters.{Enters}
 use Rattle.sa_kernel_model.specs.Sound.{IsSound, IsPrompt, AreClaimed, IsUpcalled}
 use Rattle.sa_kernel.specs.View.{state_of, scene_of, used, Spends}
-use Rattle.sa_kernel.specs.Kept.{KernelView, kernel_of, processors, IsKept, IsReady, AreLow}
+use Rattle.sa_kernel.specs.Kept.{KernelView, kernel_of, processors, IsKept}
 use Rattle.sa_kernel_model.specs.Entering.{MayEnter, upcalls}
 use Rattle.sa_kernel_model.specs.Owed.{owed_items, pending_count}
 use Rattle.sa_base.specs.Recorded.{Adds}
@@ -76,26 +76,6 @@ module _ {C : Type 0} where
     prompt = prompt-at (scene_of new tn) (closed event p (scene_of m t)) is (prompt-closed event p (scene_of m t) kept.sound.formed.sizes);
     last = few;
   }
-
-  -- more room changes nothing else
-  pub ready-reserved : (m new : Parts C) (lows : List ℕ) (room last : ℕ) → state_of new ≡ state_of m → Spends m new 0 0 0 → IsReady m lows room last
-      → IsReady new lows room last
-  ready-reserved m new lows room last is spends ready =
-      let kept = ready.kept in
-      record {
-        kept = record {
-          sound = subst (λ (k : KernelState C). IsSound k) (sym is) kept.sound;
-          notices = omega (arith, spends.notices, kept.notices);
-          acts = omega (arith, spends.acts, kept.acts);
-          ios = omega (arith, spends.ios, kept.ios);
-          used = omega (arith, spends.used, kept.used);
-          io_count = omega (arith, spends.count, kept.io_count);
-          pending = subst (λ (k : KernelState C). pending_count k ≤ last) (sym is) kept.pending;
-          prompt = subst (λ (k : KernelState C). IsPrompt k) (sym is) kept.prompt;
-          last = kept.last;
-        };
-        low = subst (λ (k : KernelState C). AreLow k lows) (sym is) ready.low;
-      }
 
   pub kept-fetch : (m new : Parts C) (room last : ℕ) → state_of new ≡ after_fetch (state_of m).telling (state_of m) → Spends m new 0 0 0
       → IsKept m room last → IsKept new room last

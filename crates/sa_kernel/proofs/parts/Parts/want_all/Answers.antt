@@ -1,8 +1,7 @@
-use Rattle.std.proofs.Common.{◌≡◌, length, ◌∙◌, arith}
+use Rattle.std.proofs.Common.{◌∙◌, arith}
 use Rattle.sa_kernel.specs.View.{scene_of}
 use Rattle.sa_kernel_model.specs.Closing.{want_for}
 use Rattle.sa_kernel_model.proofs.parts.Closings.{one-served}
-use Rattle.sa_kernel.proofs.Calls.{all-served}
 use Rattle.sa_kernel.proofs.parts.Parts.want_all.Goals as goal
 
 pub loop-s-preserved : goal.loop-s-preserved
@@ -20,10 +19,3 @@ loop-s-preserved g c =
       cost = omega arith;
       same = omega arith;
     }
-
-pub returns-clause-exact : goal.returns-clause-exact
-returns-clause-exact g c =
-    let old = scene_of c.args.self.now c.args.trace.now in
-    let spaces : c.len-s-end.result ≡ length old.state.demands = omega (arith, c.len-s-end.ensures) in
-    all-served (want_for c.args.event c.args.p) c.loop-s.s c.len-s-end.result _ (scene_of c.loop-s.self c.loop-s.trace) old c.loop-s-test.false
-    c.loop-s.invariant.exact spaces
