@@ -19,7 +19,7 @@ use Rattle.sa_kernel_model.specs.State.{KernelState, owner_of}
 use Rattle.sa_kernel_model.specs.Entries.{held_for, next_note, after_fetch, fetched}
 use Rattle.sa_kernel_model.specs.Sound.{AreClaimed}
 use Rattle.sa_spaces.specs.Space.{SpaceView}
-use Rattle.sa_core_model.specs.Machine.{Machine, user_of, context_on, seen_on, called, told, stepped, gone}
+use Rattle.sa_core_model.specs.Machine.{Machine, user_of, context_on, seen_on, without_context, called, told, stopped_by, stopped_in, stepped, gone}
 use Rattle.sa_core_model.specs.Turn.{told_one, told_all, gone_in}
 use Rattle.sa_core_model.specs.End.{local_on}
 use Rattle.sa_core_model.specs.Run.{setting, CanGo}
@@ -28,6 +28,7 @@ use Rattle.sa_core_model.proofs.Phases.{IsAt, at-owned}
 use Rattle.sa_core_model.proofs.Calls.{is-of, is-seen_of, is-step, is-going, value-at, mine, handed-next, tells-next}
 use Rattle.sa_core_model.proofs.Turns.{step-law}
 use Rattle.sa_core_model.proofs.Runs.{local-is}
+use Rattle.sa_machine.specs.Users.{stopped_of}
 
 -- a context that was read in its place
 pub read-ctx : {C : Type 0} (cs : List (Option C)) (i j : ℕ) (x : Option C) (d : C) → i < length cs → j ≡ i → x ≡ get_or cs j x → x ≡ Some d
@@ -38,6 +39,10 @@ read-ctx cs i j x d within here read is = any cs i within (x) ∙ sym (ap (λ n.
     any [] i below x = absurd (omega (arith, below))
     any (c ∷ cs) zero below x = refl
     any (c ∷ cs) (suc i) below x = any cs i (omega (arith, below)) x
+
+-- the same where no context was
+pub read-none : {C : Type 0} (cs : List (Option C)) (i j : ℕ) (x : Option C) → j ≡ i → x ≡ get_or cs j x → x ≡ None → get_or cs i None ≡ None
+read-none cs i j x here read is = sym (ap (λ n. get_or cs n None) here) ∙ sym (ap (λ z. get_or cs j z) is) ∙ sym read ∙ is
 
 module _ {C : Type 0} where
   -- the next notice, and what comes with it
@@ -131,6 +136,33 @@ module _ {U C : Type 0} where
 
       the-run : user_of m s ≡ Some u → context_on m p ≡ Some c → gone f p s n m ≡ made (seen_on m p s) (f.went u (seen_on m p s) c n)
       the-run a b = rw (a, b) refl
+
+  -- a context that was taken from its processor
+  pub without-as : (p : ProcNo) (m : Machine U C) (i : ℕ) (left : Option C) → i ≡ p.0 → left ≡ None
+      → record m { contexts = slice_set m.contexts i left } ≡ without_context p m
+  without-as p m i left here is =
+      ap (λ n. record m { contexts = slice_set m.contexts n left }) here ∙ ap (λ z. record m { contexts = slice_set m.contexts p.0 z }) is
+
+  -- the context of a processor as it is handed over: no space owns it, no context runs there, or one does
+  module _ (f : Calls U C) (p : ProcNo) (m : Machine U C) where
+    pub stopped-away : owner_of m.kernel p ≡ None → None ≡ stopped_in f m p (owner_of m.kernel p)
+    stopped-away owner = sym (ap (λ (o : Option SpaceNo). stopped_in f m p o) owner)
+
+    pub stopped-none : (s : SpaceNo) → owner_of m.kernel p ≡ Some s → context_on m p ≡ None → None ≡ stopped_in f m p (owner_of m.kernel p)
+    stopped-none s owner ctx =
+        sym (ap (λ (o : Option SpaceNo). stopped_in f m p o) owner ∙ ap (λ (c : Option C). stopped_by f (user_of m s) c) ctx ∙ nothing (user_of m s))
+      where
+        nothing : (u : Option U) → stopped_by f u None ≡ None
+        nothing None = refl
+        nothing (Some u) = refl
+
+    pub stopped-some : (s : SpaceNo) (u : U) (c : C) (held : Stopped C) → owner_of m.kernel p ≡ Some s → user_of m s ≡ Some u → context_on m p ≡ Some c
+        → held ≡ stopped_of f u c → Some held ≡ stopped_in f m p (owner_of m.kernel p)
+    stopped-some s u c held owner user ctx is =
+        ap (λ (z : Stopped C). Some z) is ∙ sym (ap (λ (o : Option SpaceNo). stopped_in f m p o) owner ∙ the-held user ctx)
+      where
+        the-held : user_of m s ≡ Some u → context_on m p ≡ Some c → stopped_by f (user_of m s) (context_on m p) ≡ Some (stopped_of f u c)
+        the-held a b = rw (a, b) refl
 
 module _ {U C : Type 0} (f : Calls U C) (stands : Standing U C) (keep : Keeps f stands) where
   -- the user level and the context of a processor that a space owns
