@@ -43,11 +43,11 @@ module _ {U C : Type 0} (f : Calls U C) (stands : Standing U C) (keep : Keeps f 
         (ap (λ (z : Machine U C). z.kernel) (begun-is f stands keep p new.space m new.user new.is_user)) new.begins.claimed;
   }
 
-  lives-of : (e : ℕ) (m : Machine U C) (p : ProcNo) → Stands stands e m → p.0 < m.workload.processors → p.0 < length m.kernel.lives
+  pub lives-of : (e : ℕ) (m : Machine U C) (p : ProcNo) → Stands stands e m → p.0 < m.workload.processors → p.0 < length m.kernel.lives
   lives-of e m p st within = omega (arith, within, st.lives)
 
   -- the line is raised
-  can-stop : (m : Machine U C) (p : ProcNo) (n : ActNo) → (next : IsNext stands m) → p.0 < m.workload.processors → IsSome (line_of m.kernel p)
+  pub can-stop : (m : Machine U C) (p : ProcNo) (n : ActNo) → (next : IsNext stands m) → p.0 < m.workload.processors → IsSome (line_of m.kernel p)
       → m.kernel.acts n.0 ≡ None
       → CanEnter f stands keep next.last m p n (Interrupt (stopped_in f m p (owner_of m.kernel p)))
   can-stop m p n next within raised unused =
@@ -67,7 +67,7 @@ module _ {U C : Type 0} (f : Calls U C) (stands : Standing U C) (keep : Keeps f 
       (lives-of next.last m p next.standing within) can.fit unused can.pauses up))
 
   -- a block
-  can-hold : (m : Machine U C) (p : ProcNo) (n : ActNo) (len : ℕ) (page : Option ℕ) (held : Stopped C) → Asks stands p (Block len page) m
+  pub can-hold : (m : Machine U C) (p : ProcNo) (n : ActNo) (len : ℕ) (page : Option ℕ) (held : Stopped C) → Asks stands p (Block len page) m
       → m.kernel.acts n.0 ≡ None
       → stopped_in f m p (owner_of m.kernel p) ≡ Some held → CanEnter f stands keep m.event m p n (BlockEntry held len page)
   can-hold m p n len page held asks unused is =

@@ -1,5 +1,6 @@
 pub mod EventLemmas
 pub mod EnterLemmas
+pub mod StopLemmas
 pub mod CallLemmas
 pub mod EntryLemmas
 pub mod CountLemmas
