@@ -7,6 +7,7 @@ use Rattle.sa_base.specs.declared.limits.TheConstants.{MAX_EVENTS}
 use Rattle.sa_base.specs.Recorded.{Recorded}
 use Rattle.sa_abstract.specs.Calls.{Calls}
 use Rattle.sa_abstract.specs.Keeps.{Standing, Keeps}
+use Rattle.sa_abstract.specs.declared.answer.Step.{Step}
 use Rattle.sa_abstract.specs.declared.answer.Step.TheVariants.{Block}
 use Rattle.sa_kernel_model.specs.declared.entry.TheConstants.{ENTRY_ITEMS}
 use Rattle.sa_kernel_model.specs.declared.entry.Entry.TheVariants.{Interrupt, Block as BlockEntry}
@@ -16,11 +17,13 @@ use Rattle.sa_kernel_model.specs.Owed.{owed_items}
 use Rattle.sa_kernel.specs.Kept.{KernelView, kernel_of}
 use Rattle.sa_core_model.specs.Machine.{Machine, without_context, stopped_in}
 use Rattle.sa_core_model.specs.Turn.{entered_on, blocked, blocked_by, interrupted}
+use Rattle.sa_core_model.proofs.Phases.{at-owned}
+use Rattle.sa_core_model.proofs.Turns.{stopped-is}
 use Rattle.sa_machine.specs.declared.machine.MachineParts.{MachineParts}
 use Rattle.sa_machine.specs.View.{machine_of}
 use Rattle.sa_machine.specs.Room.{owed, Spends}
 use Rattle.sa_machine.specs.Needs.{ByFresh, IsNext, Asks}
-use Rattle.sa_machine.proofs.EnterLemmas.{can-stop, can-hold}
+use Rattle.sa_machine.proofs.EnterLemmas.{asks-within, can-stop, can-hold}
 
 -- the kernel, the trace and the number of the last event stay
 module _ {U C : Type 0} (p : ProcNo) (old new : MachineParts U C) (machine : machine_of new ≡ without_context p (machine_of old))
@@ -94,3 +97,17 @@ module _ {U C : Type 0} (f : Calls U C) (stands : Standing U C) (keep : Keeps f 
   block-fits len page held asks is_held =
       subst (λ (z : Machine U C). MayEnter z.kernel p z.event (BlockEntry held len page)) (sym is)
       (can-hold f stands keep m p a len page held asks unused is_held).fit
+
+module _ {U C : Type 0} (f : Calls U C) (stands : Standing U C) (keep : Keeps f stands) (m : Machine U C) (p : ProcNo) where
+  -- a context that asks runs there, so it is handed over
+  pub asks-held : (asked : Step) → Asks stands p asked m → stopped_in f m p (owner_of m.kernel p) ≡ None → ⊥
+  asks-held asked asks none =
+      let here = at-owned f stands keep m.event m p asks.space asks.between.standing asks.owner in
+      let held = stopped-is f stands keep m p asks.space here in
+      let both = sym none ∙ held in
+      cc
+
+  pub asks-place : (asked : Step) → Asks stands p asked m → p.0 < m.workload.processors
+  asks-place asked asks =
+      let within = asks-within f stands keep m p asked asks in
+      omega (arith, within, asks.between.standing.lives)
