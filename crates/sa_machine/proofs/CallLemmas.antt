@@ -1,5 +1,5 @@
 -- What calls of a user level need, and what they make of the machine.
-use Rattle.std.proofs.Common.{◌≡◌, ℕ, zero, suc, ◌+◌, ◌<◌, ◌≤◌, Bool, true, false, cond, Option, Some, None, List, [], ◌∷◌, ◌++◌, length, get_or, slice_get, slice_set, drop, refl, sym, ap, subst, ◌∙◌, arith}
+use Rattle.std.proofs.Common.{◌≡◌, ℕ, zero, suc, ◌+◌, ◌<◌, ◌≤◌, Bool, true, false, cond, Option, Some, None, IsSome, List, [], ◌∷◌, ◌++◌, length, get_or, slice_get, slice_set, drop, refl, sym, ap, subst, ◌∙◌, arith}
 use Rattle.std.specs.Option.{option_map}
 use Rattle.std.proofs.lemmas.Option.{same_Some}
 use Rattle.sa_base.specs.declared.number.ProcNo.{ProcNo}
@@ -66,6 +66,21 @@ module _ {C : Type 0} where
             telling = e ∙ ap (λ z. z ∷ ns) (sym first);
             held_is = ap (λ (z : Note × Option (Stopped C)). z.1) pair ∙ ap (held_for k) (sym first);
           }
+
+  pub next-some : (k : KernelState C) (note : Note) (held : Option (Stopped C)) → ◌≡◌ {A = Option (Note × Option (Stopped C))} (Some (note, held)) (next_note k)
+      → k.telling ≡ [] → ⊥
+  next-some k note held is none =
+      let next = next-is k note held is in
+      let e : note ∷ next.notes ≡ [] = sym next.telling ∙ none in
+      cc
+
+  -- where no notice is left
+  pub next-none : (k : KernelState C) (note : Note) (notes : List Note) → ◌≡◌ {A = Option (Note × Option (Stopped C))} None (next_note k)
+      → k.telling ≡ note ∷ notes → ⊥
+  next-none k note notes is some =
+      let e : ◌≡◌ {A = Option (Note × Option (Stopped C))} None (Some (note, held_for k note)) =
+      is ∙ ap (λ ns. option_map (λ n. (n, held_for k n)) (slice_get ns 0)) some in
+      cc
 
   held-same : (k : KernelState C) (notes : List Note) (note : Note) → held_for (record k { telling = notes }) note ≡ held_for k note
   held-same k notes (Add p) = refl
@@ -176,8 +191,17 @@ module _ {U C : Type 0} (f : Calls U C) (stands : Standing U C) (keep : Keeps f 
     pub has-life : p.0 < length m.kernel.lives
     has-life = (at-owned f stands keep e m p s st owner).within
 
+    pub has-owner : IsSome (owner_of m.kernel p)
+    has-owner = subst IsSome (sym owner) refl
+
     pub has-space : s.0 < length m.users
     has-space = let below = st.sound.formed.owners p.0 s owner in omega (arith, below, st.demands, st.users)
+
+    pub has-ctx : (i : ℕ) (x : Option C) → i ≡ p.0 → x ≡ get_or m.contexts i x → x ≡ None → ⊥
+    has-ctx i x here read is =
+        let none : context_on m p ≡ None = read-none m.contexts p.0 i x here read is in
+        let some = (at-owned f stands keep e m p s st owner).is_ctx in
+        cc
 
     module _ (u : U) (c : C) (user : user_of m s ≡ Some u) (ctx : context_on m p ≡ Some c) where
       here-as : (P : U → C → Type 0) → ((here : IsAt f stands keep m p s) → P here.user here.ctx) → P u c

@@ -1,7 +1,7 @@
 use Rattle.std.specs.Prelude.{slice_set}
 use Rattle.std.proofs.Common.{ap, Some, arith}
 use Rattle.sa_machine.specs.View.{machine_of}
-use Rattle.sa_machine.proofs.CallLemmas.{read-ctx, stepped-as, the-user, has-place, step-here, few-here}
+use Rattle.sa_machine.proofs.CallLemmas.{read-ctx, stepped-as, the-user, has-place, step-here, few-here, has-life, has-owner, has-space, has-ctx}
 use Rattle.sa_machine.proofs.machine.MachineParts.step.Goals as goal
 
 pub step-requires-clause-turn : goal.step-requires-clause-turn
@@ -52,3 +52,30 @@ returns-clause-room g c =
     (c.seen-seen.ensures s c.requires.owner) in
     let spare = c.step.ensures.spare user.0 user.1 in
     omega (arith, few, spare)
+
+pub unreachable-requires : goal.unreachable-requires
+unreachable-requires g c =
+    let keep = (g.met.U.UserLevel g.world.𝓛 g.world.𝓜 g.world.𝓡 ((λ s x. x), (λ x. x), (λ x. x), λ x. x)).keeps in
+    has-ctx g.U.UserLevel.calls g.U.UserLevel.stands keep c.requires.next.last (machine_of c.args.self.now) c.args.p c.args.s c.requires.next.standing c.requires.owner
+    c.from.result c.index_mut.result.now c.from.ensures c.index_mut.ensures.value c.in_default.is
+
+pub index_mut-requires : goal.index_mut-requires
+index_mut-requires g c =
+    let keep = (g.met.U.UserLevel g.world.𝓛 g.world.𝓜 g.world.𝓡 ((λ s x. x), (λ x. x), (λ x. x), λ x. x)).keeps in
+    let place = has-place g.U.UserLevel.calls g.U.UserLevel.stands keep c.requires.next.last (machine_of c.args.self.now) c.args.p c.args.s c.requires.next.standing c.requires.owner in
+    omega (arith, place, c.from.ensures, c.args.self.now.contexts.ok.0)
+
+pub seen-seen-requires-clause-within : goal.seen-seen-requires-clause-within
+seen-seen-requires-clause-within g c =
+    let keep = (g.met.U.UserLevel g.world.𝓛 g.world.𝓜 g.world.𝓡 ((λ s x. x), (λ x. x), (λ x. x), λ x. x)).keeps in
+    has-life g.U.UserLevel.calls g.U.UserLevel.stands keep c.requires.next.last (machine_of c.args.self.now) c.args.p c.args.s c.requires.next.standing c.requires.owner
+
+pub seen-seen-requires-clause-owned : goal.seen-seen-requires-clause-owned
+seen-seen-requires-clause-owned g c =
+    let keep = (g.met.U.UserLevel g.world.𝓛 g.world.𝓜 g.world.𝓡 ((λ s x. x), (λ x. x), (λ x. x), λ x. x)).keeps in
+    has-owner g.U.UserLevel.calls g.U.UserLevel.stands keep c.requires.next.last (machine_of c.args.self.now) c.args.p c.args.s c.requires.next.standing c.requires.owner
+
+pub step-requires-clause-within : goal.step-requires-clause-within
+step-requires-clause-within g c = λ κs k.
+    let keep = (g.met.U.UserLevel g.world.𝓛 g.world.𝓜 g.world.𝓡 ((λ s x. x), (λ x. x), (λ x. x), λ x. x)).keeps in
+    has-space g.U.UserLevel.calls g.U.UserLevel.stands keep c.requires.next.last (machine_of c.args.self.now) c.args.p c.args.s c.requires.next.standing c.requires.owner
