@@ -16,13 +16,25 @@ use Rattle.sa_kernel_model.specs.Entering.{MayEnter, Asks as KernelAsks, upcalls
 use Rattle.sa_kernel_model.specs.Sound.{AreClaimed}
 use Rattle.sa_kernel_model.proofs.parts.Seen.{low-bit}
 use Rattle.sa_core_model.specs.Machine.{Machine, seen_on, scene_of, without_context, stopped_in, stepped, step_to, context_begun}
-use Rattle.sa_core_model.specs.Turn.{kernel_entered, next_event}
+use Rattle.sa_core_model.specs.Turn.{kernel_entered, asked, turned_owned, next_event}
 use Rattle.sa_core_model.specs.Run.{CanGo}
 use Rattle.sa_core_model.specs.Standing.{Stands, IsBetween}
 use Rattle.sa_core_model.proofs.Effects.{same-more, same-idled, same-own}
 use Rattle.sa_core_model.proofs.Phases.{some-is, at-owned, stands-later}
 use Rattle.sa_core_model.proofs.Turns.{Rests, begun-is, rests-next, Welcomed, CanEnter, can-interrupt, can-block, welcomed-upcall, rests-between, rests-entered, rests-given, stepped-is, rests-stepped, step-law, between-rests, own-page}
-use Rattle.sa_machine.specs.Needs.{Welcomes, IsNext, Asks}
+use Rattle.sa_machine.specs.Needs.{ByFresh, Welcomes, IsNext, Asks}
+
+-- a step and what it asked for
+pub turned-so : {U C : Type 0} (f : Calls U C) (p : ProcNo) (s : SpaceNo) (m n last : Machine U C) (step : Step) → owner_of m.kernel p ≡ Some s
+    → (n, step) ≡ stepped f p s m → n.kernel ≡ m.kernel → ByFresh n last (λ fresh. asked f p fresh step n)
+    → ByFresh m last (λ fresh. turned_owned f p fresh (owner_of m.kernel p) m)
+turned-so {U} {C} f p s m n last step owner is kernel by = record {
+  fresh = by.fresh;
+  unused = ap (λ (k : KernelState C). k.acts by.fresh.0) (sym kernel) ∙ by.unused;
+  is =
+      by.is ∙ ap (λ (z : Machine U C × Step). asked f p by.fresh z.1 z.0) is
+      ∙ sym (ap (λ (o : Option SpaceNo). turned_owned f p by.fresh o m) owner);
+}
 
 module _ {U C : Type 0} (f : Calls U C) (stands : Standing U C) (keep : Keeps f stands) where
   rests : (m : Machine U C) → (next : IsNext stands m) → Rests f stands keep m.workload next.last m.event m

@@ -68,8 +68,11 @@ returns-clause-none g c =
 pub returns-in_default-clause-none : goal.returns-in_default-clause-none
 returns-in_default-clause-none g c =
     let m = machine_of c.args.self.now in
-    λ none. (refl, ap (λ (k : KernelState g.row.U-Ctx.Denot). record m { kernel = k })
-    (c.next_note.ensures.state ∙ ap (λ (ns : List Note). after_fetch ns m.kernel) none))
+    λ none. (
+      refl,
+      ap (λ (k : KernelState g.row.U-Ctx.Denot). record m { kernel = k })
+          (c.next_note.ensures.state ∙ ap (λ (ns : List Note). after_fetch ns m.kernel) none),
+    )
 
 pub returns-in_default-clause-some : goal.returns-in_default-clause-some
 returns-in_default-clause-some g c =
