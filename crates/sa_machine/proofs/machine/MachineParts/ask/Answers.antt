@@ -107,24 +107,29 @@ block-requires-clause-asks g c = λ κs k.
 pub returns-in-Block-clause-machine : goal.returns-in-Block-clause-machine
 returns-in-Block-clause-machine g c =
     let m = machine_of c.args.self.now in
-    subst (λ (z : Step). ByFresh m (machine_of c.block.new.self) (λ fresh. asked g.U.UserLevel.calls c.args.p fresh z m)) (sym c.in-Block.is) c.block.ensures.machine
+    subst (λ (z : Step). ByFresh m (machine_of c.block.new.self) (λ fresh. asked g.U.UserLevel.calls c.args.p fresh z m)) (sym c.in-Block.is)
+    c.block.ensures.machine
 
 pub returns-in-More-clause-machine : goal.returns-in-More-clause-machine
 returns-in-More-clause-machine g c =
     let m = machine_of c.args.self.now in
-    subst (λ (z : Step). ByFresh m (machine_of c.hint.new.self) (λ fresh. asked g.U.UserLevel.calls c.args.p fresh z m)) (sym c.in-More.is) c.hint.ensures.machine
+    subst (λ (z : Step). ByFresh m (machine_of c.hint.new.self) (λ fresh. asked g.U.UserLevel.calls c.args.p fresh z m)) (sym c.in-More.is)
+    c.hint.ensures.machine
 
 pub returns-in-Idle-clause-machine : goal.returns-in-Idle-clause-machine
 returns-in-Idle-clause-machine g c =
     let m = machine_of c.args.self.now in
-    subst (λ (z : Step). ByFresh m (machine_of c.hint-in-Idle.new.self) (λ fresh. asked g.U.UserLevel.calls c.args.p fresh z m)) (sym c.in-Idle.is) c.hint-in-Idle.ensures.machine
+    subst (λ (z : Step). ByFresh m (machine_of c.hint-in-Idle.new.self) (λ fresh. asked g.U.UserLevel.calls c.args.p fresh z m)) (sym c.in-Idle.is)
+    c.hint-in-Idle.ensures.machine
 
 pub returns-in-GiveBack-clause-machine : goal.returns-in-GiveBack-clause-machine
 returns-in-GiveBack-clause-machine g c =
     let m = machine_of c.args.self.now in
-    subst (λ (z : Step). ByFresh m (machine_of c.hint-in-GiveBack.new.self) (λ fresh. asked g.U.UserLevel.calls c.args.p fresh z m)) (sym c.in-GiveBack.is) c.hint-in-GiveBack.ensures.machine
+    subst (λ (z : Step). ByFresh m (machine_of c.hint-in-GiveBack.new.self) (λ fresh. asked g.U.UserLevel.calls c.args.p fresh z m)) (sym c.in-GiveBack.is)
+    c.hint-in-GiveBack.ensures.machine
 
 pub returns-in-InterruptOwn-clause-machine : goal.returns-in-InterruptOwn-clause-machine
 returns-in-InterruptOwn-clause-machine g c =
     let m = machine_of c.args.self.now in
-    subst (λ (z : Step). ByFresh m (machine_of c.hint-in-InterruptOwn.new.self) (λ fresh. asked g.U.UserLevel.calls c.args.p fresh z m)) (sym c.in-InterruptOwn.is) c.hint-in-InterruptOwn.ensures.machine
+    subst (λ (z : Step). ByFresh m (machine_of c.hint-in-InterruptOwn.new.self) (λ fresh. asked g.U.UserLevel.calls c.args.p fresh z m))
+    (sym c.in-InterruptOwn.is) c.hint-in-InterruptOwn.ensures.machine

@@ -44,34 +44,40 @@ returns-clause-machine g c =
 pub unreachable-requires-in_default-index_mut : goal.unreachable-requires-in_default-index_mut
 unreachable-requires-in_default-index_mut g c =
     let keep = (g.met.U.UserLevel g.world.𝓛 g.world.𝓜 g.world.𝓡 ((λ s x. x), (λ x. x), (λ x. x), λ x. x)).keeps in
-    has-ctx g.U.UserLevel.calls g.U.UserLevel.stands keep c.requires.next.last (machine_of c.args.self.now) c.args.p c.in-Some.s c.requires.next.standing (sym c.owner.ensures ∙ c.in-Some.is)
+    has-ctx g.U.UserLevel.calls g.U.UserLevel.stands keep c.requires.next.last (machine_of c.args.self.now) c.args.p c.in-Some.s c.requires.next.standing
+    (sym c.owner.ensures ∙ c.in-Some.is)
     c.from.result c.index_mut.result.now c.from.ensures c.index_mut.ensures.value c.in_default-index_mut.is
 
 pub index_mut-requires : goal.index_mut-requires
 index_mut-requires g c =
     let keep = (g.met.U.UserLevel g.world.𝓛 g.world.𝓜 g.world.𝓡 ((λ s x. x), (λ x. x), (λ x. x), λ x. x)).keeps in
-    let place = has-place g.U.UserLevel.calls g.U.UserLevel.stands keep c.requires.next.last (machine_of c.args.self.now) c.args.p c.in-Some.s c.requires.next.standing (sym c.owner.ensures ∙ c.in-Some.is) in
+    let place = has-place g.U.UserLevel.calls g.U.UserLevel.stands keep c.requires.next.last (machine_of c.args.self.now) c.args.p c.in-Some.s
+    c.requires.next.standing (sym c.owner.ensures ∙ c.in-Some.is) in
     omega (arith, place, c.from.ensures, c.args.self.now.contexts.ok.0)
 
 pub seen-seen-requires-clause-within : goal.seen-seen-requires-clause-within
 seen-seen-requires-clause-within g c =
     let keep = (g.met.U.UserLevel g.world.𝓛 g.world.𝓜 g.world.𝓡 ((λ s x. x), (λ x. x), (λ x. x), λ x. x)).keeps in
-    has-life g.U.UserLevel.calls g.U.UserLevel.stands keep c.requires.next.last (machine_of c.args.self.now) c.args.p c.in-Some.s c.requires.next.standing (sym c.owner.ensures ∙ c.in-Some.is)
+    has-life g.U.UserLevel.calls g.U.UserLevel.stands keep c.requires.next.last (machine_of c.args.self.now) c.args.p c.in-Some.s c.requires.next.standing
+    (sym c.owner.ensures ∙ c.in-Some.is)
 
 pub seen-seen-requires-clause-owned : goal.seen-seen-requires-clause-owned
 seen-seen-requires-clause-owned g c =
     let keep = (g.met.U.UserLevel g.world.𝓛 g.world.𝓜 g.world.𝓡 ((λ s x. x), (λ x. x), (λ x. x), λ x. x)).keeps in
-    has-owner g.U.UserLevel.calls g.U.UserLevel.stands keep c.requires.next.last (machine_of c.args.self.now) c.args.p c.in-Some.s c.requires.next.standing (sym c.owner.ensures ∙ c.in-Some.is)
+    has-owner g.U.UserLevel.calls g.U.UserLevel.stands keep c.requires.next.last (machine_of c.args.self.now) c.args.p c.in-Some.s c.requires.next.standing
+    (sym c.owner.ensures ∙ c.in-Some.is)
 
 pub went-requires-clause-within : goal.went-requires-clause-within
 went-requires-clause-within g c = λ κs k.
     let keep = (g.met.U.UserLevel g.world.𝓛 g.world.𝓜 g.world.𝓡 ((λ s x. x), (λ x. x), (λ x. x), λ x. x)).keeps in
-    has-space g.U.UserLevel.calls g.U.UserLevel.stands keep c.requires.next.last (machine_of c.args.self.now) c.args.p c.in-Some.s c.requires.next.standing (sym c.owner.ensures ∙ c.in-Some.is)
+    has-space g.U.UserLevel.calls g.U.UserLevel.stands keep c.requires.next.last (machine_of c.args.self.now) c.args.p c.in-Some.s c.requires.next.standing
+    (sym c.owner.ensures ∙ c.in-Some.is)
 
 pub owner-requires : goal.owner-requires
 owner-requires g c =
     let keep = (g.met.U.UserLevel g.world.𝓛 g.world.𝓜 g.world.𝓡 ((λ s x. x), (λ x. x), (λ x. x), λ x. x)).keeps in
-    has-life g.U.UserLevel.calls g.U.UserLevel.stands keep c.requires.next.last (machine_of c.args.self.now) c.args.p c.requires.can.space c.requires.next.standing c.requires.can.owner
+    has-life g.U.UserLevel.calls g.U.UserLevel.stands keep c.requires.next.last (machine_of c.args.self.now) c.args.p c.requires.can.space
+    c.requires.next.standing c.requires.can.owner
 
 pub unreachable-requires : goal.unreachable-requires
 unreachable-requires g c =

@@ -37,26 +37,31 @@ returns-clause-machine g c =
 pub unreachable-requires : goal.unreachable-requires
 unreachable-requires g c =
     let keep = (g.met.U.UserLevel g.world.𝓛 g.world.𝓜 g.world.𝓡 ((λ s x. x), (λ x. x), (λ x. x), λ x. x)).keeps in
-    has-ctx g.U.UserLevel.calls g.U.UserLevel.stands keep c.args.self.now.events (machine_of c.args.self.now) c.args.p c.args.s c.requires.stands c.requires.owner
+    has-ctx g.U.UserLevel.calls g.U.UserLevel.stands keep c.args.self.now.events (machine_of c.args.self.now) c.args.p c.args.s c.requires.stands
+    c.requires.owner
     c.from.result c.index_mut.result.now c.from.ensures c.index_mut.ensures.value c.in_default.is
 
 pub index_mut-requires : goal.index_mut-requires
 index_mut-requires g c =
     let keep = (g.met.U.UserLevel g.world.𝓛 g.world.𝓜 g.world.𝓡 ((λ s x. x), (λ x. x), (λ x. x), λ x. x)).keeps in
-    let place = has-place g.U.UserLevel.calls g.U.UserLevel.stands keep c.args.self.now.events (machine_of c.args.self.now) c.args.p c.args.s c.requires.stands c.requires.owner in
+    let place = has-place g.U.UserLevel.calls g.U.UserLevel.stands keep c.args.self.now.events (machine_of c.args.self.now) c.args.p c.args.s
+    c.requires.stands c.requires.owner in
     omega (arith, place, c.from.ensures, c.args.self.now.contexts.ok.0)
 
 pub seen-seen-requires-clause-within : goal.seen-seen-requires-clause-within
 seen-seen-requires-clause-within g c =
     let keep = (g.met.U.UserLevel g.world.𝓛 g.world.𝓜 g.world.𝓡 ((λ s x. x), (λ x. x), (λ x. x), λ x. x)).keeps in
-    has-life g.U.UserLevel.calls g.U.UserLevel.stands keep c.args.self.now.events (machine_of c.args.self.now) c.args.p c.args.s c.requires.stands c.requires.owner
+    has-life g.U.UserLevel.calls g.U.UserLevel.stands keep c.args.self.now.events (machine_of c.args.self.now) c.args.p c.args.s c.requires.stands
+    c.requires.owner
 
 pub seen-seen-requires-clause-owned : goal.seen-seen-requires-clause-owned
 seen-seen-requires-clause-owned g c =
     let keep = (g.met.U.UserLevel g.world.𝓛 g.world.𝓜 g.world.𝓡 ((λ s x. x), (λ x. x), (λ x. x), λ x. x)).keeps in
-    has-owner g.U.UserLevel.calls g.U.UserLevel.stands keep c.args.self.now.events (machine_of c.args.self.now) c.args.p c.args.s c.requires.stands c.requires.owner
+    has-owner g.U.UserLevel.calls g.U.UserLevel.stands keep c.args.self.now.events (machine_of c.args.self.now) c.args.p c.args.s c.requires.stands
+    c.requires.owner
 
 pub answered-requires-clause-within : goal.answered-requires-clause-within
 answered-requires-clause-within g c = λ κs k.
     let keep = (g.met.U.UserLevel g.world.𝓛 g.world.𝓜 g.world.𝓡 ((λ s x. x), (λ x. x), (λ x. x), λ x. x)).keeps in
-    has-space g.U.UserLevel.calls g.U.UserLevel.stands keep c.args.self.now.events (machine_of c.args.self.now) c.args.p c.args.s c.requires.stands c.requires.owner
+    has-space g.U.UserLevel.calls g.U.UserLevel.stands keep c.args.self.now.events (machine_of c.args.self.now) c.args.p c.args.s c.requires.stands
+    c.requires.owner
