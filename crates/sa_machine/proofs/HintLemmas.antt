@@ -16,7 +16,6 @@ use Rattle.sa_core_model.specs.Machine.{Machine, scene_of, with_scene, called_by
 use Rattle.sa_core_model.specs.Turn.{kernel_entered, answered_in, hinted}
 use Rattle.sa_core_model.specs.Standing.{Stands}
 use Rattle.sa_machine.specs.declared.machine.MachineParts.{MachineParts}
-use Rattle.sa_machine.specs.View.{machine_of}
 use Rattle.sa_machine.specs.Room.{owed, Spends}
 
 module _ {U C : Type 0} (p : ProcNo) (m : Machine U C) (entry : Entry C) (x : Scene C) (fresh : ActNo)

@@ -1,6 +1,6 @@
-use Rattle.std.proofs.Common.{refl, sym, ap, ◌∙◌}
+use Rattle.std.proofs.Common.{sym, ap, ◌∙◌}
 use Rattle.sa_kernel.specs.Kept.{scene}
-use Rattle.sa_core_model.specs.Machine.{Machine, seen_on}
+use Rattle.sa_core_model.specs.Machine.{Machine}
 use Rattle.sa_machine.specs.View.{machine_of}
 use Rattle.sa_machine.proofs.HintLemmas.{stands-entered, hinted-away, hinted-some, called-event, spends-entered}
 use Rattle.sa_machine.proofs.machine.MachineParts.hint.Goals as goal
