@@ -204,3 +204,10 @@ made-if kind f o count e =
     let same : record_of kind f ≡ o = sym (right_number (length f) (length (form_of kind).fields) (record_from kind f) count) ∙ sym e in
     subst (λ q. (IsSome q ↔ FitTheKind (parts kind f)) × IfSome q (λ r. parts_of r ≡ parts kind f)) same
     (fit-some kind f, if-made kind f (record_of kind f) (making kind f))
+
+-- nothing is made of another number of fields
+pub unmade : (kind : Kind) (f : List (Option ℕ)) (o : Option Record) → o ≡ None → (length f ≡ length (form_of kind).fields → ⊥)
+    → (o ≡ record_of kind f) × (IsSome o ↔ FitTheKind (parts kind f))
+unmade kind f o none apart =
+    let same : record_of kind f ≡ o = wrong_number (length f) (length (form_of kind).fields) (record_from kind f) apart ∙ sym none in
+    (sym same, subst (λ q. IsSome q ↔ FitTheKind (parts kind f)) same (fit-some kind f))
