@@ -44,12 +44,12 @@ fn from_fields(kind: Kind, f: &[Option<u64>]) -> Option<Record>
         Kind::Move => moved(f),
         Kind::Want => want(f),
         Kind::Aim => aim(f),
-        Kind::Line => Some(Record::Line(processor(f, 0)?)),
-        Kind::Fetch => Some(Record::Fetch(space(f, 0)?)),
-        Kind::Fetched => Some(Record::Fetched(space(f, 0)?)),
-        Kind::GiveBack => Some(Record::GiveBack(activation(f, 0)?)),
+        Kind::Line => processor(f, 0).map(Record::Line),
+        Kind::Fetch => space(f, 0).map(Record::Fetch),
+        Kind::Fetched => space(f, 0).map(Record::Fetched),
+        Kind::GiveBack => activation(f, 0).map(Record::GiveBack),
         Kind::Idle => Some(Record::Idle),
-        Kind::Spin => Some(Record::Spin(processor(f, 0)?)),
+        Kind::Spin => processor(f, 0).map(Record::Spin),
         Kind::Tick => Some(Record::Tick),
     }
 }
