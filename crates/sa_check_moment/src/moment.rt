@@ -1,18 +1,24 @@
 // A moment of a history.
 #![tactic(auto, unfolding(crate::specs::Seen::seen))]
 
-ghost use Rattle.std.specs.Prelude.{◌≡◌, ◌≢◌, ◌↔◌, ◌≤◌, true, [], is_none, IfOk, IsTrue};
+ghost use Rattle.std.specs.Prelude.{◌≡◌, ◌≢◌, ◌↔◌, ◌≤◌, true, [], length, is_none, IfOk, IsTrue};
 ghost use Rattle.std.specs.List.{list_any, list_all};
 ghost use Rattle.std.specs.Option.{option_copied, option_map};
 ghost use Rattle.sa_spaces.specs.Workload.{WorkloadView};
 ghost use Rattle.sa_devices.specs.Ios.{Io, due_of};
 ghost use Rattle.sa_laws.specs.State.{Runner, instr_of, thread_at, runner_on, space_at};
-ghost use Rattle.sa_laws.specs.Readings.{owner_of, aim_of, line_of, running_of, life_of, life_on, space_of_life, demand_of, untold_of, taken_of, is_resident, is_fetching, load_of, usable, has_hand, counts, many_taken, must_hear, IsLocked, IsOpen, ready_of, has_ready, NoneIsOpen};
+ghost use Rattle.sa_laws.specs.Readings.{opening_readings, owner_of, aim_of, line_of, running_of, life_of, life_on, space_of_life, demand_of, untold_of, taken_of, is_resident, is_fetching, load_of, usable, has_hand, counts, many_taken, must_hear, IsLocked, IsOpen, ready_of, has_ready, NoneIsOpen};
 ghost use Rattle.sa_laws.specs.Closing.{must_want};
 ghost use Rattle.sa_laws.specs.Turns.{AnotherHas};
 ghost use Rattle.sa_laws.specs.Locks.{HoldsLock, next_thread, list_round, IsFirstOpen};
 ghost use Rattle.sa_laws.specs.Ends.{are_at_rest, IsAllDone, IsStuck};
 ghost use Rattle.sa_check_lives.specs.Table.{SomeIsIn};
+ghost use Rattle.sa_check_lives.specs.View.{lives_of, no_lives};
+ghost use Rattle.sa_check_ios.specs.PendingView as pending;
+ghost use Rattle.sa_check_ios.specs.Ready.{first_ready};
+ghost use Rattle.sa_replay.specs.Replayed as replayed;
+ghost use Rattle.sa_check_moment.specs.Board.{no_board};
+ghost use Rattle.sa_check_moment.specs.Level.{rules_in, IsKeptFor};
 ghost use Rattle.sa_check_moment.specs.Listed.{IsListed};
 ghost use Rattle.sa_check_moment.specs.Seen.{seen, opened};
 
@@ -79,15 +85,15 @@ impl Moment {
     pub fn start(alloc: Global, rules: Rules, workload: &Workload) -> Result<Moment, AllocError>
         ensures { IfOk result (λ m. seen m ≡ opened rules workload.now) }
     {
-        let processors = usize::from(workload.processors());
-        let spaces = workload.spaces().len();
+        let (replay, lives, pending) = first_states(alloc, workload)?;
+        let (ready, board, level) = first_lists(alloc, rules, workload)?;
         let parts = Parts {
-            board: Board::new(alloc, processors, spaces)?,
-            ready: ReadyLists::new(alloc, spaces)?,
-            pending: Pending::new(alloc, workload)?,
-            lives: Lives::new(alloc, workload.processors(), spaces as u16)?,
-            replay: Replay::start(alloc, workload)?,
-            level: Level::new(alloc, rules, spaces)?,
+            replay,
+            lives,
+            pending,
+            ready,
+            board,
+            level,
             number: 0,
             last: None,
             moved: None,
@@ -511,6 +517,35 @@ impl Moment {
     {
         self.has_ready(s, l) && !self.is_locked(s, l)
     }
+}
+
+// Before any record: the replay, the lives, and the I/Os and pages. Fails only where memory runs out.
+fn first_states(alloc: Global, workload: &Workload) -> Result<(Replay, Lives, Pending), AllocError>
+    ensures replay { IfOk result (λ x. x.0 ≡ replayed.opened workload.now) }
+    ensures lives { let w = workload.now in IfOk result (λ x. lives_of x.1 ≡ no_lives w.processors (length w.spaces)) }
+    ensures pending { IfOk result (λ x. x.2 ≡ pending.opened workload.now) }
+{
+    let pending = Pending::new(alloc, workload)?;
+    let lives = Lives::new(alloc, workload.processors(), workload.spaces().len() as u16)?;
+    Ok((Replay::start(alloc, workload)?, lives, pending))
+}
+
+// Before any record: the ready threads, what the records say themselves, and what is kept for the rules. Fails only where
+// memory runs out.
+fn first_lists(
+    alloc: Global,
+    rules: Rules,
+    workload: &Workload,
+) -> Result<(ReadyLists, Board, Level), AllocError>
+    ensures ready { IfOk result (λ x. x.0 ≡ first_ready (length workload.now.spaces)) }
+    ensures board { let w = workload.now in IfOk result (λ x. x.1 ≡ no_board w.processors (length w.spaces)) }
+    ensures rules { IfOk result (λ x. rules_in x.2 ≡ rules) }
+    ensures kept { let r = opening_readings workload.now in IfOk result (λ x. IsKeptFor x.2 r.state r.ready) }
+{
+    let spaces = workload.spaces().len();
+    let ready = ReadyLists::new(alloc, spaces)?;
+    let board = Board::new(alloc, usize::from(workload.processors()), spaces)?;
+    Ok((ready, board, Level::new(alloc, rules, spaces)?))
 }
 
 // The list `k` places after that of the processor, of as many as there are processors, round.
