@@ -18,6 +18,7 @@ ghost use Rattle.sa_check_ios.specs.PendingView as pending;
 ghost use Rattle.sa_check_ios.specs.Ready.{first_ready};
 ghost use Rattle.sa_replay.specs.Replayed as replayed;
 ghost use Rattle.sa_check_moment.specs.Board.{no_board};
+ghost use Rattle.sa_check_moment.specs.KeptFields.{kept_in};
 ghost use Rattle.sa_check_moment.specs.Level.{rules_in, IsKeptFor};
 ghost use Rattle.sa_check_moment.specs.Listed.{IsListed};
 ghost use Rattle.sa_check_moment.specs.Seen.{seen, opened};
@@ -85,19 +86,7 @@ impl Moment {
     pub fn start(alloc: Global, rules: Rules, workload: &Workload) -> Result<Moment, AllocError>
         ensures { IfOk result (λ m. seen m ≡ opened rules workload.now) }
     {
-        let (replay, lives, pending) = first_states(alloc, workload)?;
-        let (ready, board, level) = first_lists(alloc, rules, workload)?;
-        let parts = Parts {
-            replay,
-            lives,
-            pending,
-            ready,
-            board,
-            level,
-            number: 0,
-            last: None,
-            moved: None,
-        };
+        let parts = first_parts(alloc, rules, workload)?;
         Ok(Moment {
             parts: Box::new(alloc, parts)?,
         })
@@ -517,6 +506,26 @@ impl Moment {
     {
         self.has_ready(s, l) && !self.is_locked(s, l)
     }
+}
+
+// The parts before any record. Fails only where memory runs out.
+fn first_parts(alloc: Global, rules: Rules, workload: &Workload) -> Result<Parts, AllocError>
+    ensures seen { IfOk result (λ x. seen (kept_in x) ≡ opened rules workload.now) }
+    ensures kept { let r = opening_readings workload.now in IfOk result (λ x. IsKeptFor x.level r.state r.ready) }
+{
+    let (ready, board, level) = first_lists(alloc, rules, workload)?;
+    let (replay, lives, pending) = first_states(alloc, workload)?;
+    Ok(Parts {
+        replay,
+        lives,
+        pending,
+        ready,
+        board,
+        level,
+        number: 0,
+        last: None,
+        moved: None,
+    })
 }
 
 // Before any record: the replay, the lives, and the I/Os and pages. Fails only where memory runs out.
