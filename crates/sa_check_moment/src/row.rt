@@ -66,9 +66,7 @@ impl RankedRow {
         let at = usize::from(rank);
         grow(self.alloc, &mut self.stacks, at)?;
         self.stacks[at].push(t)?;
-        if self.top <= at {
-            self.top = at + 1;
-        }
+        self.top = self.top.max(at + 1);
         Ok(())
     }
 
