@@ -462,14 +462,8 @@ impl Moment {
     fn one_must_be_heard(&self, notes: &[Note]) -> bool
         ensures { result ≡ list_any (must_hear (seen self.now).readings) notes.now }
     {
-        notes.iter().any(|note| self.must_hear(*note))
-    }
-
-    // The space must be told the notice even where it wants no processor.
-    fn must_hear(&self, note: Note) -> bool
-        ensures { result ≡ must_hear (seen self.now).readings note }
-    {
-        self.parts.lives.must_be_told(note)
+        let lives = &self.parts.lives;
+        notes.iter().any(|note| lives.must_be_told(*note))
     }
 
     /// The ready threads of the space, in the order of their ready records.
