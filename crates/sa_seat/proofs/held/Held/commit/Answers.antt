@@ -1,12 +1,13 @@
-use Rattle.std.proofs.Common.{◌≡◌, ◌<◌, None, sym, ap, subst, ◌∙◌, arith}
+use Rattle.std.proofs.Common.{◌≡◌, ℕ, ◌<◌, None, sym, ap, subst, ◌∙◌, arith, rules}
 use Rattle.sa_base.specs.declared.number.ProcNo.{ProcNo}
 use Rattle.sa_spaces.specs.Workload.{WorkloadView}
 use Rattle.sa_kernel_model.specs.State.{line_of}
 use Rattle.sa_core_model.specs.Turn.{committed}
-use Rattle.sa_core_model.specs.End.{end_of, local_on}
+use Rattle.sa_core_model.specs.End.{end_of, committable, local_on}
 use Rattle.sa_core_model.specs.Run.{AreNextLocal}
 use Rattle.sa_core_model.specs.Run.Move.{commit}
 use Rattle.sa_core.specs.View.{machine}
+use Rattle.sa_seat.specs.Seat.{SeatView, renewed}
 use Rattle.sa_seat.specs.Lock.{HeldView}
 use Rattle.sa_seat.proofs.Chains.{reached}
 use Rattle.sa_seat.proofs.Locks.{turns-here, turns-else, can-next, commit-done}
@@ -79,3 +80,32 @@ settle-requires-clause-moved g c κs within =
       here = turns-here p k;
       elsewhere = λ q apart. turns-else p q k apart;
     }
+
+pub returns-clause-made : goal.returns-clause-made
+returns-clause-made g c =
+    let f = g.U.UserLevel.calls in
+    let b = g.K.Named.budget in
+    let h = c.self.inside in
+    let p = c.args.seat.now.poller.proc in
+    let n = c.pending.result in
+    let k = c.in_ok-made.made in
+    let m = machine c.args.self.now.core in
+    let made : k ≡ committable b m c.args.seat.now.pending =
+    c.in_ok-made.ensures.made ∙ ap (λ (x : ℕ). committable x (machine h.core) n) c.self.invariant.budget_is
+    ∙ ap (λ (v : HeldView g.row.U.Denot g.row.U-Ctx.Denot). committable b (machine v.core) n) c.self.view_is
+    ∙ ap (λ (x : ℕ). committable b m x) c.pending.ensures.pending in
+    let is : machine c.commit.new.self ≡ committed f p k (machine h.core) =
+    subst (λ (q : ProcNo). machine c.commit.new.self ≡ committed f q k (machine h.core)) c.proc.ensures.proc c.in_ok-made.ensures.machine in
+    record {
+      not_ended = c.requires.not_ended;
+      low = c.requires.low;
+      start = c.requires.start;
+      made = made;
+      some = c.in_ok-made.ensures.some;
+      few = search (rules, made);
+      is = is ∙ ap (λ (v : HeldView g.row.U.Denot g.row.U-Ctx.Denot). committed f p k (machine v.core)) c.self.view_is;
+    }
+
+pub returns-clause-seat : goal.returns-clause-seat
+returns-clause-seat g c =
+    c.renew.ensures ∙ ap (λ (s : SeatView). renewed (local_on g.U.UserLevel.calls (machine c.commit.new.self) s.poller.proc) s) c.settle.ensures.seat
