@@ -1,4 +1,3 @@
-pub mod script
 pub mod Playing
 pub mod Ordering
 pub mod Keeping
