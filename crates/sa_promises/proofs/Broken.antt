@@ -1,5 +1,6 @@
 -- For each rule a history that breaks it first.
 use Rattle.std.proofs.Common.{◌≡◌, ℕ, zero, suc, inl, inr, refl, ap, arith, Some, None, List, [], ◌∷◌, length, true, false}
+use Rattle.std.proofs.lemmas.Bool.{false≢true, true≢false}
 use Rattle.std.specs.Prelude.{slice_get, slice_index_or, is_some, Option}
 use Rattle.std.specs.List.{list_all}
 use Rattle.sa_base.specs.declared.record.Note.TheVariants.{Add, Preempted, Blocked}
@@ -224,7 +225,7 @@ breaks-LineCause = break-behind fast_threads smallest (e0 ∷ e1 ∷ []) (at 2 (
                   record { told = (tt, (tt, tt)) },
                   (
                     record { blocks = (tt, (tt, tt)) },
-                    (record { interrupt = λ no. absurd (cc); calm = λ no. absurd no }, tt),
+                    (record { interrupt = λ no. absurd (false≢true no); calm = λ no. absurd no }, tt),
                   ),
                 ),
               ),
@@ -253,7 +254,7 @@ breaks-WantCause = break-behind fast_threads smallest (e0 ∷ e1 ∷ []) (at 2 (
                   (
                     record { blocks = (tt, (tt, tt)) },
                     (
-                      record { interrupt = λ no. absurd (cc); calm = λ no. absurd no },
+                      record { interrupt = λ no. absurd (false≢true no); calm = λ no. absurd no },
                       (record { heard = (tt, (tt, tt)); first = tt; order = refl; due = refl }, tt),
                     ),
                   ),
@@ -285,7 +286,7 @@ breaks-SharesCovered =
                   (
                     record { blocks = (tt, (tt, (tt, tt))) },
                     (
-                      record { interrupt = λ no. absurd (cc); calm = λ no. absurd no },
+                      record { interrupt = λ no. absurd (false≢true no); calm = λ no. absurd no },
                       (
                         record { heard = (tt, (record { line = λ _. refl }, (refl, tt))); first = tt; order = refl; due = refl },
                         (
@@ -310,7 +311,7 @@ breaks-DemandAnnounced = break-behind fast_threads smallest (e0 ∷ e1 ∷ e2 �
       earlier = before-demand fast_threads smallest (r3 one) 3 p0 Idle (Some (stops_at 3)) refl
           (record { later = omega arith; proc = omega arith; steps = (tt, tt); reads = (refl, refl, refl, refl, refl, refl, refl); covered = one-share });
       broken = λ h. elim ((h.step (omega arith)).free refl) [
-        | inl out ↦ cc
+        | inl out ↦ true≢false out
         | inr owes ↦ let no = ap length owes.nothing.locks in omega (arith, no)
       ];
     })
@@ -329,9 +330,9 @@ breaks-LocksKept = break-behind fast_threads smallest (e0 ∷ e1 ∷ e2 ∷ []) 
     (record {
       earlier = before-locks fast_threads smallest (r3 one) 3 p0 (Free s0 p0 None) (Some (stops_at 3)) refl
           (record { later = omega arith; proc = omega arith; steps = (tt, tt); reads = (refl, refl, refl, refl, refl, refl, refl); covered = one-share })
-          (record { step = λ _. record { free = λ no. absurd (cc) } })
+          (record { step = λ _. record { free = λ no. absurd (false≢true no) } })
           (record { turn = λ _. refl; closing = λ _. tt });
-      broken = λ h. let used = (h.step (omega arith)).0.keeps.used in cc;
+      broken = λ h. false≢true (h.step (omega arith)).0.keeps.used;
     })
 
 pub breaks-EndTold : FirstBreak fast_threads smallest not_done told_done 4 EndTold

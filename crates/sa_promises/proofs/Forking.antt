@@ -1,5 +1,6 @@
 -- A run in which two threads are ready, and the older one is taken from its own processor's list.
 use Rattle.std.proofs.Common.{◌≡◌, inl, inr, refl, sym, ◌∙◌, ap, subst, arith, Some, None, List, [], ◌∷◌}
+use Rattle.std.proofs.lemmas.Bool.{false≢true}
 use Rattle.std.specs.Prelude.{Contains}
 use Rattle.std.proofs.lemmas.Option.{same_Some}
 use Rattle.sa_base.specs.declared.number.SpaceNo.{SpaceNo}
@@ -134,7 +135,7 @@ unlocked6 locked =
 lawful6 : IsLawful fast_threads forking q6 f6
 lawful6 = plain-lawful fast_threads forking q6 6 p0 (Take s0 p0 (Some t0)) refl
     (record { later = omega arith; proc = omega arith; steps = (tt, tt); reads = (refl, refl, refl, refl, refl, refl, refl); covered = one-share })
-    (record { step = λ _. record { free = λ no. absurd (cc) } })
+    (record { step = λ _. record { free = λ no. absurd (false≢true no) } })
     (record { turn = λ _. refl; closing = λ _. tt })
     (record {
       step = λ _. (
@@ -163,14 +164,14 @@ lawful7 = plain-lawful fast_threads forking q7 7 p0 (Ready s0 t1) refl
       reads = (refl, refl, refl, refl, refl, refl, refl);
       covered = one-share;
     })
-    (record { step = λ _. record { free = λ no. absurd (cc) } })
+    (record { step = λ _. record { free = λ no. absurd (false≢true no) } })
     (record { turn = λ _. refl; closing = λ _. tt })
     (record {
       step = λ _. (
         record {
           keeps = record {
             push = refl;
-            used = record { unused = refl; page = refl; cont = λ no. absurd (cc) };
+            used = record { unused = refl; page = refl; cont = λ no. absurd (false≢true no) };
             space = refl;
             hand = (0, omega arith, refl);
             counts = refl;
@@ -189,10 +190,10 @@ right7 = with-end fast_threads forking q7 f7 None lawful7 (goes-on q8 refl refl)
 lawful8 : IsLawful fast_threads forking q8 f8
 lawful8 = plain-lawful fast_threads forking q8 8 p0 (Free s0 p0 (Some t0)) refl
     (record { later = omega arith; proc = omega arith; steps = (tt, tt); reads = (refl, refl, refl, refl, refl, refl, refl); covered = one-share })
-    (record { step = λ _. record { free = λ no. absurd (cc) } })
+    (record { step = λ _. record { free = λ no. absurd (false≢true no) } })
     (record { turn = λ _. refl; closing = λ _. tt })
     (record {
-      step = λ _. (record { keeps = record { space = refl; list = refl; thread = refl; used = refl; cont = λ no. absurd (cc) }; back = refl }, refl);
+      step = λ _. (record { keeps = record { space = refl; list = refl; thread = refl; used = refl; cont = λ no. absurd (false≢true no) }; back = refl }, refl);
     })
     (record { run = tt })
 
@@ -228,7 +229,7 @@ unlocked10 locked =
 lawful10 : IsLawful fast_threads forking q10 f10
 lawful10 = plain-lawful fast_threads forking q10 10 p0 (Take s0 p0 (Some t0)) refl
     (record { later = omega arith; proc = omega arith; steps = (tt, tt); reads = (refl, refl, refl, refl, refl, refl, refl); covered = one-share })
-    (record { step = λ _. record { free = λ no. absurd (cc) } })
+    (record { step = λ _. record { free = λ no. absurd (false≢true no) } })
     (record { turn = λ _. refl; closing = λ _. tt })
     (record {
       step = λ _. (
@@ -260,14 +261,14 @@ lawful11 = plain-lawful fast_threads forking q11 11 p0 (Ready s0 t2) refl
       reads = (refl, refl, refl, refl, refl, refl, refl);
       covered = one-share;
     })
-    (record { step = λ _. record { free = λ no. absurd (cc) } })
+    (record { step = λ _. record { free = λ no. absurd (false≢true no) } })
     (record { turn = λ _. refl; closing = λ _. tt })
     (record {
       step = λ _. (
         record {
           keeps = record {
             push = refl;
-            used = record { unused = refl; page = refl; cont = λ no. absurd (cc) };
+            used = record { unused = refl; page = refl; cont = λ no. absurd (false≢true no) };
             space = refl;
             hand = (0, omega arith, refl);
             counts = refl;
@@ -286,10 +287,10 @@ right11 = with-end fast_threads forking q11 f11 None lawful11 (goes-on q12 refl 
 lawful12 : IsLawful fast_threads forking q12 f12
 lawful12 = plain-lawful fast_threads forking q12 12 p0 (Free s0 p0 (Some t0)) refl
     (record { later = omega arith; proc = omega arith; steps = (tt, tt); reads = (refl, refl, refl, refl, refl, refl, refl); covered = one-share })
-    (record { step = λ _. record { free = λ no. absurd (cc) } })
+    (record { step = λ _. record { free = λ no. absurd (false≢true no) } })
     (record { turn = λ _. refl; closing = λ _. tt })
     (record {
-      step = λ _. (record { keeps = record { space = refl; list = refl; thread = refl; used = refl; cont = λ no. absurd (cc) }; back = refl }, refl);
+      step = λ _. (record { keeps = record { space = refl; list = refl; thread = refl; used = refl; cont = λ no. absurd (false≢true no) }; back = refl }, refl);
     })
     (record { run = tt })
 
@@ -383,11 +384,11 @@ breaks-OrderKept = break-behind fast_threads forking forking_run (at 15 (Run s0 
             reads = (refl, refl, refl, refl, refl, refl, refl);
             covered = one-share;
           })
-          (record { step = λ _. record { free = λ no. absurd (cc) } })
+          (record { step = λ _. record { free = λ no. absurd (false≢true no) } })
           (record { turn = λ _. refl; closing = λ _. tt })
           (record {
             step = λ _. (
-              record { keeps = record { pop = refl; used = record { unused = refl; page = refl; cont = λ no. absurd (cc) }; space = refl }; back = refl },
+              record { keeps = record { pop = refl; used = record { unused = refl; page = refl; cont = λ no. absurd (false≢true no) }; space = refl }; back = refl },
               refl,
             );
           });

@@ -2,7 +2,7 @@
 -- rules first on the way.
 use Rattle.std.proofs.Common.{◌≡◌, ◌≢◌, ℕ, zero, suc, ◌≤◌, inl, inr, refl, sym, ◌∙◌, ap, subst, arith, Some, None, [], ◌∷◌}
 use Rattle.std.specs.Prelude.{Option, Contains, ◌+◌, ◌==◌, if◌then◌else◌, slice_index, replicate}
-use Rattle.std.proofs.lemmas.Bool.{cases_eq}
+use Rattle.std.proofs.lemmas.Bool.{cases_eq, false≢true, true≢false}
 use Rattle.std.proofs.lemmas.Option.{same_Some}
 use Rattle.sa_lemmas.specs.Function.{put}
 use Rattle.sa_lemmas.proofs.FunctionUpdates.{put-other}
@@ -272,7 +272,7 @@ lawful0 = record {
   where_owned = record { named = (tt, (tt, (tt, tt))); owned = refl };
   all_told = record { told = (tt, (tt, (tt, tt))) };
   upcall_given = record { blocks = (tt, (tt, (tt, tt))) };
-  interrupt_next = record { interrupt = λ no. absurd (cc); calm = λ no. absurd no };
+  interrupt_next = record { interrupt = λ no. absurd (false≢true no); calm = λ no. absurd no };
   line_cause = record { heard = (tt, (record { line = λ _. refl }, (refl, tt))); first = tt; order = refl; due = refl };
   want_cause = record { due = λ no. absurd (omega arith); none = no-wants v1 refl };
   shares_covered = record { covered = share1; due = refl };
@@ -319,8 +319,8 @@ lawful2 = plain-lawful prio_threads racing v2 2 p0 (Take s0 p0 None) refl
       step = λ _. (
         record {
           keeps = record { space = refl; unlocked = free2; list = refl; locks = refl; cont = refl; thread = refl; target = (refl, refl) };
-          due = λ no. absurd (cc);
-          back = λ no. absurd (cc);
+          due = λ no. absurd (false≢true no);
+          back = λ no. absurd (false≢true no);
         },
         refl,
       );
@@ -339,14 +339,14 @@ lawful3 = plain-lawful prio_threads racing v3 3 p0 (Run s0 t0) refl
       reads = (refl, refl, refl, refl, refl, refl, refl);
       covered = share1;
     })
-    (record { demand_announced = record { step = λ _. record { free = λ no. absurd (cc) } }; step = λ _. record { unurged = λ no. absurd (cc) } })
+    (record { demand_announced = record { step = λ _. record { free = λ no. absurd (false≢true no) } }; step = λ _. record { unurged = λ no. absurd (false≢true no) } })
     (record { turn = λ _. refl; closing = λ _. tt })
     (record {
       step = λ _. (
         record {
-          keeps = record { pop = refl; used = record { unused = refl; page = refl; cont = λ no. absurd (cc) }; space = refl };
-          due = λ no. absurd (cc);
-          back = λ no. absurd (cc);
+          keeps = record { pop = refl; used = record { unused = refl; page = refl; cont = λ no. absurd (false≢true no) }; space = refl };
+          due = λ no. absurd (false≢true no);
+          back = λ no. absurd (false≢true no);
         },
         refl,
       );
@@ -359,14 +359,14 @@ right3 = with-end prio_threads racing v3 d3 None lawful3 (goes-on v4 refl refl)
 lawful4 : IsLawful prio_threads racing v4 d4
 lawful4 = plain-lawful prio_threads racing v4 4 p0 (Free s0 p0 (Some t0)) refl
     (record { later = omega arith; proc = omega arith; steps = (tt, tt); reads = (refl, refl, refl, refl, refl, refl, refl); covered = share1 })
-    (record { demand_announced = record { step = λ _. record { free = λ no. absurd (cc) } }; step = λ _. record { unurged = λ no. absurd (cc) } })
+    (record { demand_announced = record { step = λ _. record { free = λ no. absurd (false≢true no) } }; step = λ _. record { unurged = λ no. absurd (false≢true no) } })
     (record { turn = λ _. refl; closing = λ _. tt })
     (record {
       step = λ _. (
         record {
-          keeps = record { space = refl; list = refl; thread = refl; used = refl; cont = λ no. absurd (cc) };
-          due = λ no. absurd (cc);
-          back = λ no. absurd (cc);
+          keeps = record { space = refl; list = refl; thread = refl; used = refl; cont = λ no. absurd (false≢true no) };
+          due = λ no. absurd (false≢true no);
+          back = λ no. absurd (false≢true no);
         },
         refl,
       );
@@ -387,7 +387,7 @@ lawful5 = plain-lawful prio_threads racing v5 5 p0 (Ins s0 t0 0) refl
     })
     (record { demand_announced = record { step = λ _. record { free = λ _. inl refl } }; step = λ _. record { unurged = λ _. inr refl } })
     (record { turn = λ _. refl; closing = λ _. tt })
-    (record { step = λ _. (record { keeps = tt; due = λ no. absurd (cc); back = λ no. absurd (cc) }, tt) })
+    (record { step = λ _. (record { keeps = tt; due = λ no. absurd (false≢true no); back = λ no. absurd (false≢true no) }, tt) })
     (record { run = tt })
 
 right5 : HoldEach prio_threads racing rules v5 d5 None
@@ -400,14 +400,14 @@ free6 locked = none-of-one (event_begun racing d6 v6) _ (two-put0 _ _ (two-put0 
 lawful6 : IsLawful prio_threads racing v6 d6
 lawful6 = plain-lawful prio_threads racing v6 6 p0 (Take s0 p0 (Some t0)) refl
     (record { later = omega arith; proc = omega arith; steps = (tt, tt); reads = (refl, refl, refl, refl, refl, refl, refl); covered = share1 })
-    (record { demand_announced = record { step = λ _. record { free = λ no. absurd (cc) } }; step = λ _. record { unurged = λ no. absurd (cc) } })
+    (record { demand_announced = record { step = λ _. record { free = λ no. absurd (false≢true no) } }; step = λ _. record { unurged = λ no. absurd (false≢true no) } })
     (record { turn = λ _. refl; closing = λ _. tt })
     (record {
       step = λ _. (
         record {
           keeps = record { space = refl; unlocked = free6; list = refl; locks = refl; cont = refl; thread = refl; target = tt };
-          due = λ no. absurd (cc);
-          back = λ no. absurd (cc);
+          due = λ no. absurd (false≢true no);
+          back = λ no. absurd (false≢true no);
         },
         refl,
       );
@@ -430,21 +430,21 @@ lawful7 = plain-lawful prio_threads racing v7 7 p0 (Ready s0 t1) refl
       reads = (refl, refl, refl, refl, refl, refl, refl);
       covered = share1;
     })
-    (record { demand_announced = record { step = λ _. record { free = λ no. absurd (cc) } }; step = λ _. record { unurged = λ no. absurd (cc) } })
+    (record { demand_announced = record { step = λ _. record { free = λ no. absurd (false≢true no) } }; step = λ _. record { unurged = λ no. absurd (false≢true no) } })
     (record { turn = λ _. refl; closing = λ _. tt })
     (record {
       step = λ _. (
         record {
           keeps = record {
             push = refl;
-            used = record { unused = refl; page = refl; cont = λ no. absurd (cc) };
+            used = record { unused = refl; page = refl; cont = λ no. absurd (false≢true no) };
             space = refl;
             hand = (0, omega arith, refl);
             counts = refl;
             holds = holds7;
           };
-          due = λ no. absurd (cc);
-          back = λ no. absurd (cc);
+          due = λ no. absurd (false≢true no);
+          back = λ no. absurd (false≢true no);
         },
         refl,
       );
@@ -457,14 +457,14 @@ right7 = with-end prio_threads racing v7 d7 None lawful7 (goes-on v8 refl refl)
 lawful8 : IsLawful prio_threads racing v8 d8
 lawful8 = plain-lawful prio_threads racing v8 8 p0 (Free s0 p0 (Some t0)) refl
     (record { later = omega arith; proc = omega arith; steps = (tt, tt); reads = (refl, refl, refl, refl, refl, refl, refl); covered = share1 })
-    (record { demand_announced = record { step = λ _. record { free = λ no. absurd (cc) } }; step = λ _. record { unurged = λ no. absurd (cc) } })
+    (record { demand_announced = record { step = λ _. record { free = λ no. absurd (false≢true no) } }; step = λ _. record { unurged = λ no. absurd (false≢true no) } })
     (record { turn = λ _. refl; closing = λ _. tt })
     (record {
       step = λ _. (
         record {
-          keeps = record { space = refl; list = refl; thread = refl; used = refl; cont = λ no. absurd (cc) };
-          due = λ no. absurd (cc);
-          back = λ no. absurd (cc);
+          keeps = record { space = refl; list = refl; thread = refl; used = refl; cont = λ no. absurd (false≢true no) };
+          due = λ no. absurd (false≢true no);
+          back = λ no. absurd (false≢true no);
         },
         refl,
       );
@@ -483,19 +483,19 @@ lawful9 = record {
   where_owned = record { named = (tt, (tt, (tt, tt))); owned = refl };
   all_told = record { told = (tt, (tt, (tt, tt))) };
   upcall_given = record { blocks = (tt, (tt, (tt, tt))) };
-  interrupt_next = record { interrupt = λ no. absurd (cc); calm = λ no. absurd no };
+  interrupt_next = record { interrupt = λ no. absurd (false≢true no); calm = λ no. absurd no };
   line_cause = record { heard = (tt, (record { line = λ _. refl }, (refl, tt))); first = tt; order = refl; due = refl };
   want_cause = record { due = λ _. refl; none = no-wants v10 refl };
   shares_covered = record { covered = share2; due = refl };
   demand_announced = record {
-    demand_announced = record { step = λ _. record { free = λ no. absurd (cc) } };
-    step = λ _. record { unurged = λ no. absurd (cc) };
+    demand_announced = record { step = λ _. record { free = λ no. absurd (false≢true no) } };
+    step = λ _. record { unurged = λ no. absurd (false≢true no) };
   };
   turns_taken = record {
     turn = λ _. (refl, refl, record { nothing = record { locks = refl; cont = refl; hand = refl }; below = omega arith; number = refl });
     closing = λ _. tt;
   };
-  locks_kept = record { step = λ _. (record { keeps = tt; due = λ no. absurd (cc); back = λ no. absurd (cc) }, tt) };
+  locks_kept = record { step = λ _. (record { keeps = tt; due = λ no. absurd (false≢true no); back = λ no. absurd (false≢true no) }, tt) };
   order_kept = record { run = tt };
 }
 
@@ -505,7 +505,7 @@ right9 = with-end prio_threads racing v9 d9 None lawful9 (goes-on v10 refl refl)
 lawful10 : IsLawful prio_threads racing v10 d10
 lawful10 = plain-lawful prio_threads racing v10 10 p0 (Back s0 (Some t0)) refl
     (record { later = omega arith; proc = omega arith; steps = ((refl, refl), tt); reads = (refl, refl, refl, refl, refl, refl, refl); covered = share2 })
-    (record { demand_announced = record { step = λ _. record { free = λ no. absurd (cc) } }; step = λ _. record { unurged = λ no. absurd (cc) } })
+    (record { demand_announced = record { step = λ _. record { free = λ no. absurd (false≢true no) } }; step = λ _. record { unurged = λ no. absurd (false≢true no) } })
     (record {
       turn = λ _. (
         refl,
@@ -513,7 +513,7 @@ lawful10 = plain-lawful prio_threads racing v10 10 p0 (Back s0 (Some t0)) refl
       );
       closing = λ _. tt;
     })
-    (record { step = λ _. (record { keeps = refl; due = λ no. absurd (cc); back = λ is no. absurd (cc) }, refl) })
+    (record { step = λ _. (record { keeps = refl; due = λ no. absurd (false≢true no); back = λ is no. absurd (cc) }, refl) })
     (record { run = tt })
 
 right10 : HoldEach prio_threads racing rules v10 d10 None
@@ -527,14 +527,14 @@ free11 locked = none-of-one (event_begun racing d11 v11) _ (two-put0 _ _ (two-pu
 lawful11 : IsLawful prio_threads racing v11 d11
 lawful11 = plain-lawful prio_threads racing v11 11 p0 (Take s0 p0 None) refl
     (record { later = omega arith; proc = omega arith; steps = (tt, tt); reads = (refl, refl, refl, refl, refl, refl, refl); covered = share2 })
-    (record { demand_announced = record { step = λ _. record { free = λ no. absurd (cc) } }; step = λ _. record { unurged = λ no. absurd (cc) } })
+    (record { demand_announced = record { step = λ _. record { free = λ no. absurd (false≢true no) } }; step = λ _. record { unurged = λ no. absurd (false≢true no) } })
     (record { turn = λ _. refl; closing = λ _. tt })
     (record {
       step = λ _. (
         record {
           keeps = record { space = refl; unlocked = free11; list = refl; locks = refl; cont = refl; thread = refl; target = tt };
-          due = λ no. absurd (cc);
-          back = λ no. absurd (cc);
+          due = λ no. absurd (false≢true no);
+          back = λ no. absurd (false≢true no);
         },
         refl,
       );
@@ -558,21 +558,21 @@ lawful12 = plain-lawful prio_threads racing v12 12 p0 (Ready s0 t0) refl
       reads = (refl, refl, refl, refl, refl, refl, refl);
       covered = share2;
     })
-    (record { demand_announced = record { step = λ _. record { free = λ no. absurd (cc) } }; step = λ _. record { unurged = λ no. absurd (cc) } })
+    (record { demand_announced = record { step = λ _. record { free = λ no. absurd (false≢true no) } }; step = λ _. record { unurged = λ no. absurd (false≢true no) } })
     (record { turn = λ _. refl; closing = λ _. tt })
     (record {
       step = λ _. (
         record {
           keeps = record {
             push = refl;
-            used = record { unused = refl; page = refl; cont = λ no. absurd (cc) };
+            used = record { unused = refl; page = refl; cont = λ no. absurd (false≢true no) };
             space = refl;
             hand = (0, omega arith, refl);
             counts = refl;
             holds = holds12;
           };
-          due = λ no. absurd (cc);
-          back = λ no. absurd (cc);
+          due = λ no. absurd (false≢true no);
+          back = λ no. absurd (false≢true no);
         },
         refl,
       );
@@ -585,14 +585,14 @@ right12 = with-end prio_threads racing v12 d12 None lawful12 (goes-on v13 refl r
 lawful13 : IsLawful prio_threads racing v13 d13
 lawful13 = plain-lawful prio_threads racing v13 13 p0 (Free s0 p0 None) refl
     (record { later = omega arith; proc = omega arith; steps = (tt, tt); reads = (refl, refl, refl, refl, refl, refl, refl); covered = share2 })
-    (record { demand_announced = record { step = λ _. record { free = λ no. absurd (cc) } }; step = λ _. record { unurged = λ no. absurd (cc) } })
+    (record { demand_announced = record { step = λ _. record { free = λ no. absurd (false≢true no) } }; step = λ _. record { unurged = λ no. absurd (false≢true no) } })
     (record { turn = λ _. refl; closing = λ _. tt })
     (record {
       step = λ _. (
         record {
-          keeps = record { space = refl; list = refl; thread = refl; used = refl; cont = λ no. absurd (cc) };
-          due = λ no. absurd (cc);
-          back = λ no. absurd (cc);
+          keeps = record { space = refl; list = refl; thread = refl; used = refl; cont = λ no. absurd (false≢true no) };
+          due = λ no. absurd (false≢true no);
+          back = λ no. absurd (false≢true no);
         },
         refl,
       );
@@ -617,8 +617,8 @@ lawful14 = plain-lawful prio_threads racing v14 14 p0 (Take s0 p0 None) refl
       step = λ _. (
         record {
           keeps = record { space = refl; unlocked = free14; list = refl; locks = refl; cont = refl; thread = refl; target = (refl, refl) };
-          due = λ no. absurd (cc);
-          back = λ no. absurd (cc);
+          due = λ no. absurd (false≢true no);
+          back = λ no. absurd (false≢true no);
         },
         refl,
       );
@@ -637,14 +637,14 @@ lawful15 = plain-lawful prio_threads racing v15 15 p0 (Run s0 t1) refl
       reads = (refl, refl, refl, refl, refl, refl, refl);
       covered = share2;
     })
-    (record { demand_announced = record { step = λ _. record { free = λ no. absurd (cc) } }; step = λ _. record { unurged = λ no. absurd (cc) } })
+    (record { demand_announced = record { step = λ _. record { free = λ no. absurd (false≢true no) } }; step = λ _. record { unurged = λ no. absurd (false≢true no) } })
     (record { turn = λ _. refl; closing = λ _. tt })
     (record {
       step = λ _. (
         record {
-          keeps = record { pop = refl; used = record { unused = refl; page = refl; cont = λ no. absurd (cc) }; space = refl };
-          due = λ no. absurd (cc);
-          back = λ no. absurd (cc);
+          keeps = record { pop = refl; used = record { unused = refl; page = refl; cont = λ no. absurd (false≢true no) }; space = refl };
+          due = λ no. absurd (false≢true no);
+          back = λ no. absurd (false≢true no);
         },
         refl,
       );
@@ -657,14 +657,14 @@ right15 = with-end prio_threads racing v15 d15 None lawful15 (goes-on v16 refl r
 lawful16 : IsLawful prio_threads racing v16 d16
 lawful16 = plain-lawful prio_threads racing v16 16 p0 (Free s0 p0 (Some t1)) refl
     (record { later = omega arith; proc = omega arith; steps = (tt, tt); reads = (refl, refl, refl, refl, refl, refl, refl); covered = share2 })
-    (record { demand_announced = record { step = λ _. record { free = λ no. absurd (cc) } }; step = λ _. record { unurged = λ no. absurd (cc) } })
+    (record { demand_announced = record { step = λ _. record { free = λ no. absurd (false≢true no) } }; step = λ _. record { unurged = λ no. absurd (false≢true no) } })
     (record { turn = λ _. refl; closing = λ _. tt })
     (record {
       step = λ _. (
         record {
-          keeps = record { space = refl; list = refl; thread = refl; used = refl; cont = λ no. absurd (cc) };
-          due = λ no. absurd (cc);
-          back = λ no. absurd (cc);
+          keeps = record { space = refl; list = refl; thread = refl; used = refl; cont = λ no. absurd (false≢true no) };
+          due = λ no. absurd (false≢true no);
+          back = λ no. absurd (false≢true no);
         },
         refl,
       );
@@ -712,8 +712,8 @@ lawful18 = plain-lawful prio_threads racing v18 18 p1 (Take s0 p0 None) refl
       step = λ _. (
         record {
           keeps = record { space = refl; unlocked = free18; list = refl; locks = refl; cont = refl; thread = refl; target = (refl, refl) };
-          due = λ no. absurd (cc);
-          back = λ no. absurd (cc);
+          due = λ no. absurd (false≢true no);
+          back = λ no. absurd (false≢true no);
         },
         refl,
       );
@@ -732,14 +732,14 @@ lawful19 = plain-lawful prio_threads racing v19 19 p1 (Run s0 t0) refl
       reads = (refl, refl, refl, refl, refl, refl, refl);
       covered = share2;
     })
-    (record { demand_announced = record { step = λ _. record { free = λ no. absurd (cc) } }; step = λ _. record { unurged = λ no. absurd (cc) } })
+    (record { demand_announced = record { step = λ _. record { free = λ no. absurd (false≢true no) } }; step = λ _. record { unurged = λ no. absurd (false≢true no) } })
     (record { turn = λ _. refl; closing = λ _. tt })
     (record {
       step = λ _. (
         record {
-          keeps = record { pop = refl; used = record { unused = refl; page = refl; cont = λ no. absurd (cc) }; space = refl };
-          due = λ no. absurd (cc);
-          back = λ no. absurd (cc);
+          keeps = record { pop = refl; used = record { unused = refl; page = refl; cont = λ no. absurd (false≢true no) }; space = refl };
+          due = λ no. absurd (false≢true no);
+          back = λ no. absurd (false≢true no);
         },
         refl,
       );
@@ -752,14 +752,14 @@ right19 = with-end prio_threads racing v19 d19 None lawful19 (goes-on v20 refl r
 lawful20 : IsLawful prio_threads racing v20 d20
 lawful20 = plain-lawful prio_threads racing v20 20 p1 (Free s0 p0 (Some t0)) refl
     (record { later = omega arith; proc = omega arith; steps = (tt, tt); reads = (refl, refl, refl, refl, refl, refl, refl); covered = share2 })
-    (record { demand_announced = record { step = λ _. record { free = λ no. absurd (cc) } }; step = λ _. record { unurged = λ no. absurd (cc) } })
+    (record { demand_announced = record { step = λ _. record { free = λ no. absurd (false≢true no) } }; step = λ _. record { unurged = λ no. absurd (false≢true no) } })
     (record { turn = λ _. refl; closing = λ _. tt })
     (record {
       step = λ _. (
         record {
-          keeps = record { space = refl; list = refl; thread = refl; used = refl; cont = λ no. absurd (cc) };
-          due = λ no. absurd (cc);
-          back = λ no. absurd (cc);
+          keeps = record { space = refl; list = refl; thread = refl; used = refl; cont = λ no. absurd (false≢true no) };
+          due = λ no. absurd (false≢true no);
+          back = λ no. absurd (false≢true no);
         },
         refl,
       );
@@ -780,7 +780,7 @@ lawful21 = plain-lawful prio_threads racing v21 21 p0 (Ins s0 t1 0) refl
     })
     (record { demand_announced = record { step = λ _. record { free = λ _. inl refl } }; step = λ _. record { unurged = λ _. inr refl } })
     (record { turn = λ _. refl; closing = λ _. tt })
-    (record { step = λ _. (record { keeps = tt; due = λ no. absurd (cc); back = λ no. absurd (cc) }, tt) })
+    (record { step = λ _. (record { keeps = tt; due = λ no. absurd (false≢true no); back = λ no. absurd (false≢true no) }, tt) })
     (record { run = tt })
 
 right21 : HoldEach prio_threads racing rules v21 d21 None
@@ -796,14 +796,14 @@ free22 locked = none-of-two (event_begun racing d22 v22) _ _ (two-put0 _ _ (two-
 lawful22 : IsLawful prio_threads racing v22 d22
 lawful22 = plain-lawful prio_threads racing v22 22 p0 (Take s0 p0 (Some t1)) refl
     (record { later = omega arith; proc = omega arith; steps = (tt, tt); reads = (refl, refl, refl, refl, refl, refl, refl); covered = share2 })
-    (record { demand_announced = record { step = λ _. record { free = λ no. absurd (cc) } }; step = λ _. record { unurged = λ no. absurd (cc) } })
+    (record { demand_announced = record { step = λ _. record { free = λ no. absurd (false≢true no) } }; step = λ _. record { unurged = λ no. absurd (false≢true no) } })
     (record { turn = λ _. refl; closing = λ _. tt })
     (record {
       step = λ _. (
         record {
           keeps = record { space = refl; unlocked = free22; list = refl; locks = refl; cont = refl; thread = refl; target = tt };
-          due = λ no. absurd (cc);
-          back = λ no. absurd (cc);
+          due = λ no. absurd (false≢true no);
+          back = λ no. absurd (false≢true no);
         },
         refl,
       );
@@ -830,21 +830,21 @@ lawful23 = plain-lawful prio_threads racing v23 23 p0 (Ready s0 t2) refl
       reads = (refl, refl, refl, refl, refl, refl, refl);
       covered = share2;
     })
-    (record { demand_announced = record { step = λ _. record { free = λ no. absurd (cc) } }; step = λ _. record { unurged = λ no. absurd (cc) } })
+    (record { demand_announced = record { step = λ _. record { free = λ no. absurd (false≢true no) } }; step = λ _. record { unurged = λ no. absurd (false≢true no) } })
     (record { turn = λ _. refl; closing = λ _. tt })
     (record {
       step = λ _. (
         record {
           keeps = record {
             push = refl;
-            used = record { unused = refl; page = refl; cont = λ no. absurd (cc) };
+            used = record { unused = refl; page = refl; cont = λ no. absurd (false≢true no) };
             space = refl;
             hand = (0, omega arith, refl);
             counts = refl;
             holds = holds23;
           };
-          due = λ no. absurd (cc);
-          back = λ no. absurd (cc);
+          due = λ no. absurd (false≢true no);
+          back = λ no. absurd (false≢true no);
         },
         refl,
       );
@@ -857,14 +857,14 @@ right23 = with-end prio_threads racing v23 d23 None lawful23 (goes-on v24 refl r
 lawful24 : IsLawful prio_threads racing v24 d24
 lawful24 = plain-lawful prio_threads racing v24 24 p0 (Free s0 p0 (Some t1)) refl
     (record { later = omega arith; proc = omega arith; steps = (tt, tt); reads = (refl, refl, refl, refl, refl, refl, refl); covered = share2 })
-    (record { demand_announced = record { step = λ _. record { free = λ no. absurd (cc) } }; step = λ _. record { unurged = λ no. absurd (cc) } })
+    (record { demand_announced = record { step = λ _. record { free = λ no. absurd (false≢true no) } }; step = λ _. record { unurged = λ no. absurd (false≢true no) } })
     (record { turn = λ _. refl; closing = λ _. tt })
     (record {
       step = λ _. (
         record {
-          keeps = record { space = refl; list = refl; thread = refl; used = refl; cont = λ no. absurd (cc) };
-          due = λ no. absurd (cc);
-          back = λ no. absurd (cc);
+          keeps = record { space = refl; list = refl; thread = refl; used = refl; cont = λ no. absurd (false≢true no) };
+          due = λ no. absurd (false≢true no);
+          back = λ no. absurd (false≢true no);
         },
         refl,
       );
@@ -974,7 +974,7 @@ breaks-line_again = break-behind prio_threads racing (d0 ∷ d1 ∷ d2 ∷ d3 �
               record { prompt = prompt-calm (after_event is_inside_or_urged racing v10 (at 10 (Line p1 ∷ []))) refl },
               (
                 record { named = (tt, tt); owned = refl },
-                (record { told = (tt, tt) }, (record { blocks = (tt, tt) }, (record { interrupt = λ no. absurd (cc); calm = λ no. absurd no }, tt))),
+                (record { told = (tt, tt) }, (record { blocks = (tt, tt) }, (record { interrupt = λ no. absurd (false≢true no); calm = λ no. absurd no }, tt))),
               ),
             ),
           ),
@@ -995,14 +995,14 @@ breaks-outranked_run = break-behind prio_threads racing (d0 ∷ d1 ∷ d2 ∷ d3
             reads = (refl, refl, refl, refl, refl, refl, refl);
             covered = share2;
           })
-          (record { demand_announced = record { step = λ _. record { free = λ no. absurd (cc) } }; step = λ _. record { unurged = λ no. absurd (cc) } })
+          (record { demand_announced = record { step = λ _. record { free = λ no. absurd (false≢true no) } }; step = λ _. record { unurged = λ no. absurd (false≢true no) } })
           (record { turn = λ _. refl; closing = λ _. tt })
           (record {
             step = λ _. (
               record {
-                keeps = record { pop = refl; used = record { unused = refl; page = refl; cont = λ no. absurd (cc) }; space = refl };
-                due = λ no. absurd (cc);
-                back = λ no. absurd (cc);
+                keeps = record { pop = refl; used = record { unused = refl; page = refl; cont = λ no. absurd (false≢true no) }; space = refl };
+                due = λ no. absurd (false≢true no);
+                back = λ no. absurd (false≢true no);
               },
               refl,
             );
@@ -1023,7 +1023,7 @@ breaks-back_alone = break-behind prio_threads racing
             reads = (refl, refl, refl, refl, refl, refl, refl);
             covered = share2;
           })
-          (record { demand_announced = record { step = λ _. record { free = λ no. absurd (cc) } }; step = λ _. record { unurged = λ no. absurd (cc) } });
+          (record { demand_announced = record { step = λ _. record { free = λ no. absurd (false≢true no) } }; step = λ _. record { unurged = λ no. absurd (false≢true no) } });
       broken = λ h. let none = (h.turn (omega arith)).1.pair.pair in cc;
     })
 
@@ -1042,7 +1042,7 @@ breaks-line_unasked = break-behind prio_threads racing
               record { prompt = prompt-calm (after_event is_inside_or_urged racing v21 (at 21 (Line p1 ∷ []))) refl },
               (
                 record { named = (tt, tt); owned = refl },
-                (record { told = (tt, tt) }, (record { blocks = (tt, tt) }, (record { interrupt = λ no. absurd (cc); calm = λ no. absurd no }, tt))),
+                (record { told = (tt, tt) }, (record { blocks = (tt, tt) }, (record { interrupt = λ no. absurd (false≢true no); calm = λ no. absurd no }, tt))),
               ),
             ),
           ),
@@ -1064,5 +1064,5 @@ breaks-pair_unserved = break-behind prio_threads racing
             reads = (refl, refl, refl, refl, refl, refl, refl);
             covered = share2;
           });
-      broken = λ h. elim ((h.step (omega arith)).unurged refl) [ inl out ↦ cc | inr none ↦ cc ];
+      broken = λ h. elim ((h.step (omega arith)).unurged refl) [ inl out ↦ true≢false out | inr none ↦ true≢false none ];
     })

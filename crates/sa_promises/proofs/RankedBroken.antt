@@ -1,5 +1,6 @@
 -- For each rule of the package with thread priorities a history that breaks it first.
 use Rattle.std.proofs.Common.{◌≡◌, inl, inr, refl, ap, arith, Some, None, List, [], ◌∷◌, length}
+use Rattle.std.proofs.lemmas.Bool.{false≢true, true≢false}
 use Rattle.std.specs.Prelude.{slice_get}
 use Rattle.sa_base.specs.declared.record.Note.TheVariants.{Add, Preempted, Blocked}
 use Rattle.sa_base.specs.declared.record.Record.TheVariants.{Ins, Stop, Block, Take, Free, Up, Told, Move, Want, Aim, Line, Idle, Tick}
@@ -211,7 +212,7 @@ breaks-LineCause = break-behind prio_threads smallest (e0 ∷ e1 ∷ []) (at 2 (
                   record { told = (tt, (tt, tt)) },
                   (
                     record { blocks = (tt, (tt, tt)) },
-                    (record { interrupt = λ no. absurd (cc); calm = λ no. absurd no }, tt),
+                    (record { interrupt = λ no. absurd (false≢true no); calm = λ no. absurd no }, tt),
                   ),
                 ),
               ),
@@ -240,7 +241,7 @@ breaks-WantCause = break-behind prio_threads smallest (e0 ∷ e1 ∷ []) (at 2 (
                   (
                     record { blocks = (tt, (tt, tt)) },
                     (
-                      record { interrupt = λ no. absurd (cc); calm = λ no. absurd no },
+                      record { interrupt = λ no. absurd (false≢true no); calm = λ no. absurd no },
                       (record { heard = (tt, (tt, tt)); first = tt; order = refl; due = refl }, tt),
                     ),
                   ),
@@ -272,7 +273,7 @@ breaks-SharesCovered =
                   (
                     record { blocks = (tt, (tt, (tt, tt))) },
                     (
-                      record { interrupt = λ no. absurd (cc); calm = λ no. absurd no },
+                      record { interrupt = λ no. absurd (false≢true no); calm = λ no. absurd no },
                       (
                         record { heard = (tt, (record { line = λ _. refl }, (refl, tt))); first = tt; order = refl; due = refl },
                         (
@@ -297,7 +298,7 @@ breaks-DemandAnnounced = break-behind prio_threads smallest (e0 ∷ e1 ∷ e2 �
       earlier = before-demand prio_threads smallest (r3 one) 3 p0 Idle (Some (stops_at 3)) refl
           (record { later = omega arith; proc = omega arith; steps = (tt, tt); reads = (refl, refl, refl, refl, refl, refl, refl); covered = one-share });
       broken = λ h. elim ((h.demand_announced.step (omega arith)).free refl) [
-        | inl out ↦ cc
+        | inl out ↦ true≢false out
         | inr owes ↦ let no = ap length owes.nothing.locks in omega (arith, no)
       ];
     })
@@ -316,9 +317,9 @@ breaks-LocksKept = break-behind prio_threads smallest (e0 ∷ e1 ∷ e2 ∷ []) 
     (record {
       earlier = before-locks prio_threads smallest (r3 one) 3 p0 (Free s0 p0 None) (Some (stops_at 3)) refl
           (record { later = omega arith; proc = omega arith; steps = (tt, tt); reads = (refl, refl, refl, refl, refl, refl, refl); covered = one-share })
-          (record { demand_announced = record { step = λ _. record { free = λ no. absurd (cc) } }; step = λ _. record { unurged = λ _. inr refl } })
+          (record { demand_announced = record { step = λ _. record { free = λ no. absurd (false≢true no) } }; step = λ _. record { unurged = λ _. inr refl } })
           (record { turn = λ _. refl; closing = λ _. tt });
-      broken = λ h. let used = (h.step (omega arith)).0.keeps.used in cc;
+      broken = λ h. false≢true (h.step (omega arith)).0.keeps.used;
     })
 
 pub breaks-EndTold : FirstBreak prio_threads smallest not_done told_done 4 EndTold

@@ -1,5 +1,6 @@
 -- A run in which two threads of one rank are ready, and the older one is taken.
 use Rattle.std.proofs.Common.{◌≡◌, inl, inr, refl, ap, arith, Some, None, List, [], ◌∷◌}
+use Rattle.std.proofs.lemmas.Bool.{false≢true}
 use Rattle.std.proofs.lemmas.Option.{same_Some}
 use Rattle.sa_base.specs.declared.number.ThreadNo.{ThreadNo}
 use Rattle.sa_base.specs.declared.record.Record.TheVariants.{Ins, Run, Ready, Take, Free}
@@ -109,7 +110,7 @@ lawful5 = plain-lawful prio_threads forking q5 5 p0 (Ins s0 t0 0) refl
     })
     (record { demand_announced = record { step = λ _. record { free = λ _. inl refl } }; step = λ _. record { unurged = λ _. inr refl } })
     (record { turn = λ _. refl; closing = λ _. tt })
-    (record { step = λ _. (record { keeps = tt; due = λ no. absurd (cc); back = λ no. absurd (cc) }, tt) })
+    (record { step = λ _. (record { keeps = tt; due = λ no. absurd (false≢true no); back = λ no. absurd (false≢true no) }, tt) })
     (record { run = tt })
 
 right5 : HoldEach prio_threads forking rules q5 f5 None
@@ -124,14 +125,14 @@ unlocked6 locked =
 lawful6 : IsLawful prio_threads forking q6 f6
 lawful6 = plain-lawful prio_threads forking q6 6 p0 (Take s0 p0 (Some t0)) refl
     (record { later = omega arith; proc = omega arith; steps = (tt, tt); reads = (refl, refl, refl, refl, refl, refl, refl); covered = one-share })
-    (record { demand_announced = record { step = λ _. record { free = λ no. absurd (cc) } }; step = λ _. record { unurged = λ _. inr refl } })
+    (record { demand_announced = record { step = λ _. record { free = λ no. absurd (false≢true no) } }; step = λ _. record { unurged = λ _. inr refl } })
     (record { turn = λ _. refl; closing = λ _. tt })
     (record {
       step = λ _. (
         record {
           keeps = record { space = refl; unlocked = unlocked6; list = refl; locks = refl; cont = refl; thread = refl; target = tt };
-          due = λ no. absurd (cc);
-          back = λ no. absurd (cc);
+          due = λ no. absurd (false≢true no);
+          back = λ no. absurd (false≢true no);
         },
         refl,
       );
@@ -157,21 +158,21 @@ lawful7 = plain-lawful prio_threads forking q7 7 p0 (Ready s0 t1) refl
       reads = (refl, refl, refl, refl, refl, refl, refl);
       covered = one-share;
     })
-    (record { demand_announced = record { step = λ _. record { free = λ no. absurd (cc) } }; step = λ _. record { unurged = λ _. inr refl } })
+    (record { demand_announced = record { step = λ _. record { free = λ no. absurd (false≢true no) } }; step = λ _. record { unurged = λ _. inr refl } })
     (record { turn = λ _. refl; closing = λ _. tt })
     (record {
       step = λ _. (
         record {
           keeps = record {
             push = refl;
-            used = record { unused = refl; page = refl; cont = λ no. absurd (cc) };
+            used = record { unused = refl; page = refl; cont = λ no. absurd (false≢true no) };
             space = refl;
             hand = (0, omega arith, refl);
             counts = refl;
             holds = holds7;
           };
-          due = λ no. absurd (cc);
-          back = λ no. absurd (cc);
+          due = λ no. absurd (false≢true no);
+          back = λ no. absurd (false≢true no);
         },
         refl,
       );
@@ -184,14 +185,14 @@ right7 = with-end prio_threads forking q7 f7 None lawful7 (goes-on q8 refl refl)
 lawful8 : IsLawful prio_threads forking q8 f8
 lawful8 = plain-lawful prio_threads forking q8 8 p0 (Free s0 p0 (Some t0)) refl
     (record { later = omega arith; proc = omega arith; steps = (tt, tt); reads = (refl, refl, refl, refl, refl, refl, refl); covered = one-share })
-    (record { demand_announced = record { step = λ _. record { free = λ no. absurd (cc) } }; step = λ _. record { unurged = λ _. inr refl } })
+    (record { demand_announced = record { step = λ _. record { free = λ no. absurd (false≢true no) } }; step = λ _. record { unurged = λ _. inr refl } })
     (record { turn = λ _. refl; closing = λ _. tt })
     (record {
       step = λ _. (
         record {
-          keeps = record { space = refl; list = refl; thread = refl; used = refl; cont = λ no. absurd (cc) };
-          due = λ no. absurd (cc);
-          back = λ no. absurd (cc);
+          keeps = record { space = refl; list = refl; thread = refl; used = refl; cont = λ no. absurd (false≢true no) };
+          due = λ no. absurd (false≢true no);
+          back = λ no. absurd (false≢true no);
         },
         refl,
       );
@@ -212,7 +213,7 @@ lawful9 = plain-lawful prio_threads forking q9 9 p0 (Ins s0 t0 1) refl
     })
     (record { demand_announced = record { step = λ _. record { free = λ _. inl refl } }; step = λ _. record { unurged = λ _. inr refl } })
     (record { turn = λ _. refl; closing = λ _. tt })
-    (record { step = λ _. (record { keeps = tt; due = λ no. absurd (cc); back = λ no. absurd (cc) }, tt) })
+    (record { step = λ _. (record { keeps = tt; due = λ no. absurd (false≢true no); back = λ no. absurd (false≢true no) }, tt) })
     (record { run = tt })
 
 right9 : HoldEach prio_threads forking rules q9 f9 None
@@ -230,14 +231,14 @@ unlocked10 locked =
 lawful10 : IsLawful prio_threads forking q10 f10
 lawful10 = plain-lawful prio_threads forking q10 10 p0 (Take s0 p0 (Some t0)) refl
     (record { later = omega arith; proc = omega arith; steps = (tt, tt); reads = (refl, refl, refl, refl, refl, refl, refl); covered = one-share })
-    (record { demand_announced = record { step = λ _. record { free = λ no. absurd (cc) } }; step = λ _. record { unurged = λ _. inr refl } })
+    (record { demand_announced = record { step = λ _. record { free = λ no. absurd (false≢true no) } }; step = λ _. record { unurged = λ _. inr refl } })
     (record { turn = λ _. refl; closing = λ _. tt })
     (record {
       step = λ _. (
         record {
           keeps = record { space = refl; unlocked = unlocked10; list = refl; locks = refl; cont = refl; thread = refl; target = tt };
-          due = λ no. absurd (cc);
-          back = λ no. absurd (cc);
+          due = λ no. absurd (false≢true no);
+          back = λ no. absurd (false≢true no);
         },
         refl,
       );
@@ -266,21 +267,21 @@ lawful11 = plain-lawful prio_threads forking q11 11 p0 (Ready s0 t2) refl
       reads = (refl, refl, refl, refl, refl, refl, refl);
       covered = one-share;
     })
-    (record { demand_announced = record { step = λ _. record { free = λ no. absurd (cc) } }; step = λ _. record { unurged = λ _. inr refl } })
+    (record { demand_announced = record { step = λ _. record { free = λ no. absurd (false≢true no) } }; step = λ _. record { unurged = λ _. inr refl } })
     (record { turn = λ _. refl; closing = λ _. tt })
     (record {
       step = λ _. (
         record {
           keeps = record {
             push = refl;
-            used = record { unused = refl; page = refl; cont = λ no. absurd (cc) };
+            used = record { unused = refl; page = refl; cont = λ no. absurd (false≢true no) };
             space = refl;
             hand = (0, omega arith, refl);
             counts = refl;
             holds = holds11;
           };
-          due = λ no. absurd (cc);
-          back = λ no. absurd (cc);
+          due = λ no. absurd (false≢true no);
+          back = λ no. absurd (false≢true no);
         },
         refl,
       );
@@ -293,14 +294,14 @@ right11 = with-end prio_threads forking q11 f11 None lawful11 (goes-on q12 refl 
 lawful12 : IsLawful prio_threads forking q12 f12
 lawful12 = plain-lawful prio_threads forking q12 12 p0 (Free s0 p0 (Some t0)) refl
     (record { later = omega arith; proc = omega arith; steps = (tt, tt); reads = (refl, refl, refl, refl, refl, refl, refl); covered = one-share })
-    (record { demand_announced = record { step = λ _. record { free = λ no. absurd (cc) } }; step = λ _. record { unurged = λ _. inr refl } })
+    (record { demand_announced = record { step = λ _. record { free = λ no. absurd (false≢true no) } }; step = λ _. record { unurged = λ _. inr refl } })
     (record { turn = λ _. refl; closing = λ _. tt })
     (record {
       step = λ _. (
         record {
-          keeps = record { space = refl; list = refl; thread = refl; used = refl; cont = λ no. absurd (cc) };
-          due = λ no. absurd (cc);
-          back = λ no. absurd (cc);
+          keeps = record { space = refl; list = refl; thread = refl; used = refl; cont = λ no. absurd (false≢true no) };
+          due = λ no. absurd (false≢true no);
+          back = λ no. absurd (false≢true no);
         },
         refl,
       );
@@ -321,7 +322,7 @@ lawful13 = plain-lawful prio_threads forking q13 13 p0 (Ins s0 t0 2) refl
     })
     (record { demand_announced = record { step = λ _. record { free = λ _. inl refl } }; step = λ _. record { unurged = λ _. inr refl } })
     (record { turn = λ _. refl; closing = λ _. tt })
-    (record { step = λ _. (record { keeps = tt; due = λ no. absurd (cc); back = λ no. absurd (cc) }, tt) })
+    (record { step = λ _. (record { keeps = tt; due = λ no. absurd (false≢true no); back = λ no. absurd (false≢true no) }, tt) })
     (record { run = tt })
 
 right13 : HoldEach prio_threads forking rules q13 f13 None
@@ -348,8 +349,8 @@ lawful14 = plain-lawful prio_threads forking q14 14 p0 (Take s0 p0 None) refl
       step = λ _. (
         record {
           keeps = record { space = refl; unlocked = unlocked14; list = refl; locks = refl; cont = refl; thread = refl; target = (refl, refl) };
-          due = λ no. absurd (cc);
-          back = λ no. absurd (cc);
+          due = λ no. absurd (false≢true no);
+          back = λ no. absurd (false≢true no);
         },
         refl,
       );
@@ -382,14 +383,14 @@ breaks-OrderKept = break-behind prio_threads forking forking_run (at 15 (Run s0 
             reads = (refl, refl, refl, refl, refl, refl, refl);
             covered = one-share;
           })
-          (record { demand_announced = record { step = λ _. record { free = λ no. absurd (cc) } }; step = λ _. record { unurged = λ _. inr refl } })
+          (record { demand_announced = record { step = λ _. record { free = λ no. absurd (false≢true no) } }; step = λ _. record { unurged = λ _. inr refl } })
           (record { turn = λ _. refl; closing = λ _. tt })
           (record {
             step = λ _. (
               record {
-                keeps = record { pop = refl; used = record { unused = refl; page = refl; cont = λ no. absurd (cc) }; space = refl };
-                due = λ no. absurd (cc);
-                back = λ no. absurd (cc);
+                keeps = record { pop = refl; used = record { unused = refl; page = refl; cont = λ no. absurd (false≢true no) }; space = refl };
+                due = λ no. absurd (false≢true no);
+                back = λ no. absurd (false≢true no);
               },
               refl,
             );

@@ -1,5 +1,6 @@
 -- The run of the smallest workload is legal by the rules of the package with thread priorities.
 use Rattle.std.proofs.Common.{inl, inr, refl, arith, Some, None, List, [], ◌∷◌}
+use Rattle.std.proofs.lemmas.Bool.{false≢true}
 use Rattle.sa_base.specs.declared.record.Note.TheVariants.{Add}
 use Rattle.sa_base.specs.declared.record.Record.TheVariants.{Ins, Run, Take, Free, Up, Told, Move, Want, Aim, Line}
 use Rattle.sa_instr.specs.declared.instr.Instr.{Instr}
@@ -63,7 +64,7 @@ lawful0 g = record {
   where_owned = record { named = (tt, (tt, (tt, tt))); owned = refl };
   all_told = record { told = (tt, (tt, (tt, tt))) };
   upcall_given = record { blocks = (tt, (tt, (tt, tt))) };
-  interrupt_next = record { interrupt = λ no. absurd (cc); calm = λ no. absurd no };
+  interrupt_next = record { interrupt = λ no. absurd (false≢true no); calm = λ no. absurd no };
   line_cause = record { heard = (tt, (record { line = λ _. refl }, (refl, tt))); first = tt; order = refl; due = refl };
   want_cause = record { due = λ no. absurd (omega arith); none = no-wants (r1 g) refl };
   shares_covered = record { covered = one-share; due = refl };
@@ -104,8 +105,8 @@ lawful2 g = plain-lawful prio_threads (workload_of g) (r2 g) 2 p0 (Take s0 p0 No
       step = λ _. (
         record {
           keeps = record { space = refl; unlocked = unlocked2 g e2; list = refl; locks = refl; cont = refl; thread = refl; target = (refl, refl) };
-          due = λ no. absurd (cc);
-          back = λ no. absurd (cc);
+          due = λ no. absurd (false≢true no);
+          back = λ no. absurd (false≢true no);
         },
         refl,
       );
@@ -121,14 +122,14 @@ lawful3 g = plain-lawful prio_threads (workload_of g) (r3 g) 3 p0 (Run s0 t0) re
       reads = (refl, refl, refl, refl, refl, refl, refl);
       covered = one-share;
     })
-    (record { demand_announced = record { step = λ _. record { free = λ no. absurd (cc) } }; step = λ _. record { unurged = λ _. inr refl } })
+    (record { demand_announced = record { step = λ _. record { free = λ no. absurd (false≢true no) } }; step = λ _. record { unurged = λ _. inr refl } })
     (record { turn = λ _. refl; closing = λ _. tt })
     (record {
       step = λ _. (
         record {
-          keeps = record { pop = refl; used = record { unused = refl; page = refl; cont = λ no. absurd (cc) }; space = refl };
-          due = λ no. absurd (cc);
-          back = λ no. absurd (cc);
+          keeps = record { pop = refl; used = record { unused = refl; page = refl; cont = λ no. absurd (false≢true no) }; space = refl };
+          due = λ no. absurd (false≢true no);
+          back = λ no. absurd (false≢true no);
         },
         refl,
       );
@@ -138,14 +139,14 @@ lawful3 g = plain-lawful prio_threads (workload_of g) (r3 g) 3 p0 (Run s0 t0) re
 pub lawful4 : (g : List (List Instr)) → IsLawful prio_threads (workload_of g) (r4 g) e4
 lawful4 g = plain-lawful prio_threads (workload_of g) (r4 g) 4 p0 (Free s0 p0 (Some t0)) refl
     (record { later = omega arith; proc = omega arith; steps = (tt, tt); reads = (refl, refl, refl, refl, refl, refl, refl); covered = one-share })
-    (record { demand_announced = record { step = λ _. record { free = λ no. absurd (cc) } }; step = λ _. record { unurged = λ _. inr refl } })
+    (record { demand_announced = record { step = λ _. record { free = λ no. absurd (false≢true no) } }; step = λ _. record { unurged = λ _. inr refl } })
     (record { turn = λ _. refl; closing = λ _. tt })
     (record {
       step = λ _. (
         record {
-          keeps = record { space = refl; list = refl; thread = refl; used = refl; cont = λ no. absurd (cc) };
-          due = λ no. absurd (cc);
-          back = λ no. absurd (cc);
+          keeps = record { space = refl; list = refl; thread = refl; used = refl; cont = λ no. absurd (false≢true no) };
+          due = λ no. absurd (false≢true no);
+          back = λ no. absurd (false≢true no);
         },
         refl,
       );
@@ -161,12 +162,12 @@ lawful5 = record {
   where_owned = record { named = (tt, tt); owned = refl };
   all_told = record { told = (tt, tt) };
   upcall_given = record { blocks = (tt, tt) };
-  interrupt_next = record { interrupt = λ no. absurd (cc); calm = λ no. absurd no };
+  interrupt_next = record { interrupt = λ no. absurd (false≢true no); calm = λ no. absurd no };
   line_cause = record { heard = (tt, tt); first = tt; order = refl; due = refl };
   want_cause = record { due = λ _. refl; none = no-wants (next ((End ∷ []) ∷ []) (r5 ((End ∷ []) ∷ [])) e5) refl };
   shares_covered = record { covered = one-share; due = refl };
   demand_announced = record { demand_announced = record { step = λ _. record { free = λ _. inl refl } }; step = λ _. record { unurged = λ _. inr refl } };
   turns_taken = record { turn = λ _. refl; closing = λ _. tt };
-  locks_kept = record { step = λ _. (record { keeps = tt; due = λ no. absurd (cc); back = λ no. absurd (cc) }, tt) };
+  locks_kept = record { step = λ _. (record { keeps = tt; due = λ no. absurd (false≢true no); back = λ no. absurd (false≢true no) }, tt) };
   order_kept = record { run = tt };
 }

@@ -1,5 +1,6 @@
 -- The run of the smallest workload is legal.
 use Rattle.std.proofs.Common.{inl, refl, arith, Some, None, List, [], ◌∷◌}
+use Rattle.std.proofs.lemmas.Bool.{false≢true}
 use Rattle.sa_base.specs.declared.record.Note.TheVariants.{Add}
 use Rattle.sa_base.specs.declared.record.Record.TheVariants.{Ins, Run, Take, Free, Up, Told, Move, Want, Aim, Line}
 use Rattle.sa_instr.specs.declared.instr.Instr.{Instr}
@@ -61,7 +62,7 @@ lawful0 g = record {
   where_owned = record { named = (tt, (tt, (tt, tt))); owned = refl };
   all_told = record { told = (tt, (tt, (tt, tt))) };
   upcall_given = record { blocks = (tt, (tt, (tt, tt))) };
-  interrupt_next = record { interrupt = λ no. absurd (cc); calm = λ no. absurd no };
+  interrupt_next = record { interrupt = λ no. absurd (false≢true no); calm = λ no. absurd no };
   line_cause = record { heard = (tt, (record { line = λ _. refl }, (refl, tt))); first = tt; order = refl; due = refl };
   want_cause = record { due = λ no. absurd (omega arith); none = no-wants (r1 g) refl };
   shares_covered = record { covered = one-share; due = refl };
@@ -134,11 +135,11 @@ lawful3 g = plain-lawful fast_threads (workload_with g) (r3 g) 3 p0 (Run s0 t0) 
       reads = (refl, refl, refl, refl, refl, refl, refl);
       covered = one-share;
     })
-    (record { step = λ _. record { free = λ no. absurd (cc) } })
+    (record { step = λ _. record { free = λ no. absurd (false≢true no) } })
     (record { turn = λ _. refl; closing = λ _. tt })
     (record {
       step = λ _. (
-        record { keeps = record { pop = refl; used = record { unused = refl; page = refl; cont = λ no. absurd (cc) }; space = refl }; back = refl },
+        record { keeps = record { pop = refl; used = record { unused = refl; page = refl; cont = λ no. absurd (false≢true no) }; space = refl }; back = refl },
         refl,
       );
     })
@@ -147,10 +148,10 @@ lawful3 g = plain-lawful fast_threads (workload_with g) (r3 g) 3 p0 (Run s0 t0) 
 pub lawful4 : (g : List Instr) → IsLawful fast_threads (workload_with g) (r4 g) e4
 lawful4 g = plain-lawful fast_threads (workload_with g) (r4 g) 4 p0 (Free s0 p0 (Some t0)) refl
     (record { later = omega arith; proc = omega arith; steps = (tt, tt); reads = (refl, refl, refl, refl, refl, refl, refl); covered = one-share })
-    (record { step = λ _. record { free = λ no. absurd (cc) } })
+    (record { step = λ _. record { free = λ no. absurd (false≢true no) } })
     (record { turn = λ _. refl; closing = λ _. tt })
     (record {
-      step = λ _. (record { keeps = record { space = refl; list = refl; thread = refl; used = refl; cont = λ no. absurd (cc) }; back = refl }, refl);
+      step = λ _. (record { keeps = record { space = refl; list = refl; thread = refl; used = refl; cont = λ no. absurd (false≢true no) }; back = refl }, refl);
     })
     (record { run = tt })
 

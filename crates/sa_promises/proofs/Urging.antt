@@ -1,5 +1,6 @@
 -- A run in which a thread forks one that outranks it; and what breaks the package's own rules first.
 use Rattle.std.proofs.Common.{◌≡◌, inl, inr, refl, ap, arith, Some, None, List, [], ◌∷◌}
+use Rattle.std.proofs.lemmas.Bool.{false≢true, true≢false}
 use Rattle.std.proofs.lemmas.Option.{same_Some}
 use Rattle.sa_base.specs.declared.number.ThreadNo.{ThreadNo}
 use Rattle.sa_base.specs.declared.record.Record.TheVariants.{Ins, Run, Ready, Back, Take, Free, Line}
@@ -99,7 +100,7 @@ lawful5 = plain-lawful prio_threads urging q5 5 p0 (Ins s0 t0 0) refl
     })
     (record { demand_announced = record { step = λ _. record { free = λ _. inl refl } }; step = λ _. record { unurged = λ _. inr refl } })
     (record { turn = λ _. refl; closing = λ _. tt })
-    (record { step = λ _. (record { keeps = tt; due = λ no. absurd (cc); back = λ no. absurd (cc) }, tt) })
+    (record { step = λ _. (record { keeps = tt; due = λ no. absurd (false≢true no); back = λ no. absurd (false≢true no) }, tt) })
     (record { run = tt })
 
 right5 : HoldEach prio_threads urging rules q5 f5 None
@@ -112,14 +113,14 @@ unlocked6 locked = none-locked (event_begun (workload_of g) f6 q6) _ (only-put _
 lawful6 : IsLawful prio_threads urging q6 f6
 lawful6 = plain-lawful prio_threads urging q6 6 p0 (Take s0 p0 (Some t0)) refl
     (record { later = omega arith; proc = omega arith; steps = (tt, tt); reads = (refl, refl, refl, refl, refl, refl, refl); covered = one-share })
-    (record { demand_announced = record { step = λ _. record { free = λ no. absurd (cc) } }; step = λ _. record { unurged = λ no. absurd (cc) } })
+    (record { demand_announced = record { step = λ _. record { free = λ no. absurd (false≢true no) } }; step = λ _. record { unurged = λ no. absurd (false≢true no) } })
     (record { turn = λ _. refl; closing = λ _. tt })
     (record {
       step = λ _. (
         record {
           keeps = record { space = refl; unlocked = unlocked6; list = refl; locks = refl; cont = refl; thread = refl; target = tt };
-          due = λ no. absurd (cc);
-          back = λ no. absurd (cc);
+          due = λ no. absurd (false≢true no);
+          back = λ no. absurd (false≢true no);
         },
         refl,
       );
@@ -142,21 +143,21 @@ lawful7 = plain-lawful prio_threads urging q7 7 p0 (Ready s0 t1) refl
       reads = (refl, refl, refl, refl, refl, refl, refl);
       covered = one-share;
     })
-    (record { demand_announced = record { step = λ _. record { free = λ no. absurd (cc) } }; step = λ _. record { unurged = λ no. absurd (cc) } })
+    (record { demand_announced = record { step = λ _. record { free = λ no. absurd (false≢true no) } }; step = λ _. record { unurged = λ no. absurd (false≢true no) } })
     (record { turn = λ _. refl; closing = λ _. tt })
     (record {
       step = λ _. (
         record {
           keeps = record {
             push = refl;
-            used = record { unused = refl; page = refl; cont = λ no. absurd (cc) };
+            used = record { unused = refl; page = refl; cont = λ no. absurd (false≢true no) };
             space = refl;
             hand = (0, omega arith, refl);
             counts = refl;
             holds = holds7;
           };
-          due = λ no. absurd (cc);
-          back = λ no. absurd (cc);
+          due = λ no. absurd (false≢true no);
+          back = λ no. absurd (false≢true no);
         },
         refl,
       );
@@ -169,14 +170,14 @@ right7 = with-end prio_threads urging q7 f7 None lawful7 (goes-on q8 refl refl)
 lawful8 : IsLawful prio_threads urging q8 f8
 lawful8 = plain-lawful prio_threads urging q8 8 p0 (Free s0 p0 (Some t0)) refl
     (record { later = omega arith; proc = omega arith; steps = (tt, tt); reads = (refl, refl, refl, refl, refl, refl, refl); covered = one-share })
-    (record { demand_announced = record { step = λ _. record { free = λ no. absurd (cc) } }; step = λ _. record { unurged = λ no. absurd (cc) } })
+    (record { demand_announced = record { step = λ _. record { free = λ no. absurd (false≢true no) } }; step = λ _. record { unurged = λ no. absurd (false≢true no) } })
     (record { turn = λ _. refl; closing = λ _. tt })
     (record {
       step = λ _. (
         record {
-          keeps = record { space = refl; list = refl; thread = refl; used = refl; cont = λ no. absurd (cc) };
-          due = λ no. absurd (cc);
-          back = λ no. absurd (cc);
+          keeps = record { space = refl; list = refl; thread = refl; used = refl; cont = λ no. absurd (false≢true no) };
+          due = λ no. absurd (false≢true no);
+          back = λ no. absurd (false≢true no);
         },
         refl,
       );
@@ -189,7 +190,7 @@ right8 = with-end prio_threads urging q8 f8 None lawful8 (goes-on q9 refl refl)
 lawful9 : IsLawful prio_threads urging q9 f9
 lawful9 = plain-lawful prio_threads urging q9 9 p0 (Back s0 (Some t0)) refl
     (record { later = omega arith; proc = omega arith; steps = ((refl, refl), tt); reads = (refl, refl, refl, refl, refl, refl, refl); covered = one-share })
-    (record { demand_announced = record { step = λ _. record { free = λ no. absurd (cc) } }; step = λ _. record { unurged = λ no. absurd (cc) } })
+    (record { demand_announced = record { step = λ _. record { free = λ no. absurd (false≢true no) } }; step = λ _. record { unurged = λ no. absurd (false≢true no) } })
     (record {
       turn = λ _. (
         refl,
@@ -197,7 +198,7 @@ lawful9 = plain-lawful prio_threads urging q9 9 p0 (Back s0 (Some t0)) refl
       );
       closing = λ _. tt;
     })
-    (record { step = λ _. (record { keeps = refl; due = λ no. absurd (cc); back = λ is no. absurd (cc) }, refl) })
+    (record { step = λ _. (record { keeps = refl; due = λ no. absurd (false≢true no); back = λ is no. absurd (cc) }, refl) })
     (record { run = tt })
 
 right9 : HoldEach prio_threads urging rules q9 f9 None
@@ -211,14 +212,14 @@ unlocked10 locked = none-locked (event_begun (workload_of g) f10 q10) _ (only-pu
 lawful10 : IsLawful prio_threads urging q10 f10
 lawful10 = plain-lawful prio_threads urging q10 10 p0 (Take s0 p0 None) refl
     (record { later = omega arith; proc = omega arith; steps = (tt, tt); reads = (refl, refl, refl, refl, refl, refl, refl); covered = one-share })
-    (record { demand_announced = record { step = λ _. record { free = λ no. absurd (cc) } }; step = λ _. record { unurged = λ no. absurd (cc) } })
+    (record { demand_announced = record { step = λ _. record { free = λ no. absurd (false≢true no) } }; step = λ _. record { unurged = λ no. absurd (false≢true no) } })
     (record { turn = λ _. refl; closing = λ _. tt })
     (record {
       step = λ _. (
         record {
           keeps = record { space = refl; unlocked = unlocked10; list = refl; locks = refl; cont = refl; thread = refl; target = tt };
-          due = λ no. absurd (cc);
-          back = λ no. absurd (cc);
+          due = λ no. absurd (false≢true no);
+          back = λ no. absurd (false≢true no);
         },
         refl,
       );
@@ -242,21 +243,21 @@ lawful11 = plain-lawful prio_threads urging q11 11 p0 (Ready s0 t0) refl
       reads = (refl, refl, refl, refl, refl, refl, refl);
       covered = one-share;
     })
-    (record { demand_announced = record { step = λ _. record { free = λ no. absurd (cc) } }; step = λ _. record { unurged = λ no. absurd (cc) } })
+    (record { demand_announced = record { step = λ _. record { free = λ no. absurd (false≢true no) } }; step = λ _. record { unurged = λ no. absurd (false≢true no) } })
     (record { turn = λ _. refl; closing = λ _. tt })
     (record {
       step = λ _. (
         record {
           keeps = record {
             push = refl;
-            used = record { unused = refl; page = refl; cont = λ no. absurd (cc) };
+            used = record { unused = refl; page = refl; cont = λ no. absurd (false≢true no) };
             space = refl;
             hand = (0, omega arith, refl);
             counts = refl;
             holds = holds11;
           };
-          due = λ no. absurd (cc);
-          back = λ no. absurd (cc);
+          due = λ no. absurd (false≢true no);
+          back = λ no. absurd (false≢true no);
         },
         refl,
       );
@@ -269,14 +270,14 @@ right11 = with-end prio_threads urging q11 f11 None lawful11 (goes-on q12 refl r
 lawful12 : IsLawful prio_threads urging q12 f12
 lawful12 = plain-lawful prio_threads urging q12 12 p0 (Free s0 p0 None) refl
     (record { later = omega arith; proc = omega arith; steps = (tt, tt); reads = (refl, refl, refl, refl, refl, refl, refl); covered = one-share })
-    (record { demand_announced = record { step = λ _. record { free = λ no. absurd (cc) } }; step = λ _. record { unurged = λ no. absurd (cc) } })
+    (record { demand_announced = record { step = λ _. record { free = λ no. absurd (false≢true no) } }; step = λ _. record { unurged = λ no. absurd (false≢true no) } })
     (record { turn = λ _. refl; closing = λ _. tt })
     (record {
       step = λ _. (
         record {
-          keeps = record { space = refl; list = refl; thread = refl; used = refl; cont = λ no. absurd (cc) };
-          due = λ no. absurd (cc);
-          back = λ no. absurd (cc);
+          keeps = record { space = refl; list = refl; thread = refl; used = refl; cont = λ no. absurd (false≢true no) };
+          due = λ no. absurd (false≢true no);
+          back = λ no. absurd (false≢true no);
         },
         refl,
       );
@@ -301,8 +302,8 @@ lawful13 = plain-lawful prio_threads urging q13 13 p0 (Take s0 p0 None) refl
       step = λ _. (
         record {
           keeps = record { space = refl; unlocked = unlocked13; list = refl; locks = refl; cont = refl; thread = refl; target = (refl, refl) };
-          due = λ no. absurd (cc);
-          back = λ no. absurd (cc);
+          due = λ no. absurd (false≢true no);
+          back = λ no. absurd (false≢true no);
         },
         refl,
       );
@@ -334,7 +335,7 @@ breaks-own_line = break-behind prio_threads smallest (e0 ∷ e1 ∷ e2 ∷ e3 �
               record { prompt = prompt-calm (next one (r5 one) (at 5 (Line p0 ∷ []))) refl },
               (
                 record { named = (tt, tt); owned = refl },
-                (record { told = (tt, tt) }, (record { blocks = (tt, tt) }, (record { interrupt = λ no. absurd (cc); calm = λ no. absurd no }, tt))),
+                (record { told = (tt, tt) }, (record { blocks = (tt, tt) }, (record { interrupt = λ no. absurd (false≢true no); calm = λ no. absurd no }, tt))),
               ),
             ),
           ),
@@ -354,7 +355,7 @@ breaks-back = break-behind prio_threads smallest (e0 ∷ e1 ∷ e2 ∷ e3 ∷ e4
             reads = (refl, refl, refl, refl, refl, refl, refl);
             covered = one-share;
           })
-          (record { demand_announced = record { step = λ _. record { free = λ no. absurd (cc) } }; step = λ _. record { unurged = λ no. absurd (cc) } });
+          (record { demand_announced = record { step = λ _. record { free = λ no. absurd (false≢true no) } }; step = λ _. record { unurged = λ no. absurd (false≢true no) } });
       broken = λ h. let none = (h.turn (omega arith)).1.pair.pair in cc;
     })
 
@@ -370,7 +371,7 @@ breaks-urge = break-behind prio_threads urging (e0 ∷ e1 ∷ e2 ∷ e3 ∷ e4 �
             reads = (refl, refl, refl, refl, refl, refl, refl);
             covered = one-share;
           });
-      broken = λ h. elim ((h.step (omega arith)).unurged refl) [ inl out ↦ cc | inr none ↦ cc ];
+      broken = λ h. elim ((h.step (omega arith)).unurged refl) [ inl out ↦ true≢false out | inr none ↦ true≢false none ];
     })
 
 pub breaks-rank : FirstBreak prio_threads urging lesser_taken (stops_at 14) 14 OrderKept
@@ -385,14 +386,14 @@ breaks-rank = break-behind prio_threads urging (e0 ∷ e1 ∷ e2 ∷ e3 ∷ e4 �
             reads = (refl, refl, refl, refl, refl, refl, refl);
             covered = one-share;
           })
-          (record { demand_announced = record { step = λ _. record { free = λ no. absurd (cc) } }; step = λ _. record { unurged = λ no. absurd (cc) } })
+          (record { demand_announced = record { step = λ _. record { free = λ no. absurd (false≢true no) } }; step = λ _. record { unurged = λ no. absurd (false≢true no) } })
           (record { turn = λ _. refl; closing = λ _. tt })
           (record {
             step = λ _. (
               record {
-                keeps = record { pop = refl; used = record { unused = refl; page = refl; cont = λ no. absurd (cc) }; space = refl };
-                due = λ no. absurd (cc);
-                back = λ no. absurd (cc);
+                keeps = record { pop = refl; used = record { unused = refl; page = refl; cont = λ no. absurd (false≢true no) }; space = refl };
+                due = λ no. absurd (false≢true no);
+                back = λ no. absurd (false≢true no);
               },
               refl,
             );
