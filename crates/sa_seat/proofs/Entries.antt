@@ -1,14 +1,12 @@
 -- What an entry is to those who do not see the lock.
-use Rattle.std.proofs.Common.{◌≡◌, ℕ, zero, suc, ◌<◌, ◌≤◌, refl, sym, subst, arith}
+use Rattle.std.proofs.Common.{◌≡◌, ℕ, zero, suc, ◌<◌, refl, sym, subst, arith}
 use Rattle.sa_spaces.specs.Workload.{WorkloadView}
 use Rattle.sa_abstract.specs.Calls.{Calls}
 use Rattle.sa_core_model.specs.Machine.{Machine}
-use Rattle.sa_core_model.specs.End.{local_on}
 use Rattle.sa_seat.specs.declared.answer.Entered.{Entered}
-use Rattle.sa_seat.specs.declared.answer.Entered.TheVariants.{Turned, DroppedLine, DroppedStart, Ended}
 use Rattle.sa_seat.specs.Chain.{IsLed}
 use Rattle.sa_seat.specs.Seat.{SeatView}
-use Rattle.sa_seat.specs.Enter.{IsTurned, IsCommitted, IsEvents, IsAnswer, IsEntered, IsOneTurn, FitsAnswer, HasEntered}
+use Rattle.sa_seat.specs.Enter.{IsTurned, IsCommitted, IsEvents, IsEntered, IsOneTurn}
 
 module _ {U C : Type 0} (f : Calls U C) (budget : ℕ) (m : Machine U C) (s : SeatView) where
   pub events-none : (n : ℕ) (after : Machine U C) → s.pending ≡ 0 → IsTurned f budget m s n after → IsEvents f budget m s s.pending n after
@@ -20,24 +18,6 @@ module _ {U C : Type 0} (f : Calls U C) (budget : ℕ) (m : Machine U C) (s : Se
       go : (k : ℕ) → k ≡ s.pending → IsEvents f budget m s k n after
       go zero e = absurd (omega (arith, e, some))
       go (suc k) e = is
-
-  events-fit : (k n : ℕ) (after : Machine U C) → k ≡ s.pending → IsEvents f budget m s k n after
-      → (1 ≤ n) × (s.pending ≡ 0 → n ≡ 1) × (0 < s.pending → n ≤ s.pending)
-  events-fit zero n after e is = (let z = is.one in omega (arith, z), (λ none. is.one), λ some. absurd (omega (arith, e, some)))
-  events-fit (suc k) n after e is = (is.some, (λ none. absurd (omega (arith, e, none))), λ some. is.few)
-
-  answer-fits : (answer : Entered) (after : Machine U C) → IsAnswer f budget m s answer after → FitsAnswer s answer
-  answer-fits (Turned n) after is = events-fit s.pending n after refl is
-  answer-fits (DroppedLine e) after is = is.0.pending
-  answer-fits (DroppedStart c start) after is = (is.0.pending, is.3, is.4)
-  answer-fits (Ended x) after is = tt
-
-  pub has-entered : (answer : Entered) (after : Machine U C) (seat : SeatView) → IsEntered f budget m s answer after seat → HasEntered s answer seat
-  has-entered answer after seat is = record {
-    fits = answer-fits answer after is.answers;
-    context = local_on f after s.poller.proc;
-    seat_is = is.seat_is;
-  }
 
   -- the answer of one turn, where moves led to the machine
   pub one_turn : (w : WorkloadView) (answer : Entered) (after : Machine U C) (seat : SeatView) → IsLed f budget w m → IsEntered f budget m s answer after seat

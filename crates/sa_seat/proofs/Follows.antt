@@ -10,7 +10,7 @@ use Rattle.sa_lines.specs.Words.{lane_at}
 use Rattle.sa_lines.specs.Steps.{raised, lowered}
 use Rattle.sa_lines.specs.Seen.{KeeperSeen, line_value}
 use Rattle.sa_lines.proofs.Steps.{lane_here, lane_else, length_changed}
-use Rattle.sa_seat.specs.Follow.{set_at, IsStored, AreStored, IsFollowed, HasFollowed}
+use Rattle.sa_seat.specs.Follow.{set_at, IsStored, AreStored, IsFollowed}
 
 abbrev pub set_lane : Option ℕ → Lane → Lane
 set_lane None lane = lowered lane
@@ -48,15 +48,6 @@ module _ {C : Type 0} (k : KernelState C) where
     pub places : length lines ≡ length before
     pub done : (p : ℕ) → p < i → (line_at lines p ≡ line_of k (proc_no p)) × IsFollowed (line_of k (proc_no p)) (lane_at old.lanes p) (lane_at new.lanes p)
     pub left : (p : ℕ) → i ≤ p → (lane_at new.lanes p ≡ lane_at old.lanes p) × (line_at lines p ≡ line_at before p)
-
-  pub follow-begins : (keeper : KeeperSeen) (lines : List (Option ℕ)) → Following 0 keeper keeper lines lines
-  follow-begins keeper lines = record {
-    table_is = refl;
-    size = refl;
-    places = refl;
-    done = λ p lt. absurd (omega (arith, lt));
-    left = λ p le. (refl, refl);
-  }
 
   -- a line that is as it was stored
   follow-same : (i : ℕ) (old new : KeeperSeen) (before lines after : List (Option ℕ)) (line : Option ℕ) → Following i old new before lines
@@ -128,11 +119,3 @@ module _ {C : Type 0} (k : KernelState C) where
         (follow-same i old new before lines after line f stored within inside is same.0 put)
     | inr made ↦ follow-store i old new next before lines after line f within inside is made put
   ]
-
-  pub follow-ends : (n : ℕ) (old new : KeeperSeen) (before lines : List (Option ℕ)) → Following n old new before lines → HasFollowed k n old new lines
-  follow-ends n old new before lines f = record {
-    table_is = f.table_is;
-    size = f.size;
-    lines_are = λ p lt. (f.done p lt).0;
-    followed = λ p lt. (f.done p lt).1;
-  }

@@ -29,7 +29,7 @@ use Rattle.sa_lines.specs.Words.{lane_at, fresh_lane, changed}
 use Rattle.sa_lines.specs.Seen.{KeeperSeen, line_value, credited_lane, credited_at, fresh_keeper}
 use Rattle.sa_lines.proofs.Steps.{lane_here, lane_else, length_changed}
 use Rattle.sa_seat.specs.Chain.{IsChain, turns_in, turns_of, line_item}
-use Rattle.sa_seat.specs.Lock.{IsLane, AreLanes, IsLocked}
+use Rattle.sa_seat.specs.Lock.{IsLane, IsLocked}
 use Rattle.sa_seat.specs.Follow.{AreEvents, MayFollow, HasFollowed}
 use Rattle.sa_core.proofs.CoreLemmas.{goes-on}
 use Rattle.sa_seat.specs.Seat.{CanMove}
@@ -266,19 +266,3 @@ module _ {U C : Type 0} (f : Calls U C) (stands : Standing U C) (keep : Keeps f 
       let r = reached f stands keep w budget (machine core) locked.moves locked.workload locked.chain in
       let m = moves-by f stands keep (machine core) (machine new) (commit p k) r.between (c.can, made) in
       (record { made = (c.can, made); within = (let a = m.event in let b = c.within in omega (arith, a, b)) }, c.few, same)
-
-  -- the machine as it was
-
-  pub locked-same : (w : WorkloadView) (table : TableId) (budget : ℕ) (core new : CoreView U C) (lines : List (Option ℕ)) (keeper : KeeperSeen)
-      → IsLocked f budget w table core lines keeper
-      → machine new ≡ machine core → new.budget ≡ core.budget → IsLocked f budget w table new lines keeper
-  locked-same w table budget core new lines keeper locked same budgets = record {
-    workload = locked.workload;
-    few = locked.few;
-    budget_is = budgets ∙ locked.budget_is;
-    table_is = locked.table_is;
-    within = subst (λ (z : Machine U C). z.event ≤ budget) (sym same) locked.within;
-    moves = locked.moves;
-    chain = subst (λ (z : Machine U C). IsChain f budget w locked.moves z) (sym same) locked.chain;
-    kept = subst (λ (z : Machine U C). AreLanes f budget w locked.moves z lines keeper.lanes) (sym same) locked.kept;
-  }

@@ -1,4 +1,4 @@
-use Rattle.std.proofs.Common.{◌≡◌, ◌<◌, sym, ◌∙◌, refl, arith}
+use Rattle.std.proofs.Common.{◌≡◌, ◌<◌, sym, ap, ◌∙◌, refl, arith, rules}
 use Rattle.sa_core.specs.View.{machine}
 use Rattle.sa_seat.proofs.Entries.{events-none, events-some}
 use Rattle.sa_seat.proofs.held.Held.turn.Goals as goal
@@ -25,3 +25,30 @@ returns-clause-ok g c =
           c.in_ok-made.ensures.made;
       seat_is = c.in_ok-made.ensures.seat;
     }
+
+pub returns-then-ne-clause-ok : goal.returns-then-ne-clause-ok
+returns-then-ne-clause-ok g c = record {
+  answers = (
+    record { not_ended = search rules; pending = search rules; same = refl },
+    search rules,
+    c.context-context.ensures.context,
+    c.start-start.ensures,
+    search rules,
+  );
+  seat_is = c.renew-then-ne.ensures;
+}
+
+pub returns-in-Some-clause-ok : goal.returns-in-Some-clause-ok
+returns-in-Some-clause-ok g c = record {
+  answers = (sym c.end.ensures ∙ c.in-Some.is, ap machine c.tell_end.ensures.same);
+  seat_is = c.tell_end.ensures.seat;
+}
+
+pub tell_end-requires-clause-end : goal.tell_end-requires-clause-end
+tell_end-requires-clause-end g c κs within = search rules
+
+pub commit-requires-clause-low : goal.commit-requires-clause-low
+commit-requires-clause-low g c κs within = search rules
+
+pub commit-requires-clause-start : goal.commit-requires-clause-start
+commit-requires-clause-start g c κs within = search rules
