@@ -1,5 +1,7 @@
 -- What is appended piece by piece is appended as a whole.
-use Rattle.std.proofs.Common.{◌≡◌, ℕ, List, ◌++◌, Result, Ok, Err, OnOk, sym, ap, ◌∙◌, subst, append_assoc}
+use Rattle.std.proofs.Common.{◌≡◌, ℕ, zero, suc, ◌+◌, ◌<◌, ◌≤◌, List, [], ◌∷◌, ◌++◌, length, take, get_or, Result, Ok, Err, OnOk, sym, ap, ◌∙◌, subst, append_assoc, arith}
+use Rattle.std.specs.List.{flat_map, range_with_len}
+use Rattle.std.proofs.lemmas.List.{append-nil, take_all}
 use Rattle.std.specs.Prelude.{codes, is_ok, if◌then◌else◌}
 use Rattle.std.specs.declared.alloc.AllocError.{AllocError}
 use Rattle.sa_shapes.specs.declared.look.Look.{Look}
@@ -51,3 +53,27 @@ pub look-as : {T : Type 0} (result : Result T AllocError) (old new text : List �
     → OnOk result (new ≡ old ++ text) → OnOk result (new ≡ old ++ look_title look)
 look-as result old new text look one is same done =
     subst (λ (t : List ℕ). OnOk result (new ≡ old ++ t)) (same ∙ ap look_title (sym is)) done
+
+-- what is appended of one element after another, and one element more
+pub list-more : {A : Type 0} (f : A → List ℕ) (xs : List A) (i : ℕ) (d : A) (old now later : List ℕ) → i < length xs → now ≡ old ++ flat_map f (take i xs)
+    → later ≡ now ++ f (get_or xs i d) → later ≡ old ++ flat_map f (take (i + 1) xs)
+list-more f xs i d old now later within before goes =
+    let next : i + 1 ≡ suc i = omega arith in
+    and-then old (flat_map f (take i xs)) (f (get_or xs i d)) now later before goes
+    ∙ ap (λ (zs : List ℕ). old ++ zs) (sym (step xs i within)) ∙ ap (λ (k : ℕ). old ++ flat_map f (take k xs)) (sym next)
+  where
+    step : (ys : List _) (j : ℕ) → j < length ys → flat_map f (take (suc j) ys) ≡ flat_map f (take j ys) ++ f (get_or ys j d)
+    step [] j less = absurd (omega arith)
+    step (y ∷ ys) zero less = append-nil (f y)
+    step (y ∷ ys) (suc j) less =
+        ap (λ (zs : List ℕ). f y ++ zs) (step ys j (omega arith)) ∙ sym (append_assoc (f y) (flat_map f (take j ys)) (f (get_or ys j d)))
+
+-- and of all of them
+pub list-all : {A : Type 0} (f : A → List ℕ) (xs : List A) (i : ℕ) (old now : List ℕ) → length xs ≤ i → now ≡ old ++ flat_map f (take i xs)
+    → now ≡ old ++ flat_map f xs
+list-all f xs i old now all is = is ∙ ap (λ (ys : List _). old ++ flat_map f ys) (take_all i xs all)
+
+-- and of all numbers below one
+pub range-all : {A : Type 0} (f : ℕ → List A) (n i : ℕ) (old now : List A) → i ≡ n → now ≡ old ++ flat_map f (range_with_len 0 i)
+    → now ≡ old ++ flat_map f (range_with_len 0 n)
+range-all f n i old now all is = is ∙ ap (λ (k : ℕ). old ++ flat_map f (range_with_len 0 k)) all
