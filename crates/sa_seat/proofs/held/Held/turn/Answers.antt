@@ -8,12 +8,12 @@ returns-then-pending-eq0-clause-ok g c =
     let s = c.args.seat.now in
     let none : s.pending ≡ 0 = (let a = c.if-pending-eq0.true in let d = c.pending.ensures.pending in omega (arith, a, d)) in
     record {
-      answers = events-none g.U.UserLevel.calls g.K.Named.budget (machine c.args.self.now.core) s 1 (machine c.turn_once.new.self.core) none (record {
+      answers = events-none g.U.UserLevel.calls g.K.Named.budget (machine c.args.self.now.core) s 1 _ none (record {
         not_ended = sym c.end.ensures ∙ c.in_default.is;
         one = refl;
-        turn = c.in_ok-turn_once.ensures.turn;
+        turn = search rules;
       });
-      seat_is = c.in_ok-turn_once.ensures.seat;
+      seat_is = search rules;
     }
 
 pub returns-clause-ok : goal.returns-clause-ok
