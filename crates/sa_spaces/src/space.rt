@@ -60,18 +60,7 @@ impl SpaceDef {
           patience = 1;
         } in SomeIff result (IsSpace space) space }
     {
-        let declared = Declared {
-            mutexes,
-            sems: sems.len(),
-            cells,
-            programs: programs.len(),
-        };
-        if priority > MAX_PRIORITY
-            || !declared.is_in_range()
-            || !are_starts(&sems)
-            || !are_absent_pages(&absent)
-            || !name_only(&programs, &declared)
-        {
+        if !is_space(priority, mutexes, &sems, cells, &absent, &programs) {
             return None;
         }
         Some(SpaceDef {
@@ -181,6 +170,38 @@ impl SpaceDef {
     {
         let _space = &self.priority;
     }
+}
+
+// Whether a space of patience 1 may have these.
+fn is_space(
+    priority: u8,
+    mutexes: u16,
+    sems: &[u32],
+    cells: u16,
+    absent: &[u16],
+    programs: &[Program],
+) -> bool
+    ensures { IsTrue result ↔ IsSpace (record {
+      priority = priority;
+      mutexes = mutexes;
+      sems = sems.now;
+      cells = cells;
+      absent = absent.now;
+      programs = programs.now;
+      patience = 1;
+    }) }
+{
+    let declared = Declared {
+        mutexes,
+        sems: sems.len(),
+        cells,
+        programs: programs.len(),
+    };
+    priority <= MAX_PRIORITY
+        && declared.is_in_range()
+        && are_starts(sems)
+        && are_absent_pages(absent)
+        && name_only(programs, &declared)
 }
 
 // Whether each semaphore's start is in its range, and there are few enough.

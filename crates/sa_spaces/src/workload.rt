@@ -2,6 +2,7 @@
 ghost use Rattle.std.specs.Prelude.{◌≡◌, ◌≤◌, ◌<◌, ◌↔◌, IsTrue, SomeIff, IfOk, All, length};
 ghost use Rattle.std.specs.List.{AllAdjacentBelow};
 ghost use Rattle.sa_spaces.specs.Space.{IsSpace};
+ghost use Rattle.sa_spaces.specs.Workload.{IsWorkload};
 
 use crate::space::SpaceDef;
 use sa_base::{MAX_EVENTS, MAX_PROCESSORS, MAX_SPACES, ProcNo, SpaceNo};
@@ -118,13 +119,9 @@ impl Workload {
           slice = 0;
         } in SomeIff result (IsWorkload workload) workload }
     {
-        if !is_machine(processors, fetch, spaces.len())
-            || !Evict::are_in_order(&evictions, spaces.len())
-            || !are_turns(&turns, processors)
-        {
+        if !is_workload(processors, fetch, &spaces, &evictions, &turns) {
             return None;
         }
-        show_ranges(&spaces);
         Some(Workload {
             processors,
             fetch,
@@ -155,9 +152,9 @@ impl Workload {
         Ok(Workload {
             processors: self.processors,
             fetch: self.fetch,
-            spaces: copy_spaces(alloc, self.spaces.as_slice())?,
             evictions: Vec::from_slice(alloc, self.evictions.as_slice())?,
             turns: Vec::from_slice(alloc, self.turns.as_slice())?,
+            spaces: copy_spaces(alloc, self.spaces.as_slice())?,
             slice: self.slice,
         })
     }
@@ -223,6 +220,29 @@ impl Workload {
     {
         let _workload = &self.processors;
     }
+}
+
+// Whether a workload of slice 0 may have these.
+fn is_workload(
+    processors: u16,
+    fetch: u32,
+    spaces: &[SpaceDef],
+    evictions: &[Evict],
+    turns: &[ProcNo],
+) -> bool
+    ensures { IsTrue result ↔ IsWorkload (record {
+      processors = processors;
+      fetch = fetch;
+      spaces = spaces.now;
+      evictions = evictions.now;
+      turns = turns.now;
+      slice = 0;
+    }) }
+{
+    show_ranges(spaces);
+    is_machine(processors, fetch, spaces.len())
+        && Evict::are_in_order(evictions, spaces.len())
+        && are_turns(turns, processors)
 }
 
 // Whether a machine may have that many processors and spaces, and take that long for a fetch.
