@@ -22,7 +22,7 @@ impl Default for Note {
 
 /// What happened, without its event. The 23 kinds are in the order of the trace text's counts.
 /// A thread that may be absent is the one that the context carries.
-#[derive(Clone, Copy, PartialEq, Eq)]
+#[derive(Clone, Copy)]
 pub enum Record {
     /// The thread ran the instruction at this place.
     Ins(SpaceNo, ThreadNo, u16),

@@ -1,5 +1,6 @@
 // What comes after a stop or a block: where the processor goes on.
-ghost use Rattle.std.specs.Prelude.{◌≡◌, ◌↔◌, IsTrue};
+ghost use Rattle.std.specs.Prelude.{◌≡◌, ◌∷◌, ◌↔◌, None, IsTrue};
+ghost use Rattle.sa_base.specs.declared.record.Record.TheVariants.{Aim};
 ghost use Rattle.sa_laws.specs.Readings.{Readings};
 ghost use Rattle.sa_laws.specs.Shape.{BeginsWithUp, leave_run};
 ghost use Rattle.sa_laws.specs.Upcalls.{BeginsAsInterrupt, BeginsWithLine, UpOrLeave, GoesToAim, StopsAndGoes, fetch_records, leave_records};
@@ -55,15 +56,22 @@ pub fn is_leave(
 ) -> bool
     ensures { IsTrue result ↔ (leave_run records.now ≡ leave_records p owner s fetching) }
 {
-    let Some((first, others)) = parted(leave_run(records)) else {
-        return false;
-    };
-    let Some((second, fetch)) = parted(others) else {
-        return false;
-    };
-    first == Record::Move(owner, None)
-        && second == Record::Aim(p, None)
-        && is_fetch_unless(s, fetching, fetch)
+    match parted(leave_run(records)) {
+        Some((Record::Move(old, None), others)) => {
+            old == owner && is_aim_and_fetch(p, s, fetching, others)
+        }
+        _ => false,
+    }
+}
+
+// The aim of the processor at none, and after it the fetch that is due.
+fn is_aim_and_fetch(p: ProcNo, s: SpaceNo, fetching: bool, records: &[Record]) -> bool
+    ensures { IsTrue result ↔ (records.now ≡ Aim p None ∷ fetch_records s fetching) }
+{
+    match parted(records) {
+        Some((Record::Aim(q, None), fetch)) => q == p && is_fetch_unless(s, fetching, fetch),
+        _ => false,
+    }
 }
 
 // A fetch for the space, or nothing where it is being fetched.

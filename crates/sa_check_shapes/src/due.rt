@@ -4,7 +4,6 @@ ghost use Rattle.std.specs.Option.{option_to_list};
 ghost use Rattle.sa_laws.specs.Shape.{wants_in, lines_in, aims_in, told_run};
 ghost use Rattle.sa_check_shapes.specs.Due.{changes_of};
 
-use crate::kinds::{is_line, is_want};
 use crate::parts::parted;
 use sa_base::{Note, ProcNo, Record, SpaceNo};
 
@@ -21,9 +20,9 @@ pub fn are_wants(records: &[Record], due: &[Record]) -> bool
 {
     let mut left = due;
     for what in records {
-        if is_want(*what) {
+        if let Record::Want(s, n) = *what {
             match parted(left) {
-                Some((next, rest)) if next == *what => left = rest,
+                Some((Record::Want(of, m), rest)) if of == s && m == n => left = rest,
                 _ => return false,
             }
         }
@@ -37,9 +36,9 @@ pub fn are_lines(records: &[Record], due: &[Record]) -> bool
 {
     let mut left = due;
     for what in records {
-        if is_line(*what) {
+        if let Record::Line(p) = *what {
             match parted(left) {
-                Some((next, rest)) if next == *what => left = rest,
+                Some((Record::Line(of), rest)) if of == p => left = rest,
                 _ => return false,
             }
         }
