@@ -1,8 +1,8 @@
 // An instruction as its operation and its operands, and back.
 ghost use Rattle.std.specs.Prelude.{◌≡◌, ◌↔◌, ◌≤◌, [], ◌∷◌, length, slice_get, IsSome, IfSome};
-ghost use Rattle.sa_instr.specs.Parts.{parts, parts_of, instr_from, instr_of, FitTheOperation, read_at, register_in, value_in, place_in, cell_in, program_in, mutex_in, semaphore_in, length_in, page_in};
+ghost use Rattle.sa_instr.specs.Parts.{parts, parts_of, instr_from, instr_of, FitTheOperation};
 
-use crate::instr::{Instr, Reg};
+use crate::instr::Instr;
 use crate::operand::Operand;
 use crate::operation::Operation;
 use std::marker::Model;
@@ -109,24 +109,26 @@ impl Instr {
 fn from_operands(operation: Operation, o: &[Operand]) -> Option<Instr>
     ensures { result ≡ instr_from operation o.now }
 {
-    match operation {
-        Operation::Compute => Some(Instr::Compute),
-        Operation::Set => Some(Instr::Set(register(o, 0)?, value(o, 1)?)),
-        Operation::Add => Some(Instr::Add(register(o, 0)?, register(o, 1)?)),
-        Operation::Sub => Some(Instr::Sub(register(o, 0)?, register(o, 1)?)),
-        Operation::Jnz => Some(Instr::Jnz(register(o, 0)?, place(o, 1)?)),
-        Operation::Load => Some(Instr::Load(register(o, 0)?, cell(o, 1)?)),
-        Operation::Store => Some(Instr::Store(register(o, 0)?, cell(o, 1)?)),
-        Operation::Out => Some(Instr::Out(register(o, 0)?)),
-        Operation::Fork => Some(Instr::Fork(register(o, 0)?, program(o, 1)?)),
-        Operation::Join => Some(Instr::Join(register(o, 0)?)),
-        Operation::Lock => Some(Instr::Lock(mutex(o, 0)?)),
-        Operation::Unlock => Some(Instr::Unlock(mutex(o, 0)?)),
-        Operation::Wait => Some(Instr::Wait(semaphore(o, 0)?)),
-        Operation::Signal => Some(Instr::Signal(semaphore(o, 0)?)),
-        Operation::Io => Some(Instr::Io(length(o, 0)?)),
-        Operation::Touch => Some(Instr::Touch(page(o, 0)?)),
-        Operation::End => Some(Instr::End),
+    use Operand::{Cell, Length, Mutex, Page, Place, Program, Register, Semaphore, Value};
+    match (operation, operand_at(o, 0), operand_at(o, 1)) {
+        (Operation::Compute, _, _) => Some(Instr::Compute),
+        (Operation::Set, Some(Register(r)), Some(Value(n))) => Some(Instr::Set(r, n)),
+        (Operation::Add, Some(Register(r)), Some(Register(q))) => Some(Instr::Add(r, q)),
+        (Operation::Sub, Some(Register(r)), Some(Register(q))) => Some(Instr::Sub(r, q)),
+        (Operation::Jnz, Some(Register(r)), Some(Place(n))) => Some(Instr::Jnz(r, n)),
+        (Operation::Load, Some(Register(r)), Some(Cell(n))) => Some(Instr::Load(r, n)),
+        (Operation::Store, Some(Register(r)), Some(Cell(n))) => Some(Instr::Store(r, n)),
+        (Operation::Out, Some(Register(r)), _) => Some(Instr::Out(r)),
+        (Operation::Fork, Some(Register(r)), Some(Program(n))) => Some(Instr::Fork(r, n)),
+        (Operation::Join, Some(Register(r)), _) => Some(Instr::Join(r)),
+        (Operation::Lock, Some(Mutex(n)), _) => Some(Instr::Lock(n)),
+        (Operation::Unlock, Some(Mutex(n)), _) => Some(Instr::Unlock(n)),
+        (Operation::Wait, Some(Semaphore(n)), _) => Some(Instr::Wait(n)),
+        (Operation::Signal, Some(Semaphore(n)), _) => Some(Instr::Signal(n)),
+        (Operation::Io, Some(Length(n)), _) => Some(Instr::Io(n)),
+        (Operation::Touch, Some(Page(n)), _) => Some(Instr::Touch(n)),
+        (Operation::End, _, _) => Some(Instr::End),
+        _ => None,
     }
 }
 
@@ -164,87 +166,4 @@ fn operand_at(operands: &[Operand], k: usize) -> Option<Operand>
     ensures { result ≡ slice_get operands.now k }
 {
     operands.get(k).copied()
-}
-
-// What the operand at a place is, if it is of this kind.
-
-fn register(operands: &[Operand], k: usize) -> Option<Reg>
-    ensures { result ≡ read_at register_in operands.now k }
-{
-    match operand_at(operands, k)? {
-        Operand::Register(reg) => Some(reg),
-        _ => None,
-    }
-}
-
-fn value(operands: &[Operand], k: usize) -> Option<u64>
-    ensures { result ≡ read_at value_in operands.now k }
-{
-    match operand_at(operands, k)? {
-        Operand::Value(n) => Some(n),
-        _ => None,
-    }
-}
-
-fn place(operands: &[Operand], k: usize) -> Option<u16>
-    ensures { result ≡ read_at place_in operands.now k }
-{
-    match operand_at(operands, k)? {
-        Operand::Place(place) => Some(place),
-        _ => None,
-    }
-}
-
-fn cell(operands: &[Operand], k: usize) -> Option<u16>
-    ensures { result ≡ read_at cell_in operands.now k }
-{
-    match operand_at(operands, k)? {
-        Operand::Cell(cell) => Some(cell),
-        _ => None,
-    }
-}
-
-fn program(operands: &[Operand], k: usize) -> Option<u16>
-    ensures { result ≡ read_at program_in operands.now k }
-{
-    match operand_at(operands, k)? {
-        Operand::Program(program) => Some(program),
-        _ => None,
-    }
-}
-
-fn mutex(operands: &[Operand], k: usize) -> Option<u16>
-    ensures { result ≡ read_at mutex_in operands.now k }
-{
-    match operand_at(operands, k)? {
-        Operand::Mutex(mutex) => Some(mutex),
-        _ => None,
-    }
-}
-
-fn semaphore(operands: &[Operand], k: usize) -> Option<u16>
-    ensures { result ≡ read_at semaphore_in operands.now k }
-{
-    match operand_at(operands, k)? {
-        Operand::Semaphore(semaphore) => Some(semaphore),
-        _ => None,
-    }
-}
-
-fn length(operands: &[Operand], k: usize) -> Option<u32>
-    ensures { result ≡ read_at length_in operands.now k }
-{
-    match operand_at(operands, k)? {
-        Operand::Length(length) => Some(length),
-        _ => None,
-    }
-}
-
-fn page(operands: &[Operand], k: usize) -> Option<u16>
-    ensures { result ≡ read_at page_in operands.now k }
-{
-    match operand_at(operands, k)? {
-        Operand::Page(page) => Some(page),
-        _ => None,
-    }
 }
