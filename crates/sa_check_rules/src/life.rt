@@ -1,11 +1,11 @@
 // What a rule asks of a life.
-ghost use Rattle.std.specs.Prelude.{◌≡◌, ◌↔◌, IsTrue};
+ghost use Rattle.std.specs.Prelude.{◌≡◌, ◌↔◌, [], false, IsTrue};
 ghost use Rattle.sa_laws.specs.State.{space_def};
-ghost use Rattle.sa_laws.specs.Readings.{HasNothing, carried_by};
+ghost use Rattle.sa_laws.specs.Readings.{HasNothing, IsLocked, carried_by};
 ghost use Rattle.sa_laws.specs.Turns.{FindsNone};
 ghost use Rattle.sa_check_moment.specs.Seen.{seen};
 
-use sa_base::{SpaceNo, ThreadNo};
+use sa_base::{ProcNo, SpaceNo, ThreadNo};
 use sa_check_lives::KeptLife;
 use sa_check_moment::Moment;
 
@@ -13,7 +13,21 @@ use sa_check_moment::Moment;
 pub(crate) fn has_nothing(moment: &Moment, life: &KeptLife) -> bool
     ensures { IsTrue result ↔ HasNothing (seen moment.now).readings life.now }
 {
-    life.locks().is_empty() && !life.cont() && !moment.has_hand(life)
+    has_no_lock(life) && !moment.has_hand(life)
+}
+
+// No lock, and no cont without its back.
+pub(crate) fn has_no_lock(life: &KeptLife) -> bool
+    ensures { IsTrue result ↔ ((life.now.locks ≡ []) × (life.now.cont ≡ false)) }
+{
+    life.locks().is_empty() && !life.cont()
+}
+
+// The list is one of the life's space, and nobody locks it.
+pub(crate) fn is_unlocked(moment: &Moment, life: &KeptLife, s: SpaceNo, l: ProcNo) -> bool
+    ensures { IsTrue result ↔ ((s ≡ life.now.space) × (IsLocked (seen moment.now).readings s l → ⊥)) }
+{
+    s == life.space() && !moment.is_locked(s, l)
 }
 
 // The thread that the life carries.

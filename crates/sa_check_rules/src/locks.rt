@@ -6,7 +6,7 @@ ghost use Rattle.sa_laws.specs.History.{event_begun, is_step};
 ghost use Rattle.sa_laws.specs.Locks.{TakesFor, CanTake, CanBeUsed, CanReady, CanRun, CanFree, CanCont, WithFirst, back_is_due, KeepsLocks, KeepsLocksIf, KeepsLocksIn, LocksAreKept};
 ghost use Rattle.sa_check_moment.specs.Seen.{seen, event};
 
-use crate::life::carried_by;
+use crate::life::{carried_by, has_no_lock, is_unlocked};
 use sa_base::{PACKAGE_PAGE, ProcNo, Record, SpaceNo, ThreadNo};
 use sa_check_lives::{KeptLife, ListLock};
 use sa_check_moment::Moment;
@@ -90,10 +90,8 @@ fn can_take(
     ensures { let m = seen moment.now in
         IsTrue result ↔ CanTake m.workload m.readings p life.now s l t }
 {
-    s == life.space()
-        && !moment.is_locked(s, l)
-        && life.locks().is_empty()
-        && !life.cont()
+    is_unlocked(moment, life, s, l)
+        && has_no_lock(life)
         && t == carried_by(moment, life)
         && takes_for(moment, p, life, l)
 }

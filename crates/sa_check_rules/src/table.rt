@@ -6,7 +6,7 @@ ghost use Rattle.sa_laws.specs.Life.{first_lock};
 ghost use Rattle.sa_laws.specs.Turns.{IsUnused, CanFault, CanSpin, CanRaise, CanLower, CanHint, CanIdle, CanGiveBack, StepIn, IsStep};
 ghost use Rattle.sa_check_moment.specs.Seen.{seen};
 
-use crate::life::{carried_by, finds_none, has_nothing, patience};
+use crate::life::{carried_by, finds_none, has_no_lock, has_nothing, patience};
 use sa_base::{ActNo, BULK_RETURN, PACKAGE_PAGE, ProcNo, Record, SpaceNo};
 use sa_check_lives::{KeptLife, ListLock};
 use sa_check_moment::Moment;
@@ -76,8 +76,7 @@ fn is_unused(life: &KeptLife, lock: ListLock) -> bool
 fn can_spin(moment: &Moment, p: ProcNo, a: ActNo, life: &KeptLife, l: ProcNo) -> bool
     ensures { IsTrue result ↔ CanSpin (seen moment.now).readings p a life.now l }
 {
-    life.locks().is_empty()
-        && !life.cont()
+    has_no_lock(life)
         && moment.has_hand(life)
         && l == p
         && moment.is_locked_by_other(a, life.space(), l)

@@ -5,7 +5,7 @@ ghost use Rattle.sa_laws.specs.History.{event_begun, is_step};
 ghost use Rattle.sa_ranks.specs.Locks.{TakesFor, CanTake, KeepsTheLock, StepKeepsTheLock, KeepsTheLockIf, KeepsTheLockIn, TheLockIsKept};
 ghost use Rattle.sa_check_moment.specs.Seen.{seen, event};
 
-use crate::life::carried_by;
+use crate::life::{carried_by, has_no_lock, is_unlocked};
 use crate::locks::{back_is_due, keeps_locks};
 use crate::ranks::THE_LIST;
 use sa_base::{ProcNo, Record, SpaceNo, ThreadNo};
@@ -73,11 +73,9 @@ fn keeps_the_lock(moment: &Moment, p: ProcNo, life: &KeptLife, first: Record) ->
 fn can_take(moment: &Moment, life: &KeptLife, s: SpaceNo, l: ProcNo, t: Option<ThreadNo>) -> bool
     ensures { IsTrue result ↔ CanTake (seen moment.now).readings life.now s l t }
 {
-    s == life.space()
-        && l == THE_LIST
-        && !moment.is_locked(s, THE_LIST)
-        && life.locks().is_empty()
-        && !life.cont()
+    l == THE_LIST
+        && is_unlocked(moment, life, s, THE_LIST)
+        && has_no_lock(life)
         && t == carried_by(moment, life)
         && takes_for(moment, life)
 }

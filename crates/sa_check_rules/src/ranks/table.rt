@@ -5,7 +5,7 @@ ghost use Rattle.sa_ranks.specs.Steps.{CanSpin, FindsNone, CanLower, CanHint, Ca
 ghost use Rattle.sa_check_moment.specs.declared.rules.Rules.TheVariants.{Priorities};
 ghost use Rattle.sa_check_moment.specs.Seen.{seen};
 
-use crate::life::{carried_by, has_nothing, patience};
+use crate::life::{carried_by, has_no_lock, has_nothing, patience};
 use crate::ranks::THE_LIST;
 use crate::ranks::lines::interrupts;
 use crate::table::{can_raise, is_step_of};
@@ -60,8 +60,7 @@ fn is_ranked_step_of(
 fn can_spin(moment: &Moment, a: ActNo, life: &KeptLife, l: ProcNo) -> bool
     ensures { IsTrue result ↔ CanSpin (seen moment.now).readings a life.now l }
 {
-    life.locks().is_empty()
-        && !life.cont()
+    has_no_lock(life)
         && moment.has_hand(life)
         && l == THE_LIST
         && moment.is_locked_by_other(a, life.space(), THE_LIST)
