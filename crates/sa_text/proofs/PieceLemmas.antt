@@ -29,6 +29,16 @@ pieces_from-past text from end h = let e : ltb end from ≡ true = search (rules
 length-line : (text : List ℕ) (from end : ℕ) → end ≤ length text → length (slice_range text from end) ≡ end - from
 length-line text from end h = omega (arith, length-take (end - from) (drop from text), length-drop from text)
 
+-- the first bytes of a line are those of the text from the line's place on
+take-slice_range : (text : List ℕ) (from end n : ℕ) → from + n ≤ end → take n (slice_range text from end) ≡ slice_range text from (from + n)
+take-slice_range text from end n within =
+    take-take n (end - from) (drop from text) (omega arith) ∙ ap (λ k. take k (drop from text)) (omega arith)
+
+-- the first bytes of a line lack a space, as bytes of the text
+pub take-lacks_space : (text : List ℕ) (from end n : ℕ) → from + n ≤ end → All (λ b. b ≢ 32) (take n (slice_range text from end))
+    → LacksSpace (slice_range text from (from + n))
+take-lacks_space text from end n within lacks = subst LacksSpace (take-slice_range text from end n within) lacks
+
 -- the first of several pieces
 first_of_more : (text : List ℕ) (from end n : ℕ) → from + n < end → end ≤ length text
     → All (λ b. b ≢ 32) (take n (slice_range text from end)) → get_or (slice_range text from end) n 0 ≡ 32
@@ -38,8 +48,7 @@ first_of_more text from end n inside high lacks space =
     let room : n < length line = omega (arith, length-line text from end high) in
     let split : line ≡ take n line ++ 32 ∷ drop (n + 1) line =
     sym (take-append-drop n line) ∙ ap (λ r. take n line ++ r) (drop_more line n 0 room ∙ ap (λ b. b ∷ drop (n + 1) line) space) in
-    let front : take n line ≡ slice_range text from (from + n) =
-    take-take n (end - from) (drop from text) (omega arith) ∙ ap (λ k. take k (drop from text)) (omega arith) in
+    let first : take n line ≡ slice_range text from (from + n) = take-slice_range text from end n (omega arith) in
     let behind : drop (n + 1) line ≡ slice_range text (from + n + 1) end =
     ap (λ k. drop (n + 1) (take k (drop from text))) (omega arith)
     ∙ (drop-take (n + 1) (end - (from + n + 1)) (drop from text)
@@ -48,7 +57,7 @@ first_of_more text from end n inside high lacks space =
     pieces_from-within text from end (omega arith)
     ∙ (ap pieces_of split
     ∙ (pieces_of-more (take n line) (drop (n + 1) line) lacks
-    ∙ (ap (λ x. x ∷ pieces_of (drop (n + 1) line)) front
+    ∙ (ap (λ x. x ∷ pieces_of (drop (n + 1) line)) first
     ∙ ap (λ xs. slice_range text from (from + n) ∷ xs) (ap pieces_of behind ∙ sym (pieces_from-within text (from + n + 1) end (omega arith))))))
 
 -- the only piece
