@@ -157,7 +157,7 @@ pub(crate) fn push_record(out: &mut Lines, what: &Record)
 #[inline]
 fn push_one(out: &mut Lines, word: &[u8], a: u16)
     requires { array_vec_len out.old + length word.now + FIELD ≤ LINES }
-    ensures text { out.new.items ≡ out.old.items ++ word.now ++ field (Some a) }
+    ensures text { out.new.items ≡ out.old.items ++ word.now ++ flat_map field (Some a ∷ []) }
     ensures len { array_vec_len out.new ≤ array_vec_len out.old + length word.now + FIELD }
 {
     put(out, word);
@@ -168,7 +168,7 @@ fn push_one(out: &mut Lines, word: &[u8], a: u16)
 #[inline]
 fn push_two(out: &mut Lines, word: &[u8], s: SpaceNo, a: u16)
     requires { array_vec_len out.old + length word.now + 2 * FIELD ≤ LINES }
-    ensures text { out.new.items ≡ out.old.items ++ word.now ++ field (Some s.0) ++ field (Some a) }
+    ensures text { out.new.items ≡ out.old.items ++ word.now ++ flat_map field (Some s.0 ∷ Some a ∷ []) }
     ensures len { array_vec_len out.new ≤ array_vec_len out.old + length word.now + 2 * FIELD }
 {
     push_one(out, word, s.0);
@@ -180,7 +180,7 @@ fn push_two(out: &mut Lines, word: &[u8], s: SpaceNo, a: u16)
 fn push_three(out: &mut Lines, word: &[u8], s: SpaceNo, a: u16, b: u16)
     requires { array_vec_len out.old + length word.now + 3 * FIELD ≤ LINES }
     ensures text { out.new.items
-        ≡ out.old.items ++ word.now ++ field (Some s.0) ++ field (Some a) ++ field (Some b) }
+        ≡ out.old.items ++ word.now ++ flat_map field (Some s.0 ∷ Some a ∷ Some b ∷ []) }
     ensures len { array_vec_len out.new ≤ array_vec_len out.old + length word.now + 3 * FIELD }
 {
     push_two(out, word, s, a);

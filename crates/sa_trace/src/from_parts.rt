@@ -44,12 +44,12 @@ fn from_fields(kind: Kind, f: &[Option<u64>]) -> Option<Record>
         Kind::Move => moved(f),
         Kind::Want => want(f),
         Kind::Aim => aim(f),
-        Kind::Line => processor(f, 0).map(Record::Line),
-        Kind::Fetch => space(f, 0).map(Record::Fetch),
-        Kind::Fetched => space(f, 0).map(Record::Fetched),
-        Kind::GiveBack => activation(f, 0).map(Record::GiveBack),
+        Kind::Line => Some(Record::Line(processor(f, 0)?)),
+        Kind::Fetch => Some(Record::Fetch(space(f, 0)?)),
+        Kind::Fetched => Some(Record::Fetched(space(f, 0)?)),
+        Kind::GiveBack => Some(Record::GiveBack(activation(f, 0)?)),
         Kind::Idle => Some(Record::Idle),
-        Kind::Spin => processor(f, 0).map(Record::Spin),
+        Kind::Spin => Some(Record::Spin(processor(f, 0)?)),
         Kind::Tick => Some(Record::Tick),
     }
 }
@@ -59,91 +59,136 @@ fn from_fields(kind: Kind, f: &[Option<u64>]) -> Option<Record>
 fn ins(f: &[Option<u64>]) -> Option<Record>
     ensures { result ≡ record_from Kind.Ins f.now }
 {
-    Some(Record::Ins(space(f, 0)?, thread(f, 1)?, place(f, 2)?))
+    match (space(f, 0), thread(f, 1), place(f, 2)) {
+        (Some(s), Some(t), Some(place)) => Some(Record::Ins(s, t, place)),
+        _ => None,
+    }
 }
 
 fn out(f: &[Option<u64>]) -> Option<Record>
     ensures { result ≡ record_from Kind.Out f.now }
 {
-    Some(Record::Out(space(f, 0)?, thread(f, 1)?, number(Field::Value, f, 2)?))
+    match (space(f, 0), thread(f, 1), number(Field::Value, f, 2)) {
+        (Some(s), Some(t), Some(value)) => Some(Record::Out(s, t, value)),
+        _ => None,
+    }
 }
 
 fn run(f: &[Option<u64>]) -> Option<Record>
     ensures { result ≡ record_from Kind.Run f.now }
 {
-    Some(Record::Run(space(f, 0)?, thread(f, 1)?))
+    match (space(f, 0), thread(f, 1)) {
+        (Some(s), Some(t)) => Some(Record::Run(s, t)),
+        _ => None,
+    }
 }
 
 fn stop(f: &[Option<u64>]) -> Option<Record>
     ensures { result ≡ record_from Kind.Stop f.now }
 {
-    Some(Record::Stop(space(f, 0)?, carried(f, 1)?, activation(f, 2)?))
+    match (space(f, 0), carried(f, 1), activation(f, 2)) {
+        (Some(s), Some(t), Some(a)) => Some(Record::Stop(s, t, a)),
+        _ => None,
+    }
 }
 
 fn block(f: &[Option<u64>]) -> Option<Record>
     ensures { result ≡ record_from Kind.Block f.now }
 {
-    Some(Record::Block(space(f, 0)?, carried(f, 1)?, activation(f, 2)?, io(f, 3)?))
+    match (space(f, 0), carried(f, 1), activation(f, 2), io(f, 3)) {
+        (Some(s), Some(t), Some(a), Some(io)) => Some(Record::Block(s, t, a, io)),
+        _ => None,
+    }
 }
 
 fn unblock(f: &[Option<u64>]) -> Option<Record>
     ensures { result ≡ record_from Kind.Unblock f.now }
 {
-    Some(Record::Unblock(space(f, 0)?, carried(f, 1)?, activation(f, 2)?))
+    match (space(f, 0), carried(f, 1), activation(f, 2)) {
+        (Some(s), Some(t), Some(a)) => Some(Record::Unblock(s, t, a)),
+        _ => None,
+    }
 }
 
 fn cont(f: &[Option<u64>]) -> Option<Record>
     ensures { result ≡ record_from Kind.Cont f.now }
 {
-    Some(Record::Cont(space(f, 0)?, carried(f, 1)?))
+    match (space(f, 0), carried(f, 1)) {
+        (Some(s), Some(t)) => Some(Record::Cont(s, t)),
+        _ => None,
+    }
 }
 
 fn back(f: &[Option<u64>]) -> Option<Record>
     ensures { result ≡ record_from Kind.Back f.now }
 {
-    Some(Record::Back(space(f, 0)?, carried(f, 1)?))
+    match (space(f, 0), carried(f, 1)) {
+        (Some(s), Some(t)) => Some(Record::Back(s, t)),
+        _ => None,
+    }
 }
 
 fn ready(f: &[Option<u64>]) -> Option<Record>
     ensures { result ≡ record_from Kind.Ready f.now }
 {
-    Some(Record::Ready(space(f, 0)?, thread(f, 1)?))
+    match (space(f, 0), thread(f, 1)) {
+        (Some(s), Some(t)) => Some(Record::Ready(s, t)),
+        _ => None,
+    }
 }
 
 fn taken(f: &[Option<u64>]) -> Option<Record>
     ensures { result ≡ record_from Kind.Take f.now }
 {
-    Some(Record::Take(space(f, 0)?, processor(f, 1)?, carried(f, 2)?))
+    match (space(f, 0), processor(f, 1), carried(f, 2)) {
+        (Some(s), Some(l), Some(t)) => Some(Record::Take(s, l, t)),
+        _ => None,
+    }
 }
 
 fn free(f: &[Option<u64>]) -> Option<Record>
     ensures { result ≡ record_from Kind.Free f.now }
 {
-    Some(Record::Free(space(f, 0)?, processor(f, 1)?, carried(f, 2)?))
+    match (space(f, 0), processor(f, 1), carried(f, 2)) {
+        (Some(s), Some(l), Some(t)) => Some(Record::Free(s, l, t)),
+        _ => None,
+    }
 }
 
 fn up(f: &[Option<u64>]) -> Option<Record>
     ensures { result ≡ record_from Kind.Up f.now }
 {
-    Some(Record::Up(space(f, 0)?, activation(f, 1)?))
+    match (space(f, 0), activation(f, 1)) {
+        (Some(s), Some(a)) => Some(Record::Up(s, a)),
+        _ => None,
+    }
 }
 
 fn moved(f: &[Option<u64>]) -> Option<Record>
     ensures { result ≡ record_from Kind.Move f.now }
 {
-    Some(Record::Move(owner(f, 0)?, owner(f, 1)?))
+    match (owner(f, 0), owner(f, 1)) {
+        (Some(old), Some(new)) => Some(Record::Move(old, new)),
+        _ => None,
+    }
 }
 
 fn want(f: &[Option<u64>]) -> Option<Record>
     ensures { result ≡ record_from Kind.Want f.now }
 {
-    Some(Record::Want(space(f, 0)?, demand(f, 1)?))
+    match (space(f, 0), demand(f, 1)) {
+        (Some(s), Some(demand)) => Some(Record::Want(s, demand)),
+        _ => None,
+    }
 }
 
 fn aim(f: &[Option<u64>]) -> Option<Record>
     ensures { result ≡ record_from Kind.Aim f.now }
 {
-    Some(Record::Aim(processor(f, 0)?, owner(f, 1)?))
+    match (processor(f, 0), owner(f, 1)) {
+        (Some(p), Some(s)) => Some(Record::Aim(p, s)),
+        _ => None,
+    }
 }
 
 // What the field at a place names, if its number is in its range.

@@ -1,7 +1,7 @@
 // What a piece says where a number, a field or a word is expected.
 ghost use Rattle.std.specs.Prelude.{◌≡◌, ◌≤◌, ◌++◌, ◌↔◌, length, find};
 ghost use Rattle.std.specs.Result.{result_err};
-ghost use Rattle.sa_trace.specs.Pieces.{field_in, fields_in, and_then, wrong_count, has_note, has_word, kind_at, note_at, end_of, with_rest};
+ghost use Rattle.sa_trace.specs.Pieces.{field_in, fields_in, and_then, wrong_count, has_note, kind_at, note_at, end_of, with_rest};
 
 use crate::field::Field;
 use crate::kind::{KINDS, Kind, MAX_FIELDS};
@@ -59,7 +59,7 @@ pub(crate) fn read_kind(words: &mut Pieces) -> Result<Kind, Cause>
     if word == b"told".as_slice() {
         return read_note(words);
     }
-    kind_of(word).ok_or(Cause::BadWord)
+    Kind::of_word(word).ok_or(Cause::BadWord)
 }
 
 // The kind of the notice that the next piece names.
@@ -68,29 +68,6 @@ fn read_note(words: &mut Pieces) -> Result<Kind, Cause>
 {
     let word = next(words)?;
     note_of(word).ok_or(Cause::BadWord)
-}
-
-// The kind of this word. The words of most lines come first.
-fn kind_of(word: &[u8]) -> Option<Kind>
-    ensures { result ≡ find (has_word word.now) KINDS }
-{
-    match word {
-        b"ins" => Some(Kind::Ins),
-        b"run" => Some(Kind::Run),
-        b"take" => Some(Kind::Take),
-        b"free" => Some(Kind::Free),
-        b"ready" => Some(Kind::Ready),
-        b"idle" => Some(Kind::Idle),
-        b"spin" => Some(Kind::Spin),
-        _ => any_kind_of(word),
-    }
-}
-
-// The kind of this word, whichever it is.
-fn any_kind_of(word: &[u8]) -> Option<Kind>
-    ensures { result ≡ find (has_word word.now) KINDS }
-{
-    KINDS.iter().copied().find(|kind| kind.form().word == word)
 }
 
 // The kind whose word is `told` and this one.

@@ -25,12 +25,13 @@ pub fn read(alloc: Global, bytes: &[u8]) -> Result<TraceText, Unread>
     let mut reader = Reader::new(bytes);
     let mut trace = Trace::new(alloc);
     loop {
-        match reader.next().map_err(Unread::Bad)? {
-            Said::Next(item) => {
+        match reader.next() {
+            Ok(Said::Next(item)) => {
                 trace.reserve(1)?;
                 trace.add(item);
             }
-            Said::Last(end, events) => return Ok(TraceText { trace, end, events }),
+            Ok(Said::Last(end, events)) => return Ok(TraceText { trace, end, events }),
+            Err(bad) => return Err(Unread::Bad(bad)),
         }
     }
 }
