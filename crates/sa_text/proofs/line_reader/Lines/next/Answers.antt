@@ -1,4 +1,4 @@
-use Rattle.std.proofs.Common.{arith, sym, ◌∙◌, ap}
+use Rattle.std.proofs.Common.{arith, ◌+◌, sym, ◌∙◌, ap}
 use Rattle.sa_text.specs.Line.{LinesLeft}
 use Rattle.sa_text.proofs.LineLemmas.{next_line-ended, next_line-open}
 use Rattle.sa_text.proofs.line_reader.Lines.next.Goals as goal
@@ -14,3 +14,8 @@ returns-clause-first c =
       | else-ended w ↦ left ∙ next_line-open c.self.inside.text.now _ _ _ _ (omega arith)
           (omega arith) c.length_before.ensures.within c.length_before.ensures.before w.self-is
     ]
+
+pub returns-clause-number : goal.returns-clause-number
+returns-clause-number c =
+    let number = ap (λ (v : LinesLeft). v.number) c.self.view_is in
+    (number, ap (λ n. n + 1) number)
