@@ -1,5 +1,6 @@
 pub mod WorkLemmas
 pub mod WakeLemmas
+mod Counts
 pub mod Moves
 pub mod WorkSteps
 pub mod SyncSteps
