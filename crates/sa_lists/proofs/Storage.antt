@@ -1,5 +1,5 @@
 -- How the ranked lists are stored, and what stays so.
-use Rattle.std.proofs.Common.{◌≡◌, ◌≢◌, ◌↔◌, ℕ, ◌+◌, ◌*◌, ◌<◌, ◌≤◌, Bool, true, false, cond, not, eqb, Option, is_some, List, [], ◌∷◌, length, replicate, drop, take, ◌-◌, Some, None, slice_get, slice_set, IsTrue, refl, sym, ap, ◌∙◌, subst, inl, inr, arith}
+use Rattle.std.proofs.Common.{◌≡◌, ◌≢◌, ◌↔◌, ℕ, ◌+◌, ◌*◌, ◌<◌, ◌≤◌, Bool, true, false, cond, not, eqb, Option, is_some, IfSome, List, [], ◌∷◌, length, replicate, drop, take, ◌-◌, Some, None, slice_get, slice_set, IsTrue, refl, sym, ap, ◌∙◌, subst, inl, inr, arith}
 use Rattle.std.proofs.lemmas.Bool.{cases_eq, cases_lt, true≢false}
 use Rattle.std.proofs.lemmas.List.{get_or-set_other, get_or-set_same, get_or_past, get_or-replicate, length-replicate, length-set, length-take, set-get_or}
 use Rattle.std.proofs.lemmas.List.Sums.{sum_by-take-drop}
@@ -56,6 +56,19 @@ module _ (kind : Ranks) (links : Lists) (filled : List RankSet) (of : List ℕ) 
 
   pub chain-inside : (l k : ℕ) → l < length filled → k < width_of kind → l * width_of kind + k < length links.lists
   chain-inside l k less small = subst (λ n. l * width_of kind + k < n) (sym h.size) (chain_below l (length filled) k (width_of kind) less small)
+
+  -- a chain of a list is one of the chains, also after another list came to its place
+  pub chain-there : (l k chain : ℕ) → l < length filled → k < width_of kind → chain ≡ l * width_of kind + k → chain < length links.lists
+  chain-there l k chain here small at = subst (λ n. n < length links.lists) (sym at) (chain-inside l k here small)
+
+  pub chain-after : (l k chain : ℕ) (xs : List ℕ) (changed : Lists) → l < length filled → k < width_of kind → chain ≡ l * width_of kind + k
+      → changed ≡ with_list links chain xs → chain < length changed.lists
+  chain-after l k chain xs changed here small at is =
+      subst (λ n. chain < n) (sym (ap (λ (c : Lists). length c.lists) is ∙ length-set links.lists chain xs)) (chain-there l k chain here small at)
+
+  -- a number below that of the threads of the chains is one of a thread
+  pub thread-below : (o : Option ℕ) (n : ℕ) → n ≡ links.nodes → IfSome o (λ t. t < n) → IfSome o (λ t. t < now.lists.nodes)
+  thread-below o n same below = subst (λ m. IfSome o (λ t. t < m)) (same ∙ sym nodes-are) below
 
   -- the chains of a list are among all chains
   pub blocks_within : (l : ℕ) → l < length filled → (l + 1) * width_of kind ≤ length links.lists
@@ -232,7 +245,7 @@ module _ (kind : Ranks) (links : Lists) (filled : List RankSet) (of : List ℕ) 
         (fewer : (t : ℕ) → count_in t xs ≤ count_in t (list_at links.lists chain)) (is : changed ≡ with_list links chain xs)
         (b : Bool) (left : IsTrue b ↔ (list_at changed.lists chain ≡ [])) (new : List RankSet) (noted : IsNoted filled l k (not b) new) where
       there : chain < length links.lists
-      there = subst (λ n. n < length links.lists) (sym at) (chain-inside l k here small)
+      there = chain-there l k chain here small at
 
       chain_is : list_at changed.lists chain ≡ xs
       chain_is = ap (λ (c : Lists). list_at c.lists chain) is ∙ get_or-set_same links.lists chain xs [] there

@@ -55,9 +55,9 @@ impl RankedLists {
           ranks = opening_ranks kind threads;
         }) }
     {
-        let chains = Links::new(alloc, u32::from(threads), chain_of(kind, lists, 0))?;
         let filled = no_ranks(alloc, lists)?;
         let ranks = opening_ranks(alloc, kind, threads)?;
+        let chains = Links::new(alloc, u32::from(threads), chain_of(kind, lists, 0))?;
         Ok(RankedLists {
             chains,
             filled,

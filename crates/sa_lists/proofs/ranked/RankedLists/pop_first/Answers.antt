@@ -1,7 +1,7 @@
 use Rattle.std.proofs.Common.{drop, slice_get, slice_set, sym, ap, ◌∙◌}
-use Rattle.sa_links.specs.Lists.{list_at, with_list}
+use Rattle.sa_links.specs.Lists.{Lists, list_at, with_list}
 use Rattle.sa_lists.specs.Chains.{width_of, joined, chains_of}
-use Rattle.sa_lists.proofs.Storage.{inside, has-small, empty, first-is, popped-stored, popped-value, same-without, fewer-drop}
+use Rattle.sa_lists.proofs.Storage.{inside, has-small, empty, first-is, popped-stored, popped-value, chain-there, chain-after, thread-below, same-without, fewer-drop}
 use Rattle.sa_lists.proofs.ranked.RankedLists.pop_first.Goals as goal
 
 pub greatest-requires : goal.greatest-requires
@@ -67,3 +67,35 @@ returns-clause-lists c =
     c.is_empty-has_more.result c.is_empty-has_more.ensures c.note.new.filled.items c.note.ensures
     ∙ ap (λ xs. record now { lists = with_list now.lists l xs })
     (ap (λ xs. joined (slice_set (chains_of s.chains.lists (width_of s.kind) l) c.in_ok-rank.rank xs)) same ∙ sym is.1)
+
+pub pop_front-thread-requires : goal.pop_front-thread-requires
+pop_front-thread-requires c =
+    let s = c.self.inside in
+    let now = c.args.self.now in
+    let l = c.args.list in
+    let here = inside s.kind s.chains s.filled.items s.ranks.items c.self.invariant now c.self.view_is l c.requires in
+    let small = has-small s.kind s.chains s.filled.items s.ranks.items c.self.invariant now c.self.view_is l here c.in_ok-rank.rank c.in_ok-rank.ensures.1 in
+    chain-there s.kind s.chains s.filled.items s.ranks.items c.self.invariant now c.self.view_is l c.in_ok-rank.rank c.chain_of-chain.result here small c.chain_of-chain.ensures
+
+pub is_empty-has_more-requires : goal.is_empty-has_more-requires
+is_empty-has_more-requires c =
+    let s = c.self.inside in
+    let now = c.args.self.now in
+    let l = c.args.list in
+    let here = inside s.kind s.chains s.filled.items s.ranks.items c.self.invariant now c.self.view_is l c.requires in
+    let small = has-small s.kind s.chains s.filled.items s.ranks.items c.self.invariant now c.self.view_is l here c.in_ok-rank.rank c.in_ok-rank.ensures.1 in
+    chain-after s.kind s.chains s.filled.items s.ranks.items c.self.invariant now c.self.view_is l c.in_ok-rank.rank c.chain_of-chain.result _ c.pop_front-thread.new.self here small c.chain_of-chain.ensures c.pop_front-thread.ensures.lists
+
+pub note-requires-clause-list : goal.note-requires-clause-list
+note-requires-clause-list c =
+    let s = c.self.inside in
+    inside s.kind s.chains s.filled.items s.ranks.items c.self.invariant c.args.self.now c.self.view_is c.args.list c.requires
+
+pub note-requires-clause-rank : goal.note-requires-clause-rank
+note-requires-clause-rank c = c.in_ok-rank.ensures.0
+
+pub returns-clause-thread : goal.returns-clause-thread
+returns-clause-thread c =
+    let s = c.self.inside in
+    thread-below s.kind s.chains s.filled.items s.ranks.items c.self.invariant c.args.self.now c.self.view_is c.pop_front-thread.result
+    c.pop_front-thread.new.self.nodes (ap (λ (x : Lists). x.nodes) c.pop_front-thread.ensures.lists) c.pop_front-thread.ensures.node
