@@ -47,9 +47,9 @@ impl SyncState {
         Ok(SyncState {
             holders: vec![in alloc; None; mutexes as usize]?,
             counts,
-            queues: Links::new(alloc, MAX_THREADS as u32, queues)?,
             done: vec![in alloc; false; MAX_THREADS as usize]?,
             cells: vec![in alloc; 0; def.cells() as usize]?,
+            queues: Links::new(alloc, MAX_THREADS as u32, queues)?,
         })
     }
 

@@ -11,10 +11,10 @@ pub overflow_add-queues-2 : goal.overflow_add-queues-2
 overflow_add-queues-2 c = omega (arith, c.len.ensures, c.in_ok-counts.ensures.len, c.sems.ensures.few, c.mutexes-mutexes.ensures.range)
 
 -- the holders and the counts of the new state
-nobody : (c : goal.In_ok-vec-3) → c.in_ok-vec.field-0.items ≡ replicate c.args.def.now.mutexes None
+nobody : (c : goal.In_ok-new) → c.in_ok-vec.field-0.items ≡ replicate c.args.def.now.mutexes None
 nobody c = c.in_ok-vec.ensures.items_if_clones_equal (λ y h. search rules) ∙ ap (λ n. replicate n None) c.mutexes-mutexes.ensures.value
 
-counts : (c : goal.In_ok-vec-3) → c.in_ok-counts.counts.items ≡ c.args.def.now.sems
+counts : (c : goal.In_ok-new) → c.in_ok-counts.counts.items ≡ c.args.def.now.sems
 counts c = c.in_ok-counts.ensures.items ∙ c.sems.ensures.value
 
 pub invariant_of-result : goal.invariant_of-result
