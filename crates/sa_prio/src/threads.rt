@@ -49,8 +49,8 @@ impl PrioThreads {
           fetch = fetch;
         } in IfOk result (λ user. user ≡ started setting) }
     {
-        let base = FastThreads::start_with(alloc, Ranks::Many, space, def, processors, fetch)?;
         let on = vec![in alloc; None; usize::from(processors)]?;
+        let base = FastThreads::start_with(alloc, Ranks::Many, space, def, processors, fetch)?;
         Ok(PrioThreads { base, on })
     }
 
