@@ -16,3 +16,4 @@ pub mod StepRule
 pub mod GoRule
 pub mod BeginRule
 pub mod Keeping
+mod OpenedLists

@@ -1,6 +1,9 @@
 // The opening of a space.
-ghost use Rattle.std.specs.Prelude.{◌≡◌, ◌≤◌, IfOk};
+ghost use Rattle.std.specs.Prelude.{◌≡◌, ◌≤◌, IfOk, None, [], replicate};
 ghost use Rattle.sa_abstract.specs.Setting.{Setting, IsSetting};
+ghost use Rattle.sa_sync.specs.Sync.{opening};
+ghost use Rattle.sa_copies.specs.Copies.{package_ops};
+ghost use Rattle.sa_fast.specs.Threads.{unmade, at_start, with_block};
 ghost use Rattle.sa_package_model.specs.Step.{started_with, opened};
 
 use crate::package::Package;
@@ -35,35 +38,72 @@ impl Package {
           fetch = fetch;
         } in IfOk result (λ made. made ≡ started_with ranks setting) }
     {
-        let sync = SyncState::new(alloc, &def)?;
-        let mut threads = Threads::new(alloc)?;
-        threads.set(
-            ThreadNo(0),
-            Block {
-                program: 0,
-                pc: 0,
-                regs: Regs::zero(),
-                place: KeptPlace::Ready,
-            },
-        );
-        let state = PackageState {
-            space,
-            lists: open_lists(alloc, ranks, processors)?,
-            holders: [None; MAX_LISTS],
-            code: make_copies(&routines()),
-        };
+        let shared = open_shared(alloc, ranks, space, &def, processors)?;
         Ok(Package {
             def,
             processors,
             fetch,
-            shared: Shared {
-                state,
-                sync,
-                threads,
-                works: WorkLists::new(alloc)?,
-            },
+            shared,
         })
     }
+}
+
+// What all contexts of a space share at its opening. Fails only where memory runs out.
+fn open_shared(
+    alloc: Global,
+    ranks: Ranks,
+    space: SpaceNo,
+    def: &SpaceDef,
+    processors: u16,
+) -> Result<Shared, AllocError>
+    requires some { 1 ≤ processors }
+    requires few { processors ≤ MAX_PROCESSORS }
+    ensures { IfOk result (λ shared. shared ≡ record {
+      state = record {
+        space = space;
+        lists = opened ranks processors;
+        holders = replicate MAX_LISTS None;
+        code = package_ops;
+      };
+      sync = opening def.now;
+      threads = with_block (replicate MAX_THREADS unmade) 0 (at_start 0 KeptPlace.Ready);
+      works = replicate MAX_THREADS [];
+    }) }
+{
+    let threads = open_threads(alloc)?;
+    let works = WorkLists::new(alloc)?;
+    let lists = open_lists(alloc, ranks, processors)?;
+    let sync = SyncState::new(alloc, def)?;
+    let state = PackageState {
+        space,
+        lists,
+        holders: [None; MAX_LISTS],
+        code: make_copies(&routines()),
+    };
+    Ok(Shared {
+        state,
+        sync,
+        threads,
+        works,
+    })
+}
+
+// The blocks of a space's threads at its opening. Fails only where memory runs out.
+fn open_threads(alloc: Global) -> Result<Threads, AllocError>
+    ensures { IfOk result (λ threads. threads
+        ≡ with_block (replicate MAX_THREADS unmade) 0 (at_start 0 KeptPlace.Ready)) }
+{
+    let mut threads = Threads::new(alloc)?;
+    threads.set(
+        ThreadNo(0),
+        Block {
+            program: 0,
+            pc: 0,
+            regs: Regs::zero(),
+            place: KeptPlace::Ready,
+        },
+    );
+    Ok(threads)
 }
 
 // The ready lists of a space at its opening.
