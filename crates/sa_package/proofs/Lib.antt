@@ -1,3 +1,4 @@
 pub mod Rows
 pub mod Carried
 pub mod LocalRuns
+pub mod Coded
