@@ -123,3 +123,9 @@ relinked_twice base nodes base₁ nodes₁ base₂ nodes₂ a b = record {
   numbers = b.numbers ∙ a.numbers;
   linked = λ l. b.linked (a.linked l);
 }
+
+-- a slot of the nodes stays one
+pub slot-relinked : (base : Ptr) (nodes : List Node) (base' : Ptr) (new : List Node) (p : Ptr) → IsRelinked base nodes base' new
+    → IsNodeSlot base (length nodes) p → IsNodeSlot base' (length new) p
+slot-relinked base nodes base' new p same at =
+    subst (λ b. IsNodeSlot b (length new) p) (sym same.block) (subst (λ k. IsNodeSlot base k p) (sym same.size) at)
