@@ -20,7 +20,7 @@ use sa_lines::{Keeper, LineWords, Poller};
 use sa_spaces::Workload;
 use std::alloc::{AllocError, Global};
 use std::marker::Model;
-use std::sync::{Mutex, Wait};
+use std::sync::{Mutex, MutexGuard, Wait};
 
 /// A machine that threads share: the core behind its lock, and, outside of it, its words and a copy of its workload, which
 /// is what contracts see.
@@ -52,8 +52,8 @@ fn copy_and_seat<K: Named>(
     ensures copy { IfOk result (λ made. made.0 ≡ workload.now) }
     ensures seats { IfOk result (λ made. AreFresh K.table K.workload.processors made.1.items) }
 {
-    let copy = workload.copy(alloc)?;
-    Ok((copy, seat_all::<K>(alloc, pollers)?))
+    let seats = seat_all::<K>(alloc, pollers)?;
+    Ok((workload.copy(alloc)?, seats))
 }
 
 impl<U: UserLevel, K: Named> Machine<U, K> {
@@ -76,6 +76,7 @@ impl<U: UserLevel, K: Named> Machine<U, K> {
     {
         let Ok((workload, seats)) = copy_and_seat::<K>(alloc, core.workload(), pollers) else {
             core.discard();
+            words.close(keeper);
             return Err(AllocError);
         };
         workload.ranges();
@@ -98,7 +99,10 @@ impl<U: UserLevel, K: Named> Machine<U, K> {
     {
         let mut held = self.held.lock(rt);
         held.led();
-        held.turn(rt, &self.words, seat)
+        let entered = held.turn(rt, &self.words, seat);
+        // A guard that goes out of scope would need the code that lets go of a whole machine.
+        let _lock = MutexGuard::unlock(held);
+        entered
     }
 
     /// The history, when every seat is back.
