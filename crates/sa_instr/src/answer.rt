@@ -1,7 +1,7 @@
 use crate::instr::Instr;
 
 /// What came of one step of a thread.
-#[derive(Clone, Copy, PartialEq, Eq)]
+#[derive(Clone, Copy)]
 pub enum Local {
     /// The instruction stays within its thread, and was done.
     Went,

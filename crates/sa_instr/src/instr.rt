@@ -6,7 +6,7 @@ use crate::declared::Declared;
 use crate::limits::REGISTERS;
 
 /// One of a thread's eight registers, each of 64 bits.
-#[derive(Clone, Copy, PartialEq, Eq)]
+#[derive(Clone, Copy)]
 pub enum Reg {
     R0,
     R1,
@@ -47,7 +47,7 @@ impl Reg {
 }
 
 /// An instruction of a thread. All but `Jnz`, `Touch` and `End` go on at the next place.
-#[derive(Clone, Copy, PartialEq, Eq)]
+#[derive(Clone, Copy)]
 pub enum Instr {
     /// Does nothing.
     Compute,

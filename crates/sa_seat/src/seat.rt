@@ -200,7 +200,7 @@ fn advance(code: &Program, state: &mut SeatState) -> bool
             program: _,
             pc,
             regs,
-        } => local(code, regs, pc) == Local::Went,
+        } => matches!(local(code, regs, pc), Local::Went),
         SeatState::Away => false,
     }
 }
