@@ -1,3 +1,4 @@
 pub mod Written
 pub mod PieceLemmas
 pub mod InputLemmas
+pub mod SupplyLemmas

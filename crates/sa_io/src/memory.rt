@@ -89,19 +89,21 @@ impl Source for MemSource {
             self.faults = self.faults.saturating_add(1);
             return Err(Failed);
         }
-        let count = copy_front(&self.bytes[self.at..], self.step, into);
+        let count = copy_next(&self.bytes, self.at, self.step, into);
         self.at += count;
         Ok(count)
     }
 }
 
-/// Copies the front of `from` into `to`, at most `most` bytes of it, and returns how many.
-fn copy_front(from: &[u8], most: usize, to: &mut [u8]) -> usize
-    ensures count { result ≡ min most (min (length to.old) (length from.now)) }
-    ensures copied { to.new ≡ take result from.now ++ drop result to.old }
+/// Copies what `from` has at `at` and behind it to the front of `to`, at most `most` bytes of it, and returns how many.
+fn copy_next(from: &[u8], at: usize, most: usize, to: &mut [u8]) -> usize
+    requires { at ≤ length from.now }
+    ensures count { result ≡ min most (min (length to.old) (length (drop at from.now))) }
+    ensures copied { to.new ≡ take result (drop at from.now) ++ drop result to.old }
 {
-    let count = most.min(to.len().min(from.len()));
-    to[..count].copy_from_slice(&from[..count]);
+    let left = &from[at..];
+    let count = most.min(to.len().min(left.len()));
+    to[..count].copy_from_slice(&left[..count]);
     count
 }
 
