@@ -1,6 +1,6 @@
 -- Batches, seen by their notices.
-use Rattle.std.proofs.Common.{◌≡◌, ℕ, ◌<◌, ◌≤◌, List, [], ◌∷◌, ◌++◌, map, get_or, length, slice_set, sym, ap, ◌∙◌, arith}
-use Rattle.std.proofs.lemmas.List.{map-set, get_or-map, set-get_or}
+use Rattle.std.proofs.Common.{◌≡◌, ℕ, ◌<◌, ◌≤◌, List, [], ◌∷◌, ◌++◌, ◌+◌, map, replicate, get_or, length, slice_set, sym, ap, ◌∙◌, arith}
+use Rattle.std.proofs.lemmas.List.{map-set, map-append, replicate-append-replicate, get_or-map, set-get_or}
 use Rattle.std.proofs.lemmas.List.Elements.{All-set}
 use Rattle.sa_base.specs.declared.record.Note.{Note}
 use Rattle.sa_batch.specs.Noted.{Noted}
@@ -34,3 +34,14 @@ room-grown k bs i b new within here more each =
     let had : k ≤ (get_or bs i b).spare = each i b within in
     let is : b.spare ≡ (get_or bs i b).spare = ap (λ (x : Noted). x.spare) here in
     All-set (λ (x : Noted). k ≤ x.spare) bs i new (omega arith) each
+
+-- one more batch without notices
+pub one-more-empty : (bs : List Noted) (b : Noted) (n : ℕ) → b.notes ≡ [] → map notes_of bs ≡ replicate n []
+    → map notes_of (bs ++ b ∷ []) ≡ replicate (n + 1) []
+one-more-empty bs b n none others =
+    map-append notes_of bs (b ∷ []) ∙ ap (λ (ns : List Note). map notes_of bs ++ ns ∷ []) none ∙ ap (λ (nss : List (List Note)). nss ++ [] ∷ []) others
+    ∙ replicate-append-replicate n 1 []
+
+-- each batch has room for none more
+pub room-for-none : (bs : List Noted) → HaveRoom 0 bs
+room-for-none bs = λ i b within. omega arith

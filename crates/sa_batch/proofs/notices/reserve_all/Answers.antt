@@ -16,3 +16,9 @@ loop-i-preserved c =
       room = AllWithin-more_set bs i new within (λ (b : Noted). c.args.n ≤ b.spare) c.loop-i.invariant.room c.in_ok-reserve.ensures.ok;
       len = length-set bs i new ∙ c.loop-i.invariant.len;
     }
+
+pub returns-in_err-reserve-clause-notes : goal.returns-in_err-reserve-clause-notes
+returns-in_err-reserve-clause-notes c =
+    let bs = c.loop-i.batches.items in
+    let within : c.loop-i.i < length bs = omega arith in
+    notes-kept bs c.loop-i.i c.index_mut.result.now c.reserve.new.self within c.index_mut.ensures.value c.reserve.ensures.notes ∙ c.loop-i.invariant.notes

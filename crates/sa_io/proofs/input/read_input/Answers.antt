@@ -1,6 +1,4 @@
 use Rattle.std.proofs.Common.{rules, ◌+◌}
-use Rattle.std.proofs.KnownBytes.{Consumes-trans}
-use Rattle.std.proofs.lemmas.List.{take-append-le}
 use Rattle.sa_io.proofs.InputLemmas.{end-of-input, lost-more}
 use Rattle.sa_io.proofs.input.read_input.Goals as goal
 
@@ -14,12 +12,3 @@ pub returns-in_err-extend_from_slice-clause-lost : goal.returns-in_err-extend_fr
 returns-in_err-extend_from_slice-clause-lost g c =
     lost-more (c.args.limit + 1) _ (g.S.Source.left c.loop-piece.source) _ c.loop-piece.input.items _ c.in_ok-count.count c.loop-piece.invariant.taken
     c.in_ok-count.ensures.taken (search rules)
-
-pub loop-piece-preserved : goal.loop-piece-preserved
-loop-piece-preserved g c = record {
-  taken = rw (c.in_ok-extend_from_slice.ensures.items) (rw (take-append-le c.in_ok-count.count c.read.new.into _ (search rules))
-      (Consumes-trans _ (g.S.Source.left c.loop-piece.source) _ c.loop-piece.input.items _ c.loop-piece.invariant.taken c.in_ok-count.ensures.taken));
-  limit = search rules;
-  counted = search rules;
-  room = search rules;
-}
