@@ -1,14 +1,16 @@
 -- Changes of aims that are made one after another.
-use Rattle.std.proofs.Common.{◌≡◌, ℕ, zero, suc, ◌+◌, List, [], ◌∷◌, ◌++◌, Bool, Option, Some, None, refl, sym, ap, ◌∙◌, append_assoc}
+use Rattle.std.proofs.Common.{◌≡◌, ℕ, zero, suc, ◌+◌, List, [], ◌∷◌, ◌++◌, set, Bool, true, false, Option, Some, None, is_some, refl, sym, ap, ◌∙◌, append_assoc}
+use Rattle.std.proofs.lemmas.Bool.{false≢true, true≢false}
+use Rattle.std.proofs.lemmas.List.{set-get_or}
 use Rattle.sa_base.specs.declared.number.ProcNo.{ProcNo}
 use Rattle.sa_base.specs.declared.number.SpaceNo.{SpaceNo}
 use Rattle.sa_base.specs.declared.record.Record.{Record}
-use Rattle.sa_base.specs.declared.record.Record.TheVariants.{Aim}
+use Rattle.sa_base.specs.declared.record.Record.TheVariants.{Aim, Line}
 use Rattle.sa_base.specs.declared.record.Item.{Item}
 use Rattle.sa_base.proofs.Items.{items_at-append}
 use Rattle.sa_assign.specs.AssignView.{AssignView}
 use Rattle.sa_assign.specs.Aims.{Change, space_no, aims_with, aims_after, changes_for, change_to, choice, changes_from, missing}
-use Rattle.sa_assign.specs.Reaim.{lines_with, lines_after, line_at, line_records, proc_no, records_of, carried_out}
+use Rattle.sa_assign.specs.Reaim.{raised, lines_with, lines_after, line_at, line_records, proc_no, records_of, carried_out}
 use Rattle.sa_base.specs.Items.{items_at}
 
 pub aims_after-append : (aims : List (Option SpaceNo)) (xs ys : List Change) → aims_after aims (xs ++ ys) ≡ aims_after (aims_after aims xs) ys
@@ -78,3 +80,50 @@ pub filled_from-suc : (event : ℕ) (proc : ProcNo) (s n : ℕ) (shares : List �
 filled_from-suc event proc s n shares x =
     let own = changes_for (missing shares x.0.aims s) shares x.0.marks s x.0.aims in
     carried_out-append event proc own (changes_from (s + 1) n shares x.0.marks (aims_after x.0.aims own)) x
+
+-- the record of an aim, and that of a raised line
+abbrev pub aim_item : ℕ → ProcNo → ℕ → SpaceNo → Item
+aim_item event proc p s = record { event = event; proc = proc; what = Aim (proc_no p) (Some s) }
+
+abbrev pub line_item : ℕ → ProcNo → ℕ → Item
+line_item event proc p = record { event = event; proc = proc; what = Line (proc_no p) }
+
+-- one more aim, of a processor whose line this is
+abbrev one_aim : ℕ → ProcNo → SpaceNo → ℕ → AssignView × List Item → Option ℕ → AssignView × List Item
+one_aim event proc s p x line = (
+  record x.0 { aims = set x.0.aims p (Some s); lines = set x.0.lines p (raised event line) },
+  x.1 ++ items_at event proc (Aim (proc_no p) (Some s) ∷ (line_records p line ++ [])),
+)
+
+carried_out-one : (event : ℕ) (proc : ProcNo) (s : SpaceNo) (p : ℕ) (chosen : Option ℕ) (x : AssignView × List Item) → chosen ≡ Some p
+    → carried_out event proc (change_to s.0 x.0.aims chosen (λ _. [])) x ≡ one_aim event proc s p x (line_at x.0.lines p)
+carried_out-one event proc s p chosen x is = ap (λ q. carried_out event proc (change_to s.0 x.0.aims q (λ _. [])) x) is
+
+-- one more aim raises a line that is low
+pub one-aim-low : (event : ℕ) (proc : ProcNo) (s : SpaceNo) (p : ℕ) (chosen : Option ℕ) (old : AssignView) (items : List Item) → chosen ≡ Some p
+    → is_some (line_at old.lines p) ≡ false
+    → (record old { aims = set old.aims p (Some s); lines = set old.lines p (Some event) }, (items ++ aim_item event proc p s ∷ []) ++ line_item event proc p ∷ [])
+    ≡ carried_out event proc (change_to s.0 old.aims chosen (λ _. [])) (old, items)
+one-aim-low event proc s p chosen old items is low =
+    ap (λ (xs : List Item). (record old { aims = set old.aims p (Some s); lines = set old.lines p (Some event) }, xs))
+    (append_assoc items (aim_item event proc p s ∷ []) (line_item event proc p ∷ []))
+    ∙ sym (carried_out-one event proc s p chosen (old, items) is ∙ ap (one_aim event proc s p (old, items)) (none (line_at old.lines p) low))
+  where
+    none : (line : Option ℕ) → is_some line ≡ false → line ≡ None
+    none None e = refl
+    none (Some earlier) e = absurd (true≢false e)
+
+-- one more aim leaves a raised line as it is
+pub one-aim-raised : (event : ℕ) (proc : ProcNo) (s : SpaceNo) (p : ℕ) (chosen : Option ℕ) (old : AssignView) (items : List Item) → chosen ≡ Some p
+    → is_some (line_at old.lines p) ≡ true
+    → (record old { aims = set old.aims p (Some s) }, items ++ aim_item event proc p s ∷ [])
+    ≡ carried_out event proc (change_to s.0 old.aims chosen (λ _. [])) (old, items)
+one-aim-raised event proc s p chosen old items is up = go (line_at old.lines p) refl up where
+  go : (line : Option ℕ) → line_at old.lines p ≡ line → is_some line ≡ true
+      → (record old { aims = set old.aims p (Some s) }, items ++ aim_item event proc p s ∷ [])
+      ≡ carried_out event proc (change_to s.0 old.aims chosen (λ _. [])) (old, items)
+  go None at raised = absurd (false≢true raised)
+  go (Some earlier) at raised =
+      ap (λ (ls : List (Option ℕ)). (record old { aims = set old.aims p (Some s); lines = ls }, items ++ aim_item event proc p s ∷ []))
+      (sym (set-get_or old.lines p None) ∙ ap (set old.lines p) at)
+      ∙ sym (carried_out-one event proc s p chosen (old, items) is ∙ ap (one_aim event proc s p (old, items)) at)

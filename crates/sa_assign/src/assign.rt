@@ -106,7 +106,7 @@ impl Assign {
         requires { p.0 < length self.old.owners }
         ensures { self.new ≡ record self.old { owners = slice_set self.old.owners p.0 s } }
     {
-        self.owners[usize::from(p.0)] = s;
+        put(&mut self.owners, p, s);
     }
 
     /// The processor is given to no space.
@@ -114,7 +114,7 @@ impl Assign {
         requires { p.0 < length self.old.owners }
         ensures { self.new ≡ record self.old { aims = slice_set self.old.aims p.0 None } }
     {
-        self.aims[usize::from(p.0)] = None;
+        put(&mut self.aims, p, None);
     }
 
     /// Marks the processor idle, or takes the mark away.
@@ -122,7 +122,7 @@ impl Assign {
         requires { p.0 < length self.old.owners }
         ensures { self.new ≡ record self.old { marks = slice_set self.old.marks p.0 idle } }
     {
-        self.marks[usize::from(p.0)] = idle;
+        put(&mut self.marks, p, idle);
     }
 
     /// The event raises the processor's line, which is low.
@@ -131,7 +131,7 @@ impl Assign {
         requires low { slice_index_or self.old.lines p.0 None ≡ None }
         ensures { self.new ≡ record self.old { lines = slice_set self.old.lines p.0 (Some event) } }
     {
-        self.lines[usize::from(p.0)] = Some(event);
+        put(&mut self.lines, p, Some(event));
     }
 
     /// The processor's line is low from now on.
@@ -139,7 +139,7 @@ impl Assign {
         requires { p.0 < length self.old.owners }
         ensures { self.new ≡ record self.old { lines = slice_set self.old.lines p.0 None } }
     {
-        self.lines[usize::from(p.0)] = None;
+        put(&mut self.lines, p, None);
     }
 
     /// Changes aims until each claim's space has at least its share of them, where the turns for the
@@ -204,10 +204,10 @@ impl Assign {
         let Some(p) = choice(shares, &self.marks, &self.aims) else {
             return;
         };
-        self.aims[usize::from(p)] = Some(s);
+        put(&mut self.aims, ProcNo(p), Some(s));
         trace.say(item.event, item.proc, Record::Aim(ProcNo(p), Some(s)));
         if self.lines[usize::from(p)].is_none() {
-            self.lines[usize::from(p)] = Some(item.event);
+            put(&mut self.lines, ProcNo(p), Some(item.event));
             trace.say(item.event, item.proc, Record::Line(ProcNo(p)));
         }
     }
@@ -241,4 +241,12 @@ fn cells<T: Copy + Default>(processors: u16, value: T) -> ArrayVec<T, PLACES>
         cells.push(value);
     }
     cells
+}
+
+// Puts the value at the processor's place.
+fn put<T: Copy>(cells: &mut ArrayVec<T, PLACES>, p: ProcNo, value: T)
+    requires { p.0 < length cells.old.items }
+    ensures { cells.new.items ≡ slice_set cells.old.items p.0 value }
+{
+    cells[usize::from(p.0)] = value;
 }
