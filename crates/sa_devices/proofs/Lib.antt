@@ -3,3 +3,4 @@ pub mod KeptLemmas
 pub mod LawLemmas
 pub mod SoundLemmas
 pub mod Copying
+pub mod FetchLemmas
