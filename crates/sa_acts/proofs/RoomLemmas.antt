@@ -1,9 +1,9 @@
 -- How the room for activations changes.
 use Rattle.std.proofs.Common.{◌≡◌, ◌≢◌, ℕ, zero, suc, ◌+◌, ◌-◌, ◌≤◌, ◌<◌, ◌^◌, true, false, List, [], ◌∷◌, ◌++◌, All, length, drop, if◌then◌else◌, cond, Option, Some, None, is_some, slice_get, slice_index_or, slice_set, sum_by, replicate, refl, sym, ap, ◌∙◌, subst, inl, inr, arith, length-append}
 use Rattle.std.proofs.Math.Path.{fun_ext}
-use Rattle.std.proofs.lemmas.Bool.{cases_eq, cases_lt}
+use Rattle.std.proofs.lemmas.Bool.{cases_eq, cases_lt, true≢false}
 use Rattle.std.proofs.lemmas.Option.{same_Some}
-use Rattle.std.proofs.lemmas.List.{get_or_past, get_or-set_other, length-drop, length-map, length-set, map-set, set_past}
+use Rattle.std.proofs.lemmas.List.{get_or_default, get_or_past, get_or-set_other, length-drop, length-map, length-set, map-set, set-get_or, set_past}
 use Rattle.std.proofs.lemmas.List.Elements.{All-set}
 use Rattle.std.proofs.lemmas.List.Sums.{sum_by-cons, sum_by-set}
 use Rattle.slab.specs.Slab.{Slab, Updates, get, slab_len, with_value, HasRoomFor}
@@ -115,6 +115,25 @@ first-grown old new s n grown room first k below = elim (cases_eq k s) [
 ]
 
 -- past the queues there is none
+-- where the first queues are all of them, each has room for n numbers
+pub all-have-room : (queues : List QueueView) (s n : ℕ) → length queues ≤ s → FirstHaveRoom s n queues → HaveRoom n queues
+all-have-room queues s n all first k d within =
+    subst (λ (x : QueueView). n ≤ x.room) (get_or_default queues k _ d within) (first k (omega arith))
+
+nothing-dropped : (xs : List ActNo) → slice_get xs 0 ≡ None → drop 1 xs ≡ xs
+nothing-dropped [] none = refl
+nothing-dropped (x ∷ xs) none = absurd (true≢false (ap is_some none))
+
+-- an empty queue stays as it is without its first number
+pub shorter-none : (queues : List QueueView) (s : ℕ) → slice_get (queue_at queues s).numbers 0 ≡ None → shorter queues s ≡ queues
+shorter-none queues s none =
+    ap (λ xs. slice_set queues s (record (queue_at queues s) { numbers = xs })) (nothing-dropped (queue_at queues s).numbers none)
+    ∙ set-get_or queues s (record { numbers = []; room = 0 })
+
+-- the first number of a queue is that of its list
+pub first-number : (queues : List QueueView) (s : ℕ) → slice_get (queue_at queues s).numbers 0 ≡ slice_get (slice_index_or (all_numbers queues) s []) 0
+first-number queues s = ap (λ xs. slice_get xs 0) (sym (numbers-at queues s))
+
 pub none-there : (queues : List QueueView) (s : ℕ) → length queues ≤ s → slice_get (queue_at queues s).numbers 0 ≡ None
 none-there queues s past = ap (λ (q : QueueView). slice_get q.numbers 0) (get_or_past queues s _ past)
 
@@ -407,3 +426,12 @@ module _ {C : Type 0} where
       (acts-updates old new a.0 None u) (numbers-shorter queues s) (used-without old new a u) refl
       ∙ ap (gave (without_first (acts_of (record { table = old; taken = all_numbers queues; spare = spare })) s))
       (sym (ap (λ xs. slice_get xs 0) (numbers-at queues s) ∙ first))
+
+  -- no activation is given back where none was taken
+  pub view-kept : (table : Slab (Act C)) (queues : List QueueView) (spare s : ℕ) → slice_get (queue_at queues s).numbers 0 ≡ None
+      → acts_of (record { table = table; taken = all_numbers (shorter queues s); spare = spare })
+      ≡ gave_back (acts_of (record { table = table; taken = all_numbers queues; spare = spare })) s
+  view-kept table queues spare s none =
+      let v : ActsView C = acts_of (record { table = table; taken = all_numbers queues; spare = spare }) in
+      view-is _ (without_first v s) refl (numbers-shorter queues s) refl refl
+      ∙ ap (gave (without_first v s)) (sym none ∙ first-number queues s)
