@@ -1,6 +1,6 @@
 -- What a change of one space does to the list of spaces and to its counts.
 use Rattle.std.proofs.Common.{◌≡◌, ℕ, ◌+◌, ◌<◌, ◌≤◌, true, false, not, cond, List, length, get_or, set, sym, ap, subst, ◌∙◌, arith}
-use Rattle.std.proofs.lemmas.List.{length-set, get_or_read}
+use Rattle.std.proofs.lemmas.List.{length-set, get_or_read, set-get_or}
 use Rattle.std.proofs.lemmas.List.Sums.{count_by-le-length}
 use Rattle.sa_base.specs.declared.number.SpaceNo.{SpaceNo}
 use Rattle.sa_base.specs.declared.number.ThreadNo.{ThreadNo}
@@ -9,10 +9,10 @@ use Rattle.sa_spaces.specs.Space.{SpaceView}
 use Rattle.sa_laws.specs.State.{SpaceState, thread_in, no_threads}
 use Rattle.sa_laws.specs.Effect.{Effect, effect, effect_of}
 use Rattle.sa_laws.specs.Ends.{are_done, are_at_rest}
-use Rattle.sa_replay.specs.Running.{instr_in, is_running, can_move, CanRun}
+use Rattle.sa_replay.specs.Running.{instr_in, is_running, can_move, CanRun, IsFull}
 use Rattle.sa_replay.specs.Shape.{IsShaped}
 use Rattle.sa_replay.specs.Spaces.{space_in, with_space_in, place_in, run_of, IsCounted, HasRun}
-use Rattle.sa_replay.proofs.ChangeLemmas.{is_there, moves_there}
+use Rattle.sa_replay.proofs.ChangeLemmas.{is_there, moves_there, own_place}
 use Rattle.sa_replay.proofs.CountChanges.{count-set, count-some}
 
 -- a thread that runs is one of a space that is there
@@ -81,6 +81,25 @@ module _ (kept now : List SpaceState) (same : kept ≡ now) (i : ℕ) (s : Space
               subst (λ (e : Effect). IsShaped (space_in now s) t (place_in now s t) e.space) done
               (subst (λ (z : SpaceState). IsShaped z t (thread_in z t).place y) space_is shape);
         }
+
+    -- with that space put back nothing has changed
+    pub kept_there : (y : SpaceState) → y ≡ x → set kept i y ≡ now
+    kept_there y stays = ap (set kept i) (stays ∙ is) ∙ set-get_or kept i x ∙ same
+
+    -- the thread is where that space says, if that is where it was
+    pub stays_placed : (t : ThreadNo) (y : SpaceState) → (thread_in y t).place ≡ (thread_in x t).place → place_in (set kept i y) s t ≡ place_in now s t
+    stays_placed t y stays =
+        ap (λ (spaces : List SpaceState). place_in spaces s t) (set_is y) ∙ own_place now s t y there ∙ stays
+        ∙ ap (λ (z : SpaceState). (thread_in z t).place) space_is
+
+    -- an instruction has no room in that space exactly where it has none in the view
+    pub full_there : (def : SpaceView) (t : ThreadNo) → IsFull x.sync (instr_in def (thread_in x t))
+        → IsFull (space_in now s).sync (instr_in def (thread_in (space_in now s) t))
+    full_there def t full = subst (λ (z : SpaceState). IsFull z.sync (instr_in def (thread_in z t))) space_is full
+
+    pub full_here : (def : SpaceView) (t : ThreadNo) → IsFull (space_in now s).sync (instr_in def (thread_in (space_in now s) t))
+        → IsFull x.sync (instr_in def (thread_in x t))
+    full_here def t full = subst (λ (z : SpaceState). IsFull z.sync (instr_in def (thread_in z t))) (sym space_is) full
 
 -- the place of a space of which a thread can run, or can be put elsewhere, is one of those that are kept
 pub runs_within : (kept now : List SpaceState) → kept ≡ now → (i : ℕ) (s : SpaceNo) → i ≡ s.0 → (def : SpaceView) (t : ThreadNo)

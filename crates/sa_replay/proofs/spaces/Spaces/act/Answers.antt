@@ -1,6 +1,9 @@
-use Rattle.std.proofs.Common.{arith, ap}
+use Rattle.std.proofs.Common.{arith, ap, refl}
+use Rattle.std.proofs.lemmas.Bool.{false≢true}
+use Rattle.std.proofs.lemmas.Result.{IfOk-from_err}
+use Rattle.sa_lemmas.proofs.Results.{on_err}
 use Rattle.sa_laws.specs.Ends.{are_done, are_at_rest}
-use Rattle.sa_replay.proofs.SpaceChanges.{runs_within, runs_there, live_few, restless_few, live_some, restless_some, counted-set, counted-kept, can_run, has_run}
+use Rattle.sa_replay.proofs.SpaceChanges.{runs_within, runs_there, live_few, restless_few, live_some, restless_some, counted-set, counted-kept, can_run, has_run, kept_there, full_there, full_here}
 use Rattle.sa_replay.proofs.spaces.Spaces.act.Goals as goal
 
 pub index_mut-space-requires : goal.index_mut-space-requires
@@ -59,3 +62,32 @@ returns-clause-ok c =
     has_run c.self.inside.spaces.items c.args.self.now c.self.view_is c.from.result c.args.s c.from.ensures
     (runs_there c.args.self.now c.args.def.now c.args.s c.args.t c.requires.can) c.index_mut-space.result.now c.index_mut-space.ensures.value
     c.args.def.now c.args.t c.run.new.self c.run.new.roused.items c.in_ok-run.ensures.ok c.in_ok-run.ensures.shape
+
+pub returns-in_err-run : goal.returns-in_err-run
+returns-in_err-run c =
+    let r = c.from_residual.result in
+    let failed = c.from_residual.ensures.0 in
+    let was = c.in_err-run.ensures in
+    let same =
+    kept_there c.self.inside.spaces.items c.args.self.now c.self.view_is c.from.result c.args.s c.from.ensures
+    (runs_there c.args.self.now c.args.def.now c.args.s c.args.t c.requires.can) c.index_mut-space.result.now c.index_mut-space.ensures.value
+    c.run.new.self was.err.0 in
+    record {
+      ok = IfOk-from_err r _ failed;
+      full = (
+        λ _. full_there c.self.inside.spaces.items c.args.self.now c.self.view_is c.from.result c.args.s c.from.ensures
+            (runs_there c.args.self.now c.args.def.now c.args.s c.args.t c.requires.can) c.index_mut-space.result.now c.index_mut-space.ensures.value
+            c.args.def.now c.args.t (was.full.0 refl),
+        λ _. failed,
+      );
+      err = on_err r (same, was.err.1);
+      room = c.run.ensures.room;
+    }
+
+pub returns-clause-full : goal.returns-clause-full
+returns-clause-full c = (
+  λ failed. absurd (false≢true failed),
+  λ full. c.in_ok-run.ensures.full.1 (full_here c.self.inside.spaces.items c.args.self.now c.self.view_is c.from.result c.args.s c.from.ensures
+      (runs_there c.args.self.now c.args.def.now c.args.s c.args.t c.requires.can) c.index_mut-space.result.now c.index_mut-space.ensures.value
+      c.args.def.now c.args.t full),
+)
