@@ -203,10 +203,7 @@ impl Moment {
     pub fn space_of_life(&self, a: Option<ActNo>) -> Option<SpaceNo>
         ensures { result ≡ space_of_life (seen self.now).readings a }
     {
-        match a {
-            None => None,
-            Some(a) => self.life(a).map(KeptLife::space),
-        }
+        self.parts.lives.space(a)
     }
 
     /// How many processors the space wants, by its last want record.
@@ -294,7 +291,10 @@ impl Moment {
     pub fn carried(&self, p: ProcNo) -> Option<ThreadNo>
         ensures { result ≡ option_map (λ (runner : Runner). runner.thread) (runner_on (seen self.now).readings.state p) }
     {
-        self.runner(p).map(|runner| runner.thread())
+        match self.runner(p) {
+            None => None,
+            Some(runner) => Some(runner.thread()),
+        }
     }
 
     /// A thread of the life's hand is carried or due.
@@ -411,7 +411,10 @@ impl Moment {
         } else {
             self.parts.ready.oldest(s, lock.list)
         };
-        next.map(|x| x.thread)
+        match next {
+            None => None,
+            Some(x) => Some(x.thread),
+        }
     }
 
     /// The number of the life of the last up.
