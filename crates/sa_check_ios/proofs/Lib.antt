@@ -1,3 +1,4 @@
 pub mod Soonest
 pub mod Fetching
 pub mod ReadyLemmas
+pub mod Found

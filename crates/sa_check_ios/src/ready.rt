@@ -106,7 +106,7 @@ impl ReadyLists {
     pub fn has_ready(&self, s: SpaceNo, l: ProcNo) -> bool
         ensures { result ≡ list_any (is_in l) (listed_at self.now s) }
     {
-        self.listed(s).iter().any(|x| is_in(*x, l))
+        first_in(self.listed(s), l).is_some()
     }
 
     /// The thread of the list that was made ready first.

@@ -1,7 +1,7 @@
 // The I/Os under way, in the order of their numbers.
 ghost use Rattle.std.specs.Prelude.{◌≡◌, ◌↔◌, [], ◌∷◌, ◌++◌, find, filter, length, All, Some, IsTrue, IfSome, OnOk, OnErr, slice_get};
 ghost use Rattle.std.specs.List.{list_any};
-ghost use Rattle.std.specs.Option.{option_map};
+ghost use Rattle.std.specs.Option.{option_map, option_copied};
 ghost use Rattle.sa_devices.specs.Ios.{Io, due_of, fetches, is_fetch_of, is_sooner};
 ghost use Rattle.sa_devices.specs.Pages.{HasPage};
 ghost use Rattle.sa_laws.specs.Record.{is_kind_of, is_io_of, is_io_of_other, fetches_other};
@@ -110,14 +110,14 @@ impl UnderWay {
     pub(crate) fn has_life(&self, a: ActNo) -> bool
         ensures { result ≡ list_any (is_io_of a) self.now }
     {
-        self.ios.iter().any(|io| is_of_life(a, io.kind))
+        first_of_life(self.ios.as_slice(), a).is_some()
     }
 
     // Some one fetches the upcall page of the space.
     pub(crate) fn has_fetch(&self, s: SpaceNo) -> bool
         ensures { result ≡ list_any (fetches s.0) self.now }
     {
-        self.ios.iter().any(|io| is_fetch_of(s, io.kind))
+        first_fetch(self.ios.as_slice(), s).is_some()
     }
 
     // How many there are.
@@ -131,7 +131,7 @@ impl UnderWay {
     pub(crate) fn kind_at(&self, k: usize) -> Option<IoKind>
         ensures { result ≡ option_map (λ (io : Io). io.kind) (slice_get self.now k) }
     {
-        self.ios.get(k).map(|io| io.kind)
+        kind_of(self.ios.get(k))
     }
 
     pub(crate) fn is_empty(&self) -> bool
@@ -189,20 +189,26 @@ fn is_fetch_of(s: SpaceNo, kind: IoKind) -> bool
     }
 }
 
+// What the I/O is for, if there is one.
+fn kind_of(io: Option<&BegunIo>) -> Option<IoKind>
+    ensures { result ≡ option_map (λ (io : Io). io.kind) (option_copied io.entry) }
+{
+    match io {
+        None => None,
+        Some(io) => Some(io.kind),
+    }
+}
+
 fn first_of_life(ios: &[BegunIo], a: ActNo) -> Option<IoKind>
     ensures { result ≡ option_map (λ (io : Io). io.kind) (find (is_io_of a) ios.now) }
 {
-    ios.iter()
-        .find(|io| is_of_life(a, io.kind))
-        .map(|io| io.kind)
+    kind_of(ios.iter().find(|io| is_of_life(a, io.kind)))
 }
 
 fn first_fetch(ios: &[BegunIo], s: SpaceNo) -> Option<IoKind>
     ensures { result ≡ option_map (λ (io : Io). io.kind) (find (fetches s.0) ios.now) }
 {
-    ios.iter()
-        .find(|io| is_fetch_of(s, io.kind))
-        .map(|io| io.kind)
+    kind_of(ios.iter().find(|io| is_fetch_of(s, io.kind)))
 }
 
 fn drop_life(ios: &mut Vec<BegunIo>, a: ActNo)
