@@ -1,7 +1,7 @@
 // The I/Os under way, in the order of their numbers.
 ghost use Rattle.std.specs.Prelude.{◌≡◌, ◌↔◌, [], ◌∷◌, ◌++◌, find, filter, length, All, Some, IsTrue, IfSome, OnOk, OnErr, slice_get};
 ghost use Rattle.std.specs.List.{list_any};
-ghost use Rattle.std.specs.Option.{option_map, option_copied};
+ghost use Rattle.std.specs.Option.{option_map};
 ghost use Rattle.sa_devices.specs.Ios.{Io, due_of, fetches, is_fetch_of, is_sooner};
 ghost use Rattle.sa_devices.specs.Pages.{HasPage};
 ghost use Rattle.sa_laws.specs.Record.{is_kind_of, is_io_of, is_io_of_other, fetches_other};
@@ -131,7 +131,10 @@ impl UnderWay {
     pub(crate) fn kind_at(&self, k: usize) -> Option<IoKind>
         ensures { result ≡ option_map (λ (io : Io). io.kind) (slice_get self.now k) }
     {
-        kind_of(self.ios.get(k))
+        match self.ios.get(k) {
+            None => None,
+            Some(io) => Some(io.kind),
+        }
     }
 
     pub(crate) fn is_empty(&self) -> bool
@@ -189,26 +192,26 @@ fn is_fetch_of(s: SpaceNo, kind: IoKind) -> bool
     }
 }
 
-// What the I/O is for, if there is one.
-fn kind_of(io: Option<&BegunIo>) -> Option<IoKind>
-    ensures { result ≡ option_map (λ (io : Io). io.kind) (option_copied io.entry) }
-{
-    match io {
-        None => None,
-        Some(io) => Some(io.kind),
-    }
-}
-
 fn first_of_life(ios: &[BegunIo], a: ActNo) -> Option<IoKind>
     ensures { result ≡ option_map (λ (io : Io). io.kind) (find (is_io_of a) ios.now) }
 {
-    kind_of(ios.iter().find(|io| is_of_life(a, io.kind)))
+    for io in ios {
+        if is_of_life(a, io.kind) {
+            return Some(io.kind);
+        }
+    }
+    None
 }
 
 fn first_fetch(ios: &[BegunIo], s: SpaceNo) -> Option<IoKind>
     ensures { result ≡ option_map (λ (io : Io). io.kind) (find (fetches s.0) ios.now) }
 {
-    kind_of(ios.iter().find(|io| is_fetch_of(s, io.kind)))
+    for io in ios {
+        if is_fetch_of(s, io.kind) {
+            return Some(io.kind);
+        }
+    }
+    None
 }
 
 fn drop_life(ios: &mut Vec<BegunIo>, a: ActNo)
