@@ -223,9 +223,17 @@ fn has_thread(lives: &Shelves, a: u64, s: SpaceNo, t: ThreadNo) -> bool
 fn locks_thread(locks: &[ListLock], t: ThreadNo) -> bool
     ensures { result ≡ list_any (is_of_thread t) locks.now }
 {
-    locks
-        .iter()
-        .any(|lock| lock.thread.is_some_and(|u| t.0 == u.0))
+    locks.iter().any(|lock| is_of_thread(*lock, t))
+}
+
+// It is the lock of the thread.
+fn is_of_thread(lock: ListLock, t: ThreadNo) -> bool
+    ensures { result ≡ is_of_thread t lock }
+{
+    match lock.thread {
+        None => false,
+        Some(u) => t.0 == u.0,
+    }
 }
 
 // Some life of these numbers is in.
@@ -238,7 +246,10 @@ fn some_is_in(lives: &Shelves, numbers: &[u64]) -> bool
 fn is_in(lives: &Shelves, a: u64) -> bool
     ensures { result ≡ is_in a (lives_in lives.now a) }
 {
-    lives.get(a).is_some_and(KeptLife::inside)
+    match lives.get(a) {
+        None => false,
+        Some(life) => life.inside(),
+    }
 }
 
 // Adds a number, if it is not there. An error changes nothing.
