@@ -19,7 +19,12 @@ pub(crate) fn has_entry(records: &[Record]) -> bool
 fn some_is_of_entry(records: &[Record]) -> bool
     ensures { result ≡ list_any is_of_entry records.now }
 {
-    records.iter().any(|what| is_of_entry(what))
+    for what in records {
+        if is_of_entry(what) {
+            return true;
+        }
+    }
+    false
 }
 
 fn is_of_entry(what: &Record) -> bool

@@ -303,7 +303,12 @@ impl Moment {
         ensures { result ≡ has_hand (seen self.now).readings life.now }
     {
         let s = life.space();
-        life.hand().iter().any(|t| self.counts(s, *t))
+        for t in life.hand() {
+            if self.counts(s, *t) {
+                return true;
+            }
+        }
+        false
     }
 
     /// The thread of a hand counts: it is carried or due.
@@ -466,7 +471,12 @@ impl Moment {
         ensures { result ≡ list_any (must_hear (seen self.now).readings) notes.now }
     {
         let lives = &self.parts.lives;
-        notes.iter().any(|note| lives.must_be_told(*note))
+        for note in notes {
+            if lives.must_be_told(*note) {
+                return true;
+            }
+        }
+        false
     }
 
     /// The ready threads of the space, in the order of their ready records.

@@ -206,7 +206,12 @@ fn runs_or_is_blocked(place: Place) -> bool
 fn has_up(records: &[Record]) -> bool
     ensures { result ≡ list_any is_up records.now }
 {
-    records.iter().any(|what| matches!(*what, Record::Up(..)))
+    for what in records {
+        if matches!(*what, Record::Up(..)) {
+            return true;
+        }
+    }
+    false
 }
 
 // How the looks that found no thread are counted on.
