@@ -6,4 +6,5 @@ pub mod Kept
 pub mod Reading
 pub mod OpenedBoard
 pub mod Waits
+pub mod Cases
 pub mod Chain

@@ -1,14 +1,15 @@
 -- The opening: numbers and tables, as far as a loop has come.
-use Rattle.std.proofs.Common.{◌≡◌, ℕ, ◌+◌, ◌*◌, ◌<◌, ◌≤◌, List, [], ◌∷◌, ◌++◌, refl, sym, ap, ◌∙◌, arith, append_assoc}
+use Rattle.std.proofs.Common.{◌≡◌, ℕ, zero, suc, ◌+◌, ◌*◌, ◌<◌, ◌≤◌, List, [], ◌∷◌, ◌++◌, length, refl, sym, ap, ◌∙◌, arith, append_assoc}
 use Rattle.std.specs.List.{range_with_len}
-use Rattle.std.proofs.lemmas.List.{map-append, append-nil}
+use Rattle.std.proofs.lemmas.List.{map-append, append-nil, length-replicate}
 use Rattle.std.proofs.lemmas.List.FromFn.{map-range_with_len_more}
 use Rattle.sa_base.specs.declared.number.ActNo.{ActNo}
 use Rattle.sa_base.specs.declared.limits.TheConstants.{MAX_PROCESSORS}
 use Rattle.sa_assign.specs.Aims.{space_no}
 use Rattle.std.proofs.lemmas.List.Sums.{sum_by-cons}
 use Rattle.sa_spaces.specs.Workload.{WorkloadView, IsWorkload}
-use Rattle.sa_links.specs.Lists.{count_in, count_in_all}
+use Rattle.sa_links.specs.Lists.{Lists, count_in, count_in_all, list_at, with_list}
+use Rattle.sa_links.proofs.Counting.{count-replicate}
 use Rattle.sa_virtual.specs.Virtual.{virtual, of_place, of_places, opening, opening_queue}
 use Rattle.sa_virtual.specs.Holding.{one_where, is_virtual}
 use Rattle.sa_virtual.proofs.Opening.{queue_once, opening_good}
@@ -16,7 +17,7 @@ use Rattle.sa_virtual.proofs.Sums.{one_or_none}
 use Rattle.sa_vp_model.specs.declared.limits.TheConstants.{VIRTUALS}
 use Rattle.sa_vp_model.proofs.Main.{number_small}
 use Rattle.sa_vp_model.proofs.Safe.{queue_count}
-use Rattle.sa_vp_model.specs.Board.{act_numbers}
+use Rattle.sa_vp_model.specs.Board.{act_numbers, empty, first_ready}
 use Rattle.sa_vp.proofs.Rounds.{range-append}
 
 pub place-more : (s k : ℕ) → of_place (s + 1) k ≡ of_place s k ++ virtual (space_no s) k ∷ []
@@ -60,3 +61,24 @@ module _ (w : WorkloadView) (valid : IsWorkload w) (u : ℕ) where
 
   pub queue-once : count_in_all u ([] ∷ []) + count_in u (act_numbers (opening_queue w)) ≤ 1
   queue-once = omega (arith, counted, sum_by-cons (count_in u) [] [], one_or_none (is_virtual w (record { 0 = u })))
+
+-- lists that are empty take a thread
+pub takes-first : (c : Lists) (n : ℕ) → c ≡ empty n → 1 ≤ n
+    → record { list : 0 < length c.lists; thread : 0 < c.nodes; free : count_in_all 0 c.lists ≡ 0 }
+takes-first c n is some =
+    let many = ap (λ (x : Lists). length x.lists) is ∙ length-replicate n [] in
+    let nodes = ap (λ (x : Lists). x.nodes) is in
+    record {
+      list = omega (arith, many, some);
+      thread = omega (arith, nodes);
+      free = ap (λ (x : Lists). count_in_all 0 x.lists) is ∙ count-replicate 0 n;
+    }
+
+-- the first thread becomes ready
+pub first-pushed : (c : Lists) (n : ℕ) → c ≡ empty n → with_list c 0 (0 ∷ list_at c.lists 0) ≡ first_ready n
+first-pushed c n is =
+    ap (λ (x : Lists). with_list x 0 (0 ∷ list_at x.lists 0)) is ∙ ap (λ (ts : List ℕ). with_list (empty n) 0 (0 ∷ ts)) (none n)
+  where
+    none : (k : ℕ) → list_at (empty k).lists 0 ≡ []
+    none zero = refl
+    none (suc k) = refl

@@ -1,5 +1,5 @@
 // The opening of a run.
-ghost use Rattle.std.specs.Prelude.{◌≡◌, ◌≤◌, [], ◌∷◌, None, replicate, IfOk};
+ghost use Rattle.std.specs.Prelude.{◌≡◌, ◌≤◌, [], ◌∷◌, None, length, replicate, IfOk};
 ghost use Rattle.sa_base.specs.declared.limits.TheConstants.{MAX_PROCESSORS};
 ghost use Rattle.sa_vp_model.specs.Board.{empty, first_ready, opened, act_numbers};
 ghost use Rattle.sa_virtual.specs.Virtual.{opening_queue};
@@ -126,15 +126,32 @@ fn opening_rows(alloc: Global, w: &Workload) -> Result<Rows, AllocError>
     })
 }
 
+// All that is kept in tables and lists.
+#[derive(Drop)]
+struct Kept {
+    tables: Tables,
+    rows: Rows,
+}
+
+// The tables and the lists of a workload. Fails only where memory runs out.
+fn opening_kept(alloc: Global, w: &Workload) -> Result<Kept, AllocError>
+    ensures tables { IfOk result (λ kept. IsOpeningTable (length w.now.spaces) w.now.processors kept.tables) }
+    ensures rows { IfOk result (λ kept. AreOpeningRows w.now kept.rows) }
+{
+    let tables = opening_tables(alloc, w.spaces().len(), w.processors())?;
+    Ok(Kept {
+        tables,
+        rows: opening_rows(alloc, w)?,
+    })
+}
+
 impl Parts {
     /// The opening of a workload. Fails only where memory runs out.
     pub(crate) fn start(alloc: Global, w: &Workload) -> Result<Parts, AllocError>
         ensures { IfOk result (λ m. board_of m ≡ opened w.now) }
     {
-        w.ranges();
-        let tables = opening_tables(alloc, w.spaces().len(), w.processors())?;
-        let rows = opening_rows(alloc, w)?;
         let devices = Devices::new(alloc, w)?;
+        let Kept { tables, rows } = opening_kept(alloc, w)?;
         let replay = Replay::start(alloc, w)?;
         Ok(Parts {
             replay,

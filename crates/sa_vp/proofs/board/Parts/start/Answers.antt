@@ -1,14 +1,13 @@
-use Rattle.std.proofs.Common.{List, length, replicate, None, refl, ap, ◌∙◌}
-use Rattle.sa_spaces.specs.Space.{SpaceView}
+use Rattle.std.proofs.Common.{refl}
 use Rattle.sa_vp.proofs.OpenedBoard.{opened-board}
 use Rattle.sa_vp.proofs.board.Parts.start.Goals as goal
 
 pub returns : goal.returns
 returns c =
-    let rows = c.in_ok-rows.rows in
-    let tables = c.in_ok-tables.tables in
-    let lists = c.in_ok-rows.ensures in
-    let made = c.in_ok-tables.ensures in
+    let rows = c.in_ok-tables.field-0.rows in
+    let tables = c.in_ok-tables.field-0.tables in
+    let lists = c.in_ok-tables.ensures.rows in
+    let made = c.in_ok-tables.ensures.tables in
     opened-board (record {
       replay = c.in_ok-replay.replay;
       devices = c.in_ok-devices.devices;
@@ -23,7 +22,5 @@ returns c =
       lost = tables.lost;
       trace = c.new-2.result;
       number = 1;
-    }) c.args.w.now c.in_ok-replay.ensures c.in_ok-devices.ensures lists.queue
-    (made.placed ∙ ap (λ n. replicate n None) c.processors.ensures.value) made.threads made.steps lists.ready lists.work refl
-    (made.blocked ∙ ap (λ (xs : List SpaceView). replicate (length xs) 0) c.spaces.ensures.value)
-    (made.lost ∙ ap (λ (xs : List SpaceView). replicate (length xs) 0) c.spaces.ensures.value) c.new-2.ensures.items refl
+    }) c.args.w.now c.in_ok-replay.ensures c.in_ok-devices.ensures lists.queue made.placed made.threads made.steps lists.ready lists.work refl
+    made.blocked made.lost c.new-2.ensures.items refl
