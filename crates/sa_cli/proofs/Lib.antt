@@ -10,6 +10,7 @@ mod Results
 mod SharedResults
 mod VirtualResults
 mod VpPieces
+mod Told
 mod Explorations
 mod Completeness
 mod TopCalls

@@ -35,3 +35,14 @@ returns-clause-err g c =
     (out-both (g.K.Sink.taken c.args.sink.now) (g.K.Sink.taken c.put.new.sink)
     (g.K.Sink.taken c.put_run.new.sink) c.new-pieces.result c.args.replies.now c.put.new.self text
     c.put_run.new.pieces c.in_ok-put.ensures.ok c.in_ok-put_run.ensures.ok)) c.end.ensures.ok c.end.ensures.err).1
+
+pub returns-clause-ok : goal.returns-clause-ok
+returns-clause-ok g c =
+    let text = trace_text c.args.items.now c.args.end c.args.events in
+    (all-ends (g.K.Sink.taken c.args.sink.now) (g.K.Sink.taken c.put_run.new.sink) (g.K.Sink.taken c.end.new.sink)
+    (c.args.replies.now ++ text) c.put_run.new.pieces c.end.result
+    (subst (λ (v : List ℕ). GoesOut (g.K.Sink.taken c.args.sink.now) (g.K.Sink.taken c.put_run.new.sink) v (c.args.replies.now ++ text) c.put_run.new.pieces)
+    c.new-pieces.ensures
+    (out-both (g.K.Sink.taken c.args.sink.now) (g.K.Sink.taken c.put.new.sink)
+    (g.K.Sink.taken c.put_run.new.sink) c.new-pieces.result c.args.replies.now c.put.new.self text
+    c.put_run.new.pieces c.in_ok-put.ensures.ok c.in_ok-put_run.ensures.ok)) c.end.ensures.ok c.end.ensures.err).0
