@@ -1,1 +1,2 @@
 mod PlainLemmas
+mod Seats

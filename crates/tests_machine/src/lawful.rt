@@ -7,13 +7,14 @@ ghost use Rattle.sa_laws.specs.History.{Test};
 ghost use Rattle.tests_machine.specs.Plain.{GoesFrom, IsAtWork, IsLawful, IsPlain, IsSameSlice};
 
 use crate::fitting::{Bench, fits};
-use sa_base::{MAX_EVENTS, ProcNo, Record, Stopped, ThreadNo, Trace};
+use sa_base::{Item, MAX_EVENTS, ProcNo, Record, Stopped, ThreadNo, Trace};
 use sa_kernel::{Entry, Kernel};
 use sa_kernel_laws::quiet_events_go_on;
 use sa_spaces::Workload;
 use sa_trace::kind_counts;
 use sa_workload::read;
 use std::alloc::{AllocError, Global};
+use std::process::Abort;
 use std::test::Fail;
 
 const TURNS: u64 = 4000;
@@ -158,27 +159,41 @@ fn turn(
     Ok(event)
 }
 
+// The turns of a run, from the opening on. The last event is answered.
+fn go(kernel: &mut Kernel<u64>, trace: &mut Trace, slice: u32) -> Result<u64, AllocError>
+    requires { kernel.old.last ≡ 0 }
+    ensures { IfOk result (λ last. GoesFrom slice 0 last (scene kernel.old trace.old) (scene kernel.new trace.new)) }
+{
+    let mut last = 0;
+    for event in 1..TURNS {
+        let p = ProcNo((event % 5) as u16);
+        last = turn(kernel, trace, slice, last, event, p)?;
+    }
+    Ok(last)
+}
+
 // A run from the opening.
 fn run(alloc: Global, w: &Workload) -> Result<Bench, AllocError>
     ensures { IfOk result (λ b. (test : Test) → (last : ℕ) × IsLawful test w.now last (scene b.kernel b.trace)) }
 {
     let mut trace = Trace::new(alloc);
     let mut kernel = Kernel::start(alloc, w, &mut trace)?;
-    let mut last = 0;
-    for event in 1..TURNS {
-        let p = ProcNo((event % 5) as u16);
-        last = turn(&mut kernel, &mut trace, w.slice(), last, event, p)?;
-    }
+    go(&mut kernel, &mut trace, w.slice())?;
     Ok(Bench { kernel, trace })
+}
+
+// There are records of the kinds that a caller of the kernel brings about.
+fn has_kinds(rt: &impl Abort, items: &[Item]) {
+    let counts = kind_counts(items);
+    for kind in [3, 11, 12, 13, 14, 15, 16, 17, 18, 19, 22] {
+        assert!(rt; counts[kind] > 0, "no record of kind {kind}");
+    }
 }
 
 #[test]
 fn a_caller_keeps_the_laws(rt: HostRuntime) -> Result<(), Fail> {
     let w = read(rt.alloc(), TEXT.as_bytes())?;
     let bench = run(rt.alloc(), &w)?;
-    let counts = kind_counts(bench.trace.items());
-    for kind in [3, 11, 12, 13, 14, 15, 16, 17, 18, 19, 22] {
-        assert!(rt; counts[kind] > 0, "no record of kind {kind}");
-    }
+    has_kinds(&rt, bench.trace.items());
     Ok(())
 }

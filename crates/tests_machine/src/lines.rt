@@ -3,7 +3,6 @@ ghost use Rattle.std.specs.Prelude.{◌≡◌, length};
 
 use sa_base::ProcNo;
 use sa_lines::{Keeper, LineWords, Poller};
-use std::alloc::AllocError;
 use std::test::Fail;
 
 // What the poller of processor 1 reads: at first, then behind its line, behind the line of processor 0, behind another line of
@@ -27,10 +26,8 @@ fn polls(words: &LineWords, keeper: &mut Keeper, poller: &mut Poller) -> [Option
 #[test]
 fn a_poll_finds_what_was_stored_last(rt: HostRuntime) -> Result<(), Fail> {
     let (words, mut keeper, mut pollers) = LineWords::new(rt.alloc(), 2)?;
-    let Some(mut poller) = pollers.pop() else {
-        return Err(Fail::from(AllocError));
-    };
-    let read = polls(&words, &mut keeper, &mut poller);
+    let poller = &mut pollers[1];
+    let read = polls(&words, &mut keeper, poller);
     assert!(rt; poller.proc().0 == 1 && read == [None, Some(7), Some(7), Some(9), None]);
     Ok(())
 }

@@ -4,6 +4,7 @@ ghost use Rattle.sa_base.specs.declared.limits.TheConstants.{MAX_EVENTS};
 ghost use Rattle.sa_core_model.specs.Run.{opening};
 ghost use Rattle.sa_core.specs.View.{machine};
 ghost use Rattle.sa_lines.specs.Seen.{fresh_keeper, fresh_pollers};
+ghost use Rattle.sa_seat.specs.Seat.{AreSeats};
 
 use sa_abstract::UserLevel;
 use sa_core::Core;
@@ -11,7 +12,7 @@ use sa_lines::{Keeper, LineWords, Poller};
 use sa_package::FastThreads;
 use sa_seat::{BurstEnd, Entered, Machine, Named, Seat};
 use sa_workload::read;
-use std::alloc::Global;
+use std::alloc::{AllocError, Global};
 use std::marker::Brand;
 use std::process::Abort;
 use std::sync::Wait;
@@ -35,13 +36,16 @@ const SLICED: &str =
     "workload 2\nprocessors 1\nfetch 10\nslice 6\nspaces 1\nspace 0 0 0 0 1\nprogram 4\ncompute\ncompute\ncompute\nend\nclose\n";
 
 // The seat enters so often, and is answered so each time.
+#[tactic(auto, using(crate::proofs::Seats::entered_proc))]
 fn enter<U: UserLevel, K: Named, R: Wait + Abort>(
     rt: &R,
     machine: &Machine<U, K>,
     seat: &mut Seat<K>,
     times: u16,
     answer: Entered,
-) -> Result<(), Fail> {
+) -> Result<(), Fail>
+    ensures { seat.new.poller.proc ≡ seat.old.poller.proc }
+{
     for _time in 0..times {
         let entered = machine.enter(rt, seat)?;
         assert!(rt; entered == answer);
@@ -57,7 +61,9 @@ fn run_ahead<U: UserLevel, K: Named, R: Wait + Abort>(
     limit: u16,
     why: BurstEnd,
     pending: u16,
-) {
+)
+    ensures { seat.new.poller.proc ≡ seat.old.poller.proc }
+{
     assert!(rt; 1 <= limit && limit <= 64 && seat.pending() == 0);
     let end = seat.burst(machine, limit);
     assert!(rt; end == why && seat.pending() == pending);
@@ -69,7 +75,10 @@ fn do_act<U: UserLevel, K: Named, R: Wait + Abort>(
     machine: &Machine<U, K>,
     seats: &mut [Seat<K>],
     act: Act,
-) -> Result<(), Fail> {
+) -> Result<(), Fail>
+    requires { AreSeats K.workload.processors seats.old }
+    ensures { AreSeats K.workload.processors seats.new }
+{
     match act {
         Act::Enters(p, times, answer) => {
             assert!(rt; p < seats.len());
@@ -89,7 +98,10 @@ fn do_acts<U: UserLevel, K: Named, R: Wait + Abort>(
     machine: &Machine<U, K>,
     seats: &mut [Seat<K>],
     acts: &[Act],
-) -> Result<(), Fail> {
+) -> Result<(), Fail>
+    requires { AreSeats K.workload.processors seats.old }
+    ensures { AreSeats K.workload.processors seats.new }
+{
     for each in acts {
         do_act(rt, machine, seats, *each)?;
     }
@@ -114,7 +126,9 @@ fn play_named<U: UserLevel, K: Named, R: Wait + Abort>(
     requires pollers { pollers.items ≡ fresh_pollers K.table K.workload.processors }
 {
     let (machine, mut seats) = Machine::<U, K>::start(alloc, core, words, keeper, pollers)?;
-    do_acts(rt, &machine, seats.as_mut_slice(), acts)
+    let done = do_acts(rt, &machine, seats.as_mut_slice(), acts);
+    machine.close(seats);
+    done
 }
 
 // The seats of a machine for the workload of the text act so.
@@ -125,8 +139,12 @@ fn play<U: UserLevel, R: Wait + Abort>(
     acts: &[Act],
 ) -> Result<(), Fail> {
     let workload = read(alloc, text.as_bytes())?;
-    let (words, keeper, pollers) = LineWords::new(alloc, workload.processors())?;
+    let processors = workload.processors();
     let core = Core::<U>::start(alloc, workload, 100)?;
+    let Ok((words, keeper, pollers)) = LineWords::new(alloc, processors) else {
+        core.discard();
+        return Err(Fail::from(AllocError));
+    };
     play_named::<U, Brand, R>(rt, alloc, core, words, keeper, pollers, acts)
 }
 
