@@ -1,5 +1,5 @@
 // The words, and how they are made and closed.
-ghost use Rattle.std.specs.Prelude.{◌≡◌, ◌+◌, ◌*◌, ◌<◌, ◌≤◌, [], IfOk, All, replicate};
+ghost use Rattle.std.specs.Prelude.{◌≡◌, ◌+◌, ◌*◌, ◌<◌, ◌≤◌, [], IfOk, All, replicate, vec_capacity};
 ghost use Rattle.atomic_table.specs.Seated.{TableId};
 ghost use Rattle.sa_lines.specs.Words.{fresh_lane, line_word, credit_word};
 ghost use Rattle.sa_lines.specs.declared.view.View.TheVariants.{Keeping};
@@ -51,9 +51,10 @@ impl LineWords {
     {
         let zeros = [0; MAX_WORDS];
         let count = 2 * processors as usize;
+        let mut pollers = Vec::with_capacity(alloc, processors as usize)?;
         let (table, mut seat) = Table::of_words(alloc, &zeros[..count], &processors)?;
         let words = LineWords { table };
-        let pollers = split_all(alloc, &words, &mut seat, processors)?;
+        split_all(&words, &mut seat, processors, &mut pollers);
         Ok((words, Keeper::of(seat), pollers))
     }
 
@@ -82,25 +83,24 @@ pub(crate) fn credit_word(p: ProcNo) -> usize
     2 * p.0 as usize + 1
 }
 
-// Splits the pollers of all processors off the keeper.
+// Splits the pollers of all processors off the keeper. There is room for them.
 fn split_all(
-    alloc: Global,
     words: &LineWords,
     seat: &mut Seat<u8, View>,
     processors: u16,
-) -> Result<Vec<Poller>, AllocError>
+    pollers: &mut Vec<Poller>,
+)
     requires own { seat.old.table_id ≡ words.now }
     requires size { words.now.words ≡ 2 * processors }
     requires fresh { seat.old.me ≡ (Keeping (replicate processors fresh_lane) 0, []) }
+    requires none { pollers.old.items ≡ [] }
+    requires room { processors ≤ vec_capacity pollers.old }
     ensures own { seat.new.table_id ≡ seat.old.table_id }
-    ensures keeper { IfOk result
-        (λ _. seat.new.me ≡ (Keeping (replicate processors fresh_lane) processors, [])) }
-    ensures pollers { IfOk result (λ pollers. pollers.items ≡ fresh_pollers words.now processors) }
+    ensures keeper { seat.new.me ≡ (Keeping (replicate processors fresh_lane) processors, []) }
+    ensures pollers { pollers.new.items ≡ fresh_pollers words.now processors }
 {
-    let mut pollers = Vec::with_capacity(alloc, processors as usize)?;
     for p in 0..processors {
         let poller = words.table.shared.split_seat::<Apart>(seat);
-        pollers.push(Poller::of(ProcNo(p), poller))?;
+        pollers.push_reserved(Poller::of(ProcNo(p), poller));
     }
-    Ok(pollers)
 }
