@@ -43,7 +43,7 @@ fn enter<U: UserLevel, K: Named, R: Wait + Abort>(
     seat: &mut Seat<K>,
     times: u16,
     answer: Entered,
-) -> Result<(), Fail>
+) -> Result<(), AllocError>
     ensures { seat.new.poller.proc ≡ seat.old.poller.proc }
 {
     for _time in 0..times {
@@ -75,7 +75,7 @@ fn do_act<U: UserLevel, K: Named, R: Wait + Abort>(
     machine: &Machine<U, K>,
     seats: &mut [Seat<K>],
     act: Act,
-) -> Result<(), Fail>
+) -> Result<(), AllocError>
     requires { AreSeats K.workload.processors seats.old }
     ensures { AreSeats K.workload.processors seats.new }
 {
@@ -98,7 +98,7 @@ fn do_acts<U: UserLevel, K: Named, R: Wait + Abort>(
     machine: &Machine<U, K>,
     seats: &mut [Seat<K>],
     acts: &[Act],
-) -> Result<(), Fail>
+) -> Result<(), AllocError>
     requires { AreSeats K.workload.processors seats.old }
     ensures { AreSeats K.workload.processors seats.new }
 {
@@ -117,7 +117,7 @@ fn play_named<U: UserLevel, K: Named, R: Wait + Abort>(
     keeper: Keeper,
     pollers: Vec<Poller>,
     acts: &[Act],
-) -> Result<(), Fail>
+) -> Result<(), AllocError>
     requires core { machine core ≡ opening U.calls K.workload }
     requires budget { core.budget ≡ K.budget }
     requires few { K.budget ≤ MAX_EVENTS }
@@ -145,7 +145,8 @@ fn play<U: UserLevel, R: Wait + Abort>(
         core.discard();
         return Err(Fail::from(AllocError));
     };
-    play_named::<U, Brand, R>(rt, alloc, core, words, keeper, pollers, acts)
+    play_named::<U, Brand, R>(rt, alloc, core, words, keeper, pollers, acts)?;
+    Ok(())
 }
 
 const TURN: Entered = Entered::Turned(1);

@@ -13,18 +13,22 @@ fn read_through<S: Source>(rt: &impl Abort, source: &mut S, answers: &[Option<us
     }
 }
 
+/// Writes the piece, and compares the answer.
+fn write_piece<K: Sink>(rt: &impl Abort, sink: &mut K, piece: &[u8], answer: bool) {
+    assert!(rt; sink.write(piece).is_ok() == answer);
+}
+
 /// Writes "abc", "" and "def", and compares the answers.
-fn write_through<K: Sink>(rt: &impl Abort, sink: &mut K, answers: &[bool; 3]) {
-    let pieces = [b"abc".as_slice(), b"", b"def"];
-    for (piece, answer) in pieces.iter().zip(answers) {
-        assert!(rt; sink.write(piece).is_ok() == *answer);
-    }
+fn write_through<K: Sink>(rt: &impl Abort, sink: &mut K, answers: [bool; 3]) {
+    write_piece(rt, sink, b"abc", answers[0]);
+    write_piece(rt, sink, b"", answers[1]);
+    write_piece(rt, sink, b"def", answers[2]);
 }
 
 #[test]
 fn a_sink_in_memory_is_made(rt: HostRuntime) -> Result<(), Fail> {
     let mut sink = MemSink::new(rt.alloc(), 6, Vec::new(rt.alloc()))?;
-    write_through(&rt, &mut sink, &[true, true, true]);
+    write_through(&rt, &mut sink, [true, true, true]);
     assert!(rt; sink.taken() == b"abcdef".as_slice());
     Ok(())
 }
@@ -86,7 +90,7 @@ fn write_halting(
     rt: &impl Abort,
     alloc: Global,
     turns: &[Result<usize, ErrorKind>],
-    answers: &[bool; 3],
+    answers: [bool; 3],
     written: &[u8],
 ) {
     let mut halting = Halting {
@@ -101,7 +105,7 @@ fn write_halting(
 #[test]
 fn an_interrupted_write_is_made_again(rt: HostRuntime) {
     let parts = [Ok(1), AGAIN, Ok(2), Ok(1), AGAIN, Ok(0)];
-    write_halting(&rt, rt.alloc(), &parts, &[true, true, false], b"abcd");
+    write_halting(&rt, rt.alloc(), &parts, [true, true, false], b"abcd");
     let breaks = [Ok(2), AGAIN, BROKEN, Ok(3)];
-    write_halting(&rt, rt.alloc(), &breaks, &[false, true, true], b"abdef");
+    write_halting(&rt, rt.alloc(), &breaks, [false, true, true], b"abdef");
 }
