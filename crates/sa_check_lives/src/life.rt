@@ -1,5 +1,5 @@
 ghost use Rattle.std.specs.Prelude.{◌≡◌, ◌↔◌, ◌+◌, ◌≤◌, ◌++◌, length, vec_len, vec_capacity, not, filter, map, Some, IsTrue, IfOk, OnOk, OnErr, Contains};
-ghost use Rattle.sa_laws.specs.Life.{new_life, has_lock, first_lock, same_thread, without_lock, with_first, change_first, ran, with_hand, inherits, inherited, bereft};
+ghost use Rattle.sa_laws.specs.Life.{new_life, has_lock, first_lock, same_thread, without_lock, change_first, with_hand, inherits, inherited, bereft};
 ghost use Rattle.sa_laws.specs.Record.{one_thread, made_ready};
 ghost use Rattle.sa_check_lives.specs.Change.{changed_by, stepped_by, used_by};
 ghost use Rattle.sa_check_lives.specs.Table.{IsLost};
@@ -190,7 +190,7 @@ impl KeptLife {
                 self.cont = false;
             }
             Change::Ready(t) => self.make_ready(t),
-            Change::Run(t) => self.run(t),
+            Change::Run(t) => use_first(&mut self.locks, Some(t)),
             Change::Take(lock) => self.locks.push(lock)?,
             Change::Free => self.free(),
             Change::Step(stepped) => self.step(stepped)?,
@@ -231,13 +231,6 @@ impl KeptLife {
     {
         take_from(&mut self.hand, t);
         use_first(&mut self.locks, None);
-    }
-
-    // The first lock has got its run record, of the thread.
-    fn run(&mut self, t: ThreadNo)
-        ensures { self.new ≡ with_first (ran t) self.old }
-    {
-        use_first(&mut self.locks, Some(t));
     }
 
     // Frees the first lock.

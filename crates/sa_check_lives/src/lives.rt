@@ -101,8 +101,10 @@ impl Lives {
     pub fn space(&self, a: Option<ActNo>) -> Option<SpaceNo>
         ensures { result ≡ space_at (lives_of self.now) a }
     {
-        let life = self.life(a?)?;
-        Some(life.space())
+        match self.life(a?) {
+            None => None,
+            Some(life) => Some(life.space()),
+        }
     }
 
     /// The number of the life of the last up.
@@ -164,7 +166,10 @@ impl Lives {
         ensures { result ≡ must_be_told (lives_of self.now) note }
     {
         match note {
-            Note::Preempted(a) => !self.life(a).is_some_and(KeptLife::idle),
+            Note::Preempted(a) => match self.life(a) {
+                None => true,
+                Some(life) => !life.idle(),
+            },
             Note::Unblocked(_) => true,
             _ => false,
         }
@@ -435,9 +440,7 @@ impl Lives {
             return Ok(());
         };
         add(&mut self.taken, s, a)?;
-        let upped = self.upped;
-        let alloc = self.alloc;
-        match self.table.hand_over(upped, a, alloc) {
+        match self.table.hand_over(self.upped, a, self.alloc) {
             Ok(()) => Ok(()),
             Err(error) => {
                 undo(&mut self.taken, s);
