@@ -454,16 +454,17 @@ impl Moment {
     pub fn is_stuck(&self) -> bool
         ensures { IsTrue result ↔ IsStuck (seen self.now).readings }
     {
-        if self.are_all_done() || !self.are_all_at_rest() {
+        let parts: &Parts = &self.parts;
+        if self.are_all_done() || !parts.replay.are_all_at_rest() {
             return false;
         }
         if self.is_busy() {
             return false;
         }
-        if !self.are_all_low() {
+        if !parts.board.all_low() {
             return false;
         }
-        !self.some_is_in()
+        !parts.lives.some_is_in()
     }
 
     // The space must be told one of the notices even where it wants no processor.
@@ -484,27 +485,6 @@ impl Moment {
         ensures { result.now ≡ ready_of (seen self.now).readings s }
     {
         self.parts.ready.listed(s)
-    }
-
-    // No thread is ready, runs or is carried.
-    fn are_all_at_rest(&self) -> bool
-        ensures { IsTrue result ↔ (list_all are_at_rest (seen self.now).readings.state.spaces ≡ true) }
-    {
-        self.parts.replay.are_all_at_rest()
-    }
-
-    // No line is raised.
-    fn are_all_low(&self) -> bool
-        ensures { result ≡ list_all is_none (seen self.now).readings.lines }
-    {
-        self.parts.board.all_low()
-    }
-
-    // Some life is in.
-    fn some_is_in(&self) -> bool
-        ensures { IsTrue result ↔ SomeIsIn (seen self.now).readings.lives }
-    {
-        self.parts.lives.some_is_in()
     }
 
     // Nobody locks the list, and a ready thread is in it.

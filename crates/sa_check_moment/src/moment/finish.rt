@@ -130,7 +130,8 @@ impl Moment {
         }
     }
 
-    // The life of this number is in, if it is in use.
+    // The life of this number is in, if it is in use, at the end of an own event with these records that settled it or
+    // did not.
     #[inline(always)]
     fn is_in_if(&self, settled: bool, a: Option<ActNo>, records: &[Record], urged: bool) -> bool
         ensures { result ≡ is_in_if (seen self.now) settled records.now urged
@@ -140,17 +141,12 @@ impl Moment {
             None => false,
             Some(a) => match self.life(a) {
                 None => false,
-                Some(life) => self.is_in(settled, life, records, urged),
+                Some(life) => {
+                    self.is_inside(settled, life)
+                        || (settled && self.owes_pair(life, records, urged))
+                }
             },
         }
-    }
-
-    // The life is in, at the end of an own event with these records that settled it or did not.
-    #[inline(always)]
-    fn is_in(&self, settled: bool, life: &KeptLife, records: &[Record], urged: bool) -> bool
-        ensures { result ≡ is_in (seen self.now) settled records.now urged life.now }
-    {
-        self.is_inside(settled, life) || (settled && self.owes_pair(life, records, urged))
     }
 
     // By rules of ranks: a pair of the life's space exists where pairs are asked for.

@@ -30,7 +30,7 @@ impl Moment {
     {
         let best = self.best_rank(s);
         for q in 0..self.workload().processors() {
-            if self.is_pair_on(s, ProcNo(q), best) {
+            if self.outranked_by(s, ProcNo(q), best).is_some() {
                 return true;
             }
         }
@@ -117,15 +117,6 @@ impl Moment {
         } else {
             None
         }
-    }
-
-    // The thread on the processor is in a pair of the space.
-    fn is_pair_on(&self, s: SpaceNo, q: ProcNo, best: Option<u16>) -> bool
-        requires { (rank : ℕ)
-            → is_outranked (space_at (seen self.now).readings.state s) rank ≡ is_below rank best }
-        ensures { result ≡ is_pair_on (seen self.now).readings s q.0 }
-    {
-        self.outranked_by(s, q, best).is_some()
     }
 
     // The thread on another processor is in a pair, and of a lower rank, or of the same on a lower processor.

@@ -62,7 +62,7 @@ impl Moment {
         ensures { IsTrue result ↔ Needs (seen self.now).workload p (seen self.now).readings what.now }
     {
         let beyond = self.beyond(what);
-        self.allows_with(p, what, &beyond)
+        self.parts.replay.allows(p, what, &beyond)
     }
 
     /// An event of this number and processor begins: its evictions are done, and its processor's line is low.
@@ -131,15 +131,6 @@ impl Moment {
         Ok(self)
     }
 
-    // Whether the needs of a record hold, beside what is beyond the abstract machine's state.
-    #[inline(always)]
-    fn allows_with(&self, p: ProcNo, what: &Record, beyond: &Beyond) -> bool
-        ensures { let m = seen self.now in
-            IsTrue result ↔ NeedsWith m.workload p m.readings.state beyond.now what.now }
-    {
-        self.parts.replay.allows(p, what, beyond)
-    }
-
     // What the record's needs look at beyond the abstract machine's state.
     #[inline(always)]
     fn beyond(&self, what: &Record) -> Beyond
@@ -174,12 +165,15 @@ impl Moment {
         }
     }
 
-    // At a take: it is for a push.
+    // At a take: it is for a push, as a thread of the hand of the life that runs on the processor counts.
     fn push_at(&self, p: ProcNo, what: &Record) -> bool
         ensures { ReadsPush (seen self.now).readings p what.now result }
     {
         match *what {
-            Record::Take(..) => self.is_for_push(p),
+            Record::Take(..) => match self.life_on(p) {
+                None => false,
+                Some(life) => self.has_hand(life),
+            },
             _ => false,
         }
     }
@@ -191,16 +185,6 @@ impl Moment {
         match *what {
             Record::Ready(..) => self.first_list(p),
             _ => p,
-        }
-    }
-
-    // A take of the life that runs on the processor would be for a push.
-    fn is_for_push(&self, p: ProcNo) -> bool
-        ensures { IsForPush (seen self.now).readings p result }
-    {
-        match self.life_on(p) {
-            None => false,
-            Some(life) => self.has_hand(life),
         }
     }
 
