@@ -107,22 +107,13 @@ impl Board {
             Record::Aim(q, s) => put(&mut self.aims, q.0, s),
             Record::Line(q) => put(&mut self.lines, q.0, Some(event)),
             Record::Up(..) => put(&mut self.marks, p.0, false),
-            Record::Want(s, n) => self.want(p, last, s, n),
+            Record::Want(s, n) => {
+                let mark = mark_after(last, self.demand(s), n, self.mark(p));
+                put(&mut self.marks, p.0, mark);
+                put(&mut self.demands, s.0, n);
+            }
             _ => {}
         }
-    }
-
-    // The space wants this many processors, by a record of the processor; `last` is the record of its event before it.
-    fn want(&mut self, p: ProcNo, last: Option<Record>, s: SpaceNo, n: u16)
-        ensures { self.new ≡ let b = self.old in record b {
-            marks = slice_set b.marks p.0
-                (mark_after last (slice_index b.demands s.0) n (slice_index_or b.marks p.0 false));
-            demands = slice_set b.demands s.0 n;
-        } }
-    {
-        let mark = mark_after(last, self.demand(s), n, self.mark(p));
-        put(&mut self.marks, p.0, mark);
-        put(&mut self.demands, s.0, n);
     }
 
     fn mark(&self, p: ProcNo) -> bool

@@ -1,8 +1,8 @@
 // A moment of a history.
 #![tactic(auto, unfolding(crate::specs::Seen::seen))]
 
-ghost use Rattle.std.specs.Prelude.{◌≡◌, ◌≢◌, ◌↔◌, ◌≤◌, true, [], length, is_none, IfOk, IsTrue};
-ghost use Rattle.std.specs.List.{list_any, list_all};
+ghost use Rattle.std.specs.Prelude.{◌≡◌, ◌≢◌, ◌↔◌, ◌≤◌, true, [], length, IfOk, IsTrue};
+ghost use Rattle.std.specs.List.{list_any};
 ghost use Rattle.std.specs.Option.{option_copied, option_map};
 ghost use Rattle.sa_spaces.specs.Workload.{WorkloadView};
 ghost use Rattle.sa_devices.specs.Ios.{Io, due_of};
@@ -11,8 +11,7 @@ ghost use Rattle.sa_laws.specs.Readings.{opening_readings, owner_of, aim_of, lin
 ghost use Rattle.sa_laws.specs.Closing.{must_want};
 ghost use Rattle.sa_laws.specs.Turns.{AnotherHas};
 ghost use Rattle.sa_laws.specs.Locks.{HoldsLock, next_thread, list_round, IsFirstOpen};
-ghost use Rattle.sa_laws.specs.Ends.{are_at_rest, IsAllDone, IsStuck};
-ghost use Rattle.sa_check_lives.specs.Table.{SomeIsIn};
+ghost use Rattle.sa_laws.specs.Ends.{IsAllDone, IsStuck};
 ghost use Rattle.sa_check_lives.specs.View.{lives_of, no_lives};
 ghost use Rattle.sa_check_ios.specs.PendingView as pending;
 ghost use Rattle.sa_check_ios.specs.Ready.{first_ready};

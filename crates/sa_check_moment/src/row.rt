@@ -95,7 +95,10 @@ impl RankedRow {
     pub(crate) fn newest(&self, rank: u16) -> Option<ThreadNo>
         ensures { result ≡ newest (row_stack self.now rank) }
     {
-        self.stacks.get(usize::from(rank))?.last()
+        match self.stacks.get(usize::from(rank)) {
+            None => None,
+            Some(stack) => stack.last(),
+        }
     }
 }
 

@@ -7,9 +7,8 @@ ghost use Rattle.sa_laws.specs.Readings.{Readings, running_of, life_if};
 ghost use Rattle.sa_laws.specs.History.{is_up, is_running_or_blocked};
 ghost use Rattle.sa_check_lives.specs.View.{lives_of};
 ghost use Rattle.sa_check_moment.specs.Seen.{seen, event, at_end, lowers};
-ghost use Rattle.sa_check_moment.specs.declared.rules.Rules.TheVariants.{Priorities};
 ghost use Rattle.sa_check_moment.specs.Urged.{asks_last};
-ghost use Rattle.sa_check_moment.specs.Ending.{IsOver, is_inside_at, owes_by, owes_pair, is_in, is_in_if, settles_by, scan_by, step_with, step_by, up_by, stepped_if, arisen_if};
+ghost use Rattle.sa_check_moment.specs.Ending.{IsOver, is_inside_at, owes_pair, is_in_if, settles_by, scan_by, step_by, up_by, stepped_if, arisen_if};
 
 use crate::has_entry;
 use crate::moment::{Moment, Parts};
@@ -30,7 +29,10 @@ impl Moment {
     {
         Start {
             running: self.running(p),
-            lowers: self.lowers(records),
+            lowers: match records {
+                [Record::Want(s, n), ..] => *n < self.demand(*s),
+                _ => false,
+            },
         }
     }
 
@@ -59,17 +61,6 @@ impl Moment {
         Ok(self)
     }
 
-    // The first record is a want of less than its space announced before.
-    #[inline(always)]
-    fn lowers(&self, records: &[Record]) -> bool
-        ensures { result ≡ lowers (seen self.now).readings records.now }
-    {
-        match records {
-            [Record::Want(s, n), ..] => *n < self.demand(*s),
-            _ => false,
-        }
-    }
-
     // What becomes of the life that ran before the event, if the event is a step of it.
     #[inline(always)]
     fn step_by(&self, records: &[Record], start: Start, urged: bool) -> Option<Stepped>
@@ -79,29 +70,16 @@ impl Moment {
             [] => None,
             [first, ..] => {
                 if is_step(*first) {
-                    Some(self.step_with(first, records, start, urged))
+                    let settled = self.settles_by(start.lowers, first);
+                    Some(Stepped {
+                        freed: matches!(*first, Record::Free(..)),
+                        scan: scan_by(start.lowers, first),
+                        inside: self.is_in_if(settled, start.running, records, urged),
+                    })
                 } else {
                     None
                 }
             }
-        }
-    }
-
-    // The same of an event that begins with this record.
-    #[inline(always)]
-    fn step_with(&self, first: &Record, records: &[Record], start: Start, urged: bool) -> Stepped
-        ensures { result
-            ≡ step_with (seen self.now) start.lowers start.running urged records.now first.now }
-    {
-        Stepped {
-            freed: matches!(*first, Record::Free(..)),
-            scan: scan_by(start.lowers, first),
-            inside: self.is_in_if(
-                self.settles_by(start.lowers, first),
-                start.running,
-                records,
-                urged,
-            ),
         }
     }
 
@@ -155,19 +133,8 @@ impl Moment {
     {
         match self.rules() {
             Rules::FastThreads => false,
-            Rules::Priorities => self.pair_is_found(life, records, urged),
-        }
-    }
-
-    // A pair of the life's space exists where pairs are asked for.
-    fn pair_is_found(&self, life: &KeptLife, records: &[Record], urged: bool) -> bool
-        requires { (seen self.now).rules ≡ Priorities }
-        ensures { result ≡ owes_by Priorities (seen self.now) records.now urged life.now }
-    {
-        if asks_last(records) {
-            self.has_pair(life.space())
-        } else {
-            urged
+            Rules::Priorities if asks_last(records) => self.has_pair(life.space()),
+            Rules::Priorities => urged,
         }
     }
 

@@ -4,7 +4,7 @@
 ghost use Rattle.std.specs.Prelude.{◌≡◌, ◌↔◌, ◌<◌, ℕ, IsTrue};
 ghost use Rattle.sa_laws.specs.State.{space_at};
 ghost use Rattle.sa_laws.specs.Readings.{life_if};
-ghost use Rattle.sa_ranks.specs.Pairs.{is_outranked, outranked_on, is_pair_on, has_pair, IsLowest};
+ghost use Rattle.sa_ranks.specs.Pairs.{is_outranked, outranked_on, has_pair, IsLowest};
 ghost use Rattle.sa_ranks.specs.Locks.{next_by_rank};
 ghost use Rattle.sa_check_moment.specs.Ranked.{is_below};
 ghost use Rattle.sa_check_moment.specs.declared.rules.Rules.TheVariants.{Priorities};
@@ -78,19 +78,10 @@ impl Moment {
     {
         match self.rules() {
             Rules::FastThreads => false,
-            Rules::Priorities => self.has_pair_of(a),
-        }
-    }
-
-    // The life of this number is in use, and a pair of its space exists.
-    fn has_pair_of(&self, a: Option<ActNo>) -> bool
-        requires { (seen self.now).rules ≡ Priorities }
-        ensures { let m = seen self.now in
-            result ≡ urged_by Priorities m.workload m.readings (life_if m.readings a) }
-    {
-        match self.space_of_life(a) {
-            None => false,
-            Some(s) => self.has_pair(s),
+            Rules::Priorities => match self.space_of_life(a) {
+                None => false,
+                Some(s) => self.has_pair(s),
+            },
         }
     }
 

@@ -1,4 +1,4 @@
-use Rattle.std.proofs.Common.{◌≡◌, ◌+◌, ◌∙◌, ap, refl, rules}
+use Rattle.std.proofs.Common.{◌≡◌, ◌+◌, ◌∙◌, ap, refl}
 use Rattle.sa_check_lives.specs.View.{lives_of}
 use Rattle.sa_check_moment.specs.KeptFields.{kept_in}
 use Rattle.sa_check_moment.specs.Seen.{Kept, seen}
@@ -23,7 +23,7 @@ returns c before runs low over =
     ∙ ap (λ x. arisen_if (up_by (seen m) p urged records) p (stepped_if x start.running (lives_of parts.lives))) step
     ∙ ap (λ (k : Kept). arisen_if (up_by (seen m) p urged records) p (stepped_if (step_by (seen m) start.lowers start.running urged records) start.running
     (lives_of k.lives))) same in
-    let count : c.in_ok-parts.field-0 ≡ parts.number + 1 = search rules in
+    let count : c.in_ok-parts.field-0 ≡ parts.number + 1 = c.in_ok-parts.ensures.number in
     finish-whole m _ before c.args.number p records urged start.running start.lowers over runs low
     (ap (λ (k : Kept). k.rules) same) (ap (λ (k : Kept). k.workload) same) (count ∙ ap (λ (k : Kept). k.number + 1) same) (ap (λ (k : Kept). k.state) same)
     (ap (λ (k : Kept). k.board) same) lives

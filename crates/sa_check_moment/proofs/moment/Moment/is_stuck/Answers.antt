@@ -11,9 +11,10 @@ use Rattle.sa_check_moment.proofs.moment.Moment.is_stuck.Goals as goal
 pub returns-then-not-all_low : goal.returns-then-not-all_low
 unfolding seen
 returns-then-not-all_low c =
-    let same = ap kept_in c.deref-parts.ensures ∙ c.self.view_is in
-    (λ f. let bad : false ≡ true = f in cc,
-      λ stuck. c.if-not-all_low.ensures ∙ ap (λ (k : Kept). list_all is_none k.board.lines) same ∙ are_low _ stuck)
+    let same = ap kept_in c.deref-parts.ensures ∙ c.self.view_is in (
+      λ f. let bad : false ≡ true = f in cc,
+      λ stuck. c.if-not-all_low.ensures ∙ ap (λ (k : Kept). list_all is_none k.board.lines) same ∙ are_low _ stuck,
+    )
 
 pub returns : goal.returns
 unfolding seen

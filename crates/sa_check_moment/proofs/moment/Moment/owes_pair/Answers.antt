@@ -8,9 +8,3 @@ pub returns-in-FastThreads : goal.returns-in-FastThreads
 returns-in-FastThreads c =
     let m = seen c.args.self.now in
     subst (λ (k : Rules). false ≡ owes_by k m c.args.records.now c.args.urged c.args.life.now) c.in-FastThreads.ensures refl
-
-pub returns-in-Priorities : goal.returns-in-Priorities
-returns-in-Priorities c =
-    let m = seen c.args.self.now in
-    subst (λ (k : Rules). c.pair_is_found.result ≡ owes_by k m c.args.records.now c.args.urged c.args.life.now) c.in-Priorities.ensures
-    c.pair_is_found.ensures
