@@ -1,6 +1,8 @@
 -- Changes of aims that are made one after another.
 use Rattle.std.proofs.Common.{◌≡◌, ℕ, suc, ◌+◌, ◌-◌, ◌<◌, List, [], ◌∷◌, ◌++◌, Bool, Option, Some, sym, ap, ◌∙◌, append_assoc, arith}
+use Rattle.std.specs.Option.{option_to_list}
 use Rattle.sa_base.specs.declared.number.SpaceNo.{SpaceNo}
+use Rattle.sa_base.specs.declared.record.Record.{Record}
 use Rattle.sa_assign.specs.Aims.{Change, aims_after, changes_for, change_to, choice, changes_from, missing}
 use Rattle.sa_assign.proofs.ReaimLemmas.{aims_after-append}
 use Rattle.sa_check.specs.Reaimed.{carried}
@@ -13,6 +15,14 @@ carried-append xs ys x =
     let aims = aims_after-append x.0 xs ys in
     let cs = sym (append_assoc x.1 xs ys) in
     λ i. (aims i, cs i)
+
+-- an aim is told, and the line after it, if there is one
+pub and-line : (before first second told rest : List Record) (aim : Record) (line : Option Record) → first ≡ before ++ aim ∷ []
+    → second ≡ first ++ option_to_list line → option_to_list line ≡ told → second ++ rest ≡ before ++ aim ∷ (told ++ rest)
+and-line before first second told rest aim line is_first is_second is_told =
+    ap (λ (xs : List Record). xs ++ rest) (is_second ∙ ap (λ (xs : List Record). xs ++ option_to_list line) is_first
+    ∙ ap (λ (xs : List Record). (before ++ aim ∷ []) ++ xs) is_told)
+    ∙ append_assoc (before ++ aim ∷ []) told rest ∙ append_assoc before (aim ∷ []) (told ++ rest)
 
 -- one change for a space, where a processor was chosen
 pub filled-some : (missing i : ℕ) (shares : List ℕ) (marks : List Bool) (s p : ℕ) (x y : Made) → i < missing → choice shares marks x.0 ≡ Some p

@@ -27,15 +27,13 @@ pub(crate) fn gather(
 {
     records.clear();
     records.push(first.what)?;
-    let mut said = reader.next().map_err(Unread::Bad)?;
-    while let Said::Next(item) = said {
-        if !is_with(first, &item) {
-            return Ok(said);
+    loop {
+        match reader.next() {
+            Ok(Said::Next(item)) if is_with(first, &item) => records.push(item.what)?,
+            Ok(said) => return Ok(said),
+            Err(bad) => return Err(Unread::Bad(bad)),
         }
-        records.push(item.what)?;
-        said = reader.next().map_err(Unread::Bad)?;
     }
-    Ok(said)
 }
 
 // The items are of one event.

@@ -1,13 +1,14 @@
 // The opening and the numbering of events.
-ghost use Rattle.std.specs.Prelude.{◌≡◌, ◌++◌, ◌↔◌, is_none, slice_set, IsTrue, IfOk, OnOk};
-ghost use Rattle.sa_assign.specs.Reaim.{line_at, raised, records_of};
+ghost use Rattle.std.specs.Prelude.{◌≡◌, ◌++◌, ◌↔◌, slice_set, IsTrue, IfOk, OnOk};
+ghost use Rattle.std.specs.Option.{option_to_list};
+ghost use Rattle.sa_assign.specs.Reaim.{line_at, line_records, raised, records_of};
 ghost use Rattle.sa_laws.specs.Opening.{IsNumbered, first_wants, opening_records, opening_event};
 ghost use Rattle.sa_check_shapes.specs.Due.{changes_of};
 ghost use Rattle.sa_check_moment.specs.Seen.{seen, event};
 ghost use Rattle.sa_check.specs.Wanting.{wanting};
 
 use crate::aims::aims_due;
-use crate::closing_records::are_same;
+use crate::closing_records::{add, are_same};
 use sa_base::{ProcNo, Record, SpaceNo};
 use sa_check_moment::{Moment, Rules};
 use sa_check_shapes::Aimed;
@@ -111,27 +112,22 @@ fn add_raised(
 {
     for aimed in due {
         records.push(Record::Aim(aimed.proc, Some(aimed.space)))?;
-        if raise(number, lines, aimed.proc) {
-            records.push(Record::Line(aimed.proc))?;
-        }
+        add(records, raise(number, lines, aimed.proc))?;
     }
     Ok(())
 }
 
-// The event raises the line of the processor, and whether it was low. It is low where there is no such processor.
-fn raise(number: u64, lines: &mut Vec<Option<u64>>, p: ProcNo) -> bool
-    ensures low { result ≡ is_none (line_at lines.old.items p.0) }
+// The event raises the line of the processor; the record of that, where it was low. It is low where there is no such processor.
+fn raise(number: u64, lines: &mut Vec<Option<u64>>, p: ProcNo) -> Option<Record>
+    ensures told { option_to_list result ≡ line_records p.0 (line_at lines.old.items p.0) }
     ensures raised { lines.new.items
         ≡ slice_set lines.old.items p.0 (raised number (line_at lines.old.items p.0)) }
 {
-    match lines.get_mut(usize::from(p.0)) {
-        None => true,
-        Some(line) => {
-            let low = line.is_none();
-            if low {
-                *line = Some(number);
-            }
-            low
+    if let Some(line) = lines.get_mut(usize::from(p.0)) {
+        if line.is_some() {
+            return None;
         }
+        *line = Some(number);
     }
+    Some(Record::Line(p))
 }

@@ -44,7 +44,12 @@ fn keeps_first(workload: &Workload, number: u64) -> bool
 fn are_quiet(records: &[Record]) -> bool
     ensures { result ≡ list_all is_quiet_record records.now }
 {
-    records.iter().all(|what| is_quiet_record(what))
+    for what in records {
+        if !is_quiet_record(what) {
+            return false;
+        }
+    }
+    true
 }
 
 // The record changes no demand, no aim, no line, no I/O under way, no owner, nothing untold, and neither which lives run

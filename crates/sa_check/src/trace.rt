@@ -34,12 +34,13 @@ pub fn check(
     ensures { IsChecked (rules_of rules) workload.now (read_of text.now) result }
 {
     let mut reader = Reader::new(text);
-    match reader.next().map_err(Unread::Bad)? {
-        Said::Next(first) => judge_events(alloc, rules, workload, &mut reader, first),
-        Said::Last(..) => Ok(Verdict::Broken {
+    match reader.next() {
+        Ok(Said::Next(first)) => judge_events(alloc, rules, workload, &mut reader, first),
+        Ok(Said::Last(..)) => Ok(Verdict::Broken {
             event: 0,
             rule: Rule::Numbered,
         }),
+        Err(bad) => Err(Unread::Bad(bad)),
     }
 }
 
@@ -123,7 +124,10 @@ fn unless_bad(
 {
     let mut now = said;
     while let Said::Next(_) = now {
-        now = reader.next().map_err(Unread::Bad)?;
+        match reader.next() {
+            Ok(next) => now = next,
+            Err(bad) => return Err(Unread::Bad(bad)),
+        }
     }
     found
 }

@@ -1,5 +1,5 @@
-use Rattle.std.proofs.Common.{refl, ap, inl, inr, length, arith, below_more, []}
-use Rattle.std.proofs.lemmas.Bool.{cases_lt}
+use Rattle.std.proofs.Common.{refl, sym, ◌∙◌, ap, inl, inr, length, arith, below_more, []}
+use Rattle.std.proofs.lemmas.Bool.{cases_lt, false≢true}
 use Rattle.std.proofs.lemmas.List.{get_or_past}
 use Rattle.sa_spaces.specs.Workload.{WorkloadView}
 use Rattle.sa_assign.specs.Aims.{space_no}
@@ -8,8 +8,8 @@ use Rattle.sa_check.proofs.prompt.is_told_in_time.Goals as goal
 
 pub returns-then-not-is_prompt_to : goal.returns-then-not-is_prompt_to
 returns-then-not-is_prompt_to c = (
-  λ e. absurd (cc),
-  λ prompt. absurd (let held = c.is_prompt_to.ensures.1 (record { told = prompt.each (space_no c.loop-s.s) }) in let not_so = c.if-not-is_prompt_to.true in cc),
+  λ e. absurd (false≢true e),
+  λ prompt. absurd (false≢true (sym c.if-not-is_prompt_to.true ∙ c.is_prompt_to.ensures.1 (record { told = prompt.each (space_no c.loop-s.s) }))),
 )
 
 pub loop-s-preserved : goal.loop-s-preserved

@@ -1,6 +1,6 @@
-use Rattle.std.proofs.Common.{◌≡◌, ◌≤◌, Bool, true, false, ◌&&◌, ◌==◌, List, [], refl, ◌∙◌, ap, inl, inr, length, arith}
+use Rattle.std.proofs.Common.{◌≡◌, ◌≤◌, Bool, true, false, ◌&&◌, ◌==◌, List, [], refl, sym, ◌∙◌, ap, inl, inr, length, arith}
 use Rattle.std.specs.List.{list_any}
-use Rattle.std.proofs.lemmas.Bool.{cases_lt}
+use Rattle.std.proofs.lemmas.Bool.{cases_lt, false≢true}
 use Rattle.std.proofs.lemmas.List.{get_or_past}
 use Rattle.sa_base.specs.declared.number.SpaceNo.{SpaceNo}
 use Rattle.sa_base.specs.declared.record.Note.{Note}
@@ -22,7 +22,7 @@ nothing-past r s past =
 
 pub returns-then-must_want : goal.returns-then-must_want
 returns-then-must_want c =
-    (λ e. absurd (cc), λ none. let same = none (space_no c.loop-s.s) in let is = c.must_want.ensures in let so = c.if-must_want.true in absurd (cc))
+    (λ e. absurd (false≢true e), λ none. absurd (false≢true (sym (none (space_no c.loop-s.s)) ∙ sym c.must_want.ensures ∙ c.if-must_want.true)))
 
 pub returns : goal.returns
 returns c =

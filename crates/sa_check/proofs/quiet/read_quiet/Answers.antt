@@ -1,5 +1,6 @@
 use Rattle.std.proofs.Common.{◌≡◌, ◌+◌, List, [], ◌∷◌, length, true, false, take, drop, get_or, refl, sym, ◌∙◌, ap, subst, arith}
 use Rattle.std.proofs.Math.Seq.{take-length}
+use Rattle.std.proofs.lemmas.Bool.{false≢true, true≢false}
 use Rattle.std.proofs.lemmas.List.{drop_more, drop_all}
 use Rattle.sa_base.specs.declared.record.Record.{Record}
 use Rattle.sa_laws.specs.Step.{AreSteps}
@@ -24,7 +25,7 @@ returns-then-not-allows c =
     let i = c.loop-what.what-index in
     let x = get_or e.records i no_record in
     no-step now (seen c.args.moment) e (drop i e.records) x (drop (i + 1) e.records) (drop_more e.records i no_record c.loop-what-test.true)
-    (λ needs. let yes = c.allows.ensures.1 needs in let no = c.if-not-allows.true in cc) c.loop-what.invariant.steps
+    (λ needs. false≢true (sym c.if-not-allows.true ∙ c.allows.ensures.1 needs)) c.loop-what.invariant.steps
 
 pub loop-what-preserved : goal.loop-what-preserved
 loop-what-preserved c =
@@ -68,10 +69,10 @@ returns c =
         heard = (λ _. each-quiet RaisesLine heard-holds m.workload e.number e.proc m.readings e.records quiet, λ _. found.heard);
       };
       due = record {
-        urged = λ early. absurd (let clash : true ≡ false = sym (quiet-asks e.records quiet) ∙ early in cc);
+        urged = λ early. absurd (true≢false (sym (quiet-asks e.records quiet) ∙ early));
         wants = (λ _. c.requires.none.wants, λ _. c.new-2.ensures.wants);
         aims = (λ _. c.requires.none.aims, λ _. c.new-2.ensures.aims);
-        covered = λ yes. absurd (let clash : false ≡ true = sym c.new-2.ensures.covered ∙ yes in cc);
+        covered = λ yes. absurd (false≢true (sym c.new-2.ensures.covered ∙ yes));
         lines = (λ _. c.requires.none.lines, λ _. c.new-2.ensures.lines);
       };
     }

@@ -1,6 +1,7 @@
 use Rattle.std.proofs.Common.{◌≡◌, ◌+◌, List, [], ◌∷◌, length, take, drop, get_or, refl, sym, ◌∙◌, ap, subst, arith}
 use Rattle.std.specs.Prelude.{IsTrue}
 use Rattle.std.proofs.Math.Seq.{take-length}
+use Rattle.std.proofs.lemmas.Bool.{false≢true}
 use Rattle.std.proofs.lemmas.List.{drop_more, drop_all}
 use Rattle.sa_base.specs.declared.record.Record.{Record}
 use Rattle.sa_laws.specs.Step.{AreSteps}
@@ -43,7 +44,7 @@ returns-then-not-allows c =
     let x = get_or e.records c.loop-i.i no_record in
     no-step now (seen c.args.moment) e (drop c.loop-i.i e.records) x (drop (c.loop-i.i + 1) e.records)
     (drop_more e.records c.loop-i.i no_record c.loop-i-test.true)
-    (λ needs. let yes = c.allows.ensures.1 needs in let no = c.if-not-allows.true in cc) c.loop-i.invariant.steps
+    (λ needs. false≢true (sym c.if-not-allows.true ∙ c.allows.ensures.1 needs)) c.loop-i.invariant.steps
 
 pub loop-i-preserved : goal.loop-i-preserved
 loop-i-preserved c =
