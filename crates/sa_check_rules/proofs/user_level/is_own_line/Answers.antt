@@ -1,9 +1,11 @@
-use Rattle.std.proofs.Common.{◌≡◌, sym, ◌∙◌, false, true, Some, None}
+use Rattle.std.proofs.Common.{sym, ◌∙◌}
+use Rattle.std.proofs.lemmas.Bool.{false≢true}
+use Rattle.std.proofs.lemmas.Option.{none-some}
 use Rattle.sa_check_rules.proofs.user_level.is_own_line.Goals as goal
 
 pub returns-in-None : goal.returns-in-None
 returns-in-None c =
-    (λ yes. absurd (let clash : false ≡ true = yes in cc), λ is. absurd (let clash : None ≡ Some is.space = c.in-None.ensures ∙ is.owned in cc))
+    (λ yes. absurd (false≢true yes), λ is. absurd (none-some is.space (c.in-None.ensures ∙ is.owned)))
 
 pub returns-in-Some : goal.returns-in-Some
 returns-in-Some c = let found = c.is_own_line_in.ensures in (
