@@ -1,8 +1,10 @@
 -- What a session keeps from command to command.
 use Rattle.std.proofs.Common.{◌≡◌, ℕ, suc, ◌+◌, ◌<◌, ◌≤◌, List, ◌++◌, length, take, None, Result, Ok, Err, OnOk, OnErr, refl, sym, ap, ◌∙◌, subst, arith, length-append}
-use Rattle.std.proofs.lemmas.List.{take-append-le}
+use Rattle.std.proofs.lemmas.List.{take-append-le, take_all}
 use Rattle.sa_base.specs.declared.limits.TheConstants.{MAX_EVENTS, MAX_PROCESSORS}
 use Rattle.sa_base.specs.declared.number.ProcNo.{ProcNo}
+use Rattle.sa_base.specs.declared.number.SpaceNo.{SpaceNo}
+use Rattle.sa_base.specs.declared.number.ThreadNo.{ThreadNo}
 use Rattle.sa_base.specs.declared.record.Item.{Item}
 use Rattle.sa_spaces.specs.Workload.{WorkloadView, IsWorkload}
 use Rattle.sa_abstract.specs.Calls.{Calls}
@@ -16,7 +18,8 @@ use Rattle.sa_core.proofs.CoreLemmas.{goes-on}
 use Rattle.sa_laws.specs.State.{opening_state}
 use Rattle.sa_debug.specs.Kept.{IsKept}
 use Rattle.sa_debug.specs.Reached.{Reaches, IsPlayable}
-use Rattle.sa_debug.specs.Views.{Followed, IsBehind, state_behind}
+use Rattle.sa_debug.specs.OverMachines.{over_machines}
+use Rattle.sa_debug.specs.Views.{Followed, IsBehind, view_in, state_behind}
 
 -- what has followed the first items of a trace has followed those of a longer one
 behind-more : (x : Followed) (items more all : List Item) → all ≡ items ++ more → IsBehind x items → IsBehind x all
@@ -93,6 +96,18 @@ module _ {U C : Type 0} (f : Calls U C) where
       → (machine new).workload ≡ (machine old).workload → new.budget ≡ old.budget → OnErr r (machine new ≡ machine old) → IsKept f new x
   kept-turn (Ok a) old new x p kept none within made event workload budget err = kept-made old new x p kept none within made event workload budget
   kept-turn (Err e) old new x p kept none within made event workload budget err = kept-same old new x kept err budget
+
+  -- what has taken all items shows a thread as it is after them
+  pub view-followed : (kept seen : CoreView U C) (budget : ℕ) (x y : Followed) (items : List Item) (n : SpaceNo) (t : ThreadNo) → IsKept f kept x
+      → y.workload ≡ x.workload → IsBehind y items → y.taken ≡ length items → items ≡ (machine kept).items → kept ≡ seen
+      → view_in y.state n t ≡ (over_machines f budget).view (machine seen) n t
+  view-followed kept seen budget x y items n t is workload behind taken those same =
+      let of_workload : y.workload ≡ (machine kept).workload = workload ∙ is.follows ∙ sym is.is in
+      let all : take y.taken items ≡ (machine kept).items = take_all y.taken items (omega (arith, taken)) ∙ those in
+      ap (λ a. view_in a n t)
+      (behind.state ∙ ap (state_behind y.workload (opening_state y.workload)) all
+      ∙ ap (λ w. state_behind w (opening_state w) (machine kept).items) of_workload)
+      ∙ ap (λ (v : CoreView U C). (over_machines f budget).view (machine v) n t) same
 
   -- at the opening
   pub kept-start : (core : CoreView U C) (replay : Replayed) (x : Followed) → IsWorkload (machine core).workload

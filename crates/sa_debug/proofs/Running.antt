@@ -1,14 +1,16 @@
 -- Turn by turn.
-use Rattle.std.proofs.Common.{◌≡◌, ℕ, zero, suc, ◌+◌, ◌-◌, ◌<◌, ◌≤◌, if◌then◌else◌, find, Option, Some, None, ◌⊎◌, inl, inr, refl, sym, ap, ◌∙◌, subst, arith}
+use Rattle.std.proofs.Common.{◌≡◌, ℕ, zero, suc, ◌+◌, ◌-◌, ◌<◌, ◌≤◌, if◌then◌else◌, find, [], Option, Some, None, ◌⊎◌, inl, inr, refl, sym, ap, ◌∙◌, subst, arith}
+use Rattle.std.specs.Prelude.{MatchOption, true}
 use Rattle.std.specs.List.{list_any}
 use Rattle.sa_base.specs.declared.limits.TheConstants.{MAX_PROCESSORS}
 use Rattle.sa_base.specs.declared.number.ProcNo.{ProcNo}
 use Rattle.sa_debug.specs.declared.script.reply.Reply.{Reply}
+use Rattle.sa_debug.specs.declared.script.reply.Reply.TheVariants.{AtBreak, Halted}
 use Rattle.sa_debug.specs.declared.script.command.Point.{Point}
 use Rattle.sa_debug.specs.Points.{same_point}
 use Rattle.sa_debug.specs.Order.{goes, in_order}
 use Rattle.sa_debug.proofs.Ordering.{found-first}
-use Rattle.sa_debug.specs.Session.{Watched, Session, IsFree, first, point_if, IsNext, Turns, Passes, SaysEnded, Stops, RunsTo, RunsSoFar}
+use Rattle.sa_debug.specs.Session.{Watched, Session, IsFree, first, next, with_halt, point_if, point_at, IsHeld, IsNext, Turns, Passes, SaysEnded, Stops, RunsTo, RunsSoFar}
 
 module _ {M : Type 0} (o : Watched M) where
   passes : (s between t : Session M) (p : ProcNo) → IsNext o s p → between ≡ s → Turns o between p t → Passes o s p t
@@ -38,6 +40,27 @@ module _ {M : Type 0} (o : Watched M) where
       let left : suc (n - (i + 1)) ≡ n - i = omega arith in
       subst (λ k. RunsSoFar o k s last) left (inl same)
 
+  -- the processor that is next stands at a breakpoint, and is halted there
+  pub stops-at : (s t : Session M) (p : ProcNo) (point : Point) (reply : Reply) → o.HasEnded s.machine None → next o s ≡ Some p
+      → point_at o s p ≡ Some point → reply ≡ AtBreak p point → t ≡ with_halt s p true → Stops o s t reply
+  stops-at s t p point reply not_ended is at answer same = record {
+    not_ended = not_ended;
+    held = subst (λ x. IsHeld o s x t reply) (sym is)
+        (subst (λ x. MatchOption x ⊥ (λ y. (reply ≡ AtBreak p y) × (t ≡ with_halt s p true))) (sym at) (answer, same));
+  }
+
+  -- no processor is next, since all are halted
+  pub stops-halted : (s : Session M) → o.HasEnded s.machine None → next o s ≡ None → Stops o s s Halted
+  stops-halted s not_ended none = record { not_ended = not_ended; held = subst (λ x. IsHeld o s x s Halted) (sym none) (refl, refl) }
+
+  -- no processor stands at a breakpoint where there is none
+  pub no-point : (s : Session M) (p : ProcNo) → s.points ≡ [] → point_at o s p ≡ None
+  no-point s p none = go (o.stands s.machine p)
+    where
+      go : (x : Option Point) → point_if o s x ≡ None
+      go None = refl
+      go (Some point) = ap (λ ps. if list_any (same_point point) ps then Some point else None) none
+
   -- all turns were made
   pub runs-over : (n i : ℕ) (s last : Session M) (reply : Reply) → n ≤ i → RunsTo o 0 s last reply → RunsTo o (n - i) s last reply
   runs-over n i s last reply over runs = let left : 0 ≡ n - i = omega arith in subst (λ k. RunsTo o k s last reply) left runs
@@ -51,12 +74,8 @@ module _ {M : Type 0} (o : Watched M) where
         let here : find (goes s.halted) (in_order p.0 (o.processors s.machine)) ≡ Some p =
         found-first (goes s.halted) p.0 (o.processors s.machine) within (free.0 p (omega (arith, within, few))) in
         ap (λ n. find (goes s.halted) (in_order n (o.processors s.machine))) (sym is) ∙ here;
-    free = no-point (o.stands s.machine p);
+    free = no-point s p free.1;
   }
-    where
-      no-point : (x : Option Point) → point_if o s x ≡ None
-      no-point None = refl
-      no-point (Some point) = ap (λ ps. if list_any (same_point point) ps then Some point else None) free.1
 
   -- and it is free after its turn
   pub free-on : (s t : Session M) (p : ProcNo) → Turns o s p t → IsFree s → IsFree t

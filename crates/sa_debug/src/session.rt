@@ -7,15 +7,16 @@ ghost use Rattle.sa_core_model.specs.End.{end_of};
 ghost use Rattle.sa_core_model.specs.Run.{opening};
 ghost use Rattle.sa_debug.specs.script.Text.{FitsCommand};
 ghost use Rattle.sa_debug.specs.Session.{Gives, fresh, broken, cleared, with_halt, shown, first, next, point_at, IsFree, IsNext, SaysEnded, Stops, Turns, Steps, RunsTo, RunsSoFar, Does, DoesSoFar};
+ghost use Rattle.sa_debug.specs.Order.{last_proc};
 ghost use Rattle.sa_debug.specs.OverMachines.{over_machines, session};
 ghost use Rattle.sa_debug.specs.Reached.{IsPlayable};
 
 use crate::follow::Follower;
 use crate::halts::{Halts, cyclic};
 use crate::points::Points;
-use crate::script::{DebugCommand, Point, Reply};
+use crate::script::{DebugCommand, Point, Reply, View};
 use sa_abstract::{SeatState, UserLevel};
-use sa_base::{End, ProcNo, SpaceNo, ThreadNo, Trace};
+use sa_base::{End, Item, ProcNo, SpaceNo, ThreadNo, Trace};
 use sa_core::Core;
 use sa_replay::Replay;
 use std::alloc::{AllocError, Global};
@@ -217,13 +218,12 @@ impl<U: UserLevel> Session<U> {
         ensures budget { self.new.core.budget ≡ self.old.core.budget }
         ensures workload { (machine self.new.core).workload ≡ (machine self.old.core).workload }
     {
-        let mut next = self.first();
         for _turn in 0..turns {
             if self.core.has_ended() {
                 break;
             }
-            self.turn(ProcNo(next))?;
-            next = self.behind_last();
+            let next = ProcNo(self.first());
+            self.turn(next)?;
         }
         Ok(self.told_event())
     }
@@ -263,6 +263,7 @@ impl<U: UserLevel> Session<U> {
     }
 
     // The processor with which the order begins.
+    #[inline(always)]
     fn first(&self) -> u16
         ensures first { result ≡ first (over_machines U.calls self.now.core.budget) (machine self.now.core) }
         ensures below { result < (machine self.now.core).workload.processors }
@@ -270,21 +271,7 @@ impl<U: UserLevel> Session<U> {
         if self.core.events() == 0 {
             return 0;
         }
-        self.behind_last()
-    }
-
-    // The same where an event was made: the processor after that of the last one.
-    #[inline(always)]
-    fn behind_last(&self) -> u16
-        requires { 1 ≤ (machine self.now.core).event }
-        ensures first { result ≡ first (over_machines U.calls self.now.core.budget) (machine self.now.core) }
-        ensures below { result < (machine self.now.core).workload.processors }
-    {
-        let processors = self.core.workload().processors();
-        match self.core.trace().items().last() {
-            None => following(ProcNo(0), processors),
-            Some(item) => following(item.proc, processors),
-        }
+        behind_last(self.core.trace().items(), self.core.workload().processors())
     }
 
     // The breakpoint at which the processor stands.
@@ -337,10 +324,30 @@ impl<U: UserLevel> Session<U> {
         ensures core { self.new.core ≡ self.old.core }
     {
         self.follower.follow(self.core.trace().items())?;
-        match self.follower.view(s, t) {
-            None => Ok(Reply::NotThere),
-            Some(view) => Ok(Reply::Shown(view)),
-        }
+        Ok(told_view(self.follower.view(s, t)))
+    }
+}
+
+// What is answered where a thread is shown, or was not made.
+fn told_view(view: Option<View>) -> Reply
+    ensures { result ≡ shown view }
+{
+    match view {
+        None => Reply::NotThere,
+        Some(view) => Reply::Shown(view),
+    }
+}
+
+// The processor after that of the last item, cyclically.
+#[inline(always)]
+fn behind_last(items: &[Item], processors: u16) -> u16
+    requires { 1 ≤ processors }
+    ensures behind { result ≡ ((last_proc items.now).0 + 1) % processors }
+    ensures below { result < processors }
+{
+    match items.last() {
+        None => following(ProcNo(0), processors),
+        Some(item) => following(item.proc, processors),
     }
 }
 

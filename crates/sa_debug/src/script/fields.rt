@@ -30,10 +30,11 @@ fn read_space(w: &Workload, words: &mut Pieces) -> Result<SpaceNo, Cause>
     }
 }
 
-// The number of 16 bits that the piece spells, where it is at most `greatest`.
-fn read_small(greatest: u16, piece: &[u8]) -> Result<u16, Cause>
-    ensures { result ≡ number_in 0 greatest piece.now }
+// The number of 16 bits that the next piece spells, where it is at most `greatest`.
+fn read_small(greatest: u16, words: &mut Pieces) -> Result<u16, Cause>
+    ensures { with_rest result words.new ≡ taken (number_in 0 greatest) words.old }
 {
+    let piece = next(words)?;
     let n = read_within(0, u64::from(greatest), piece)?;
     Ok(n as u16)
 }
@@ -43,9 +44,11 @@ pub(crate) fn read_thread(w: &Workload, words: &mut Pieces) -> Result<Named, Cau
     ensures { with_rest result words.new ≡ thread_at w.now words.old }
 {
     let space = read_space(w, words)?;
-    let piece = next(words)?;
-    let thread = ThreadNo(read_small(MAX_THREADS - 1, piece)?);
-    Ok(Named { space, thread })
+    let thread = read_small(MAX_THREADS - 1, words)?;
+    Ok(Named {
+        space,
+        thread: ThreadNo(thread),
+    })
 }
 
 /// The breakpoint that the next three pieces name.
@@ -53,8 +56,7 @@ pub(crate) fn read_point(w: &Workload, words: &mut Pieces) -> Result<Point, Caus
     ensures { with_rest result words.new ≡ point_at w.now words.old }
 {
     let Named { space, thread } = read_thread(w, words)?;
-    let piece = next(words)?;
-    let place = read_small(MAX_INSTRUCTIONS as u16 - 1, piece)?;
+    let place = read_small(MAX_INSTRUCTIONS as u16 - 1, words)?;
     Ok(Point {
         space,
         thread,
@@ -66,8 +68,8 @@ pub(crate) fn read_point(w: &Workload, words: &mut Pieces) -> Result<Point, Caus
 pub(crate) fn read_proc(w: &Workload, words: &mut Pieces) -> Result<ProcNo, Cause>
     ensures { with_rest result words.new ≡ taken (proc_in w.now) words.old }
 {
-    let piece = next(words)?;
-    Ok(ProcNo(read_small(w.processors() - 1, piece)?))
+    let processor = read_small(w.processors() - 1, words)?;
+    Ok(ProcNo(processor))
 }
 
 /// The number of turns that the next piece spells.

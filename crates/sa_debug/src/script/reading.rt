@@ -26,8 +26,10 @@ pub fn read_script(alloc: Global, bytes: &[u8], w: &Workload) -> Result<Script, 
             Err(cause) => return Err(Unread::Bad(Bad::new(line.number, cause))),
             Ok(Some(command)) => script.add(command)?,
             Ok(None) => {
-                check_end(bytes, &mut lines).map_err(Unread::Bad)?;
-                return Ok(script);
+                return match check_end(bytes, &mut lines) {
+                    Err(bad) => Err(Unread::Bad(bad)),
+                    Ok(()) => Ok(script),
+                };
             }
         }
     }

@@ -3,7 +3,7 @@ use Rattle.sa_lemmas.proofs.Results.{on_err}
 use Rattle.sa_core.specs.View.{machine}
 use Rattle.sa_core_model.specs.End.{end_of}
 use Rattle.sa_core_model.proofs.Phases.{some-is, none-is}
-use Rattle.sa_debug.specs.Session.{IsNext, Turns, RunsTo}
+use Rattle.sa_debug.specs.Session.{first, IsNext, Turns, RunsTo}
 use Rattle.sa_debug.specs.OverMachines.{SessionView, over_machines, session}
 use Rattle.sa_debug.proofs.Keeping.{same-end, few-processors}
 use Rattle.sa_debug.proofs.Running.{runs-on, comes-on, comes-no_more, runs-over, runs-ended, next-free, free-on}
@@ -25,23 +25,22 @@ loop-turn-preserved g c =
     let on : end_of g.U.UserLevel.calls c.args.self.now.core.budget (machine c.loop-turn.self.core) ≡ None =
     sym (same-end g.U.UserLevel.calls c.self.inside.core c.loop-turn.self.core c.args.self.now.core.budget core c.loop-turn.invariant.budget)
     ∙ none-is (end_of g.U.UserLevel.calls c.self.inside.core.budget (machine c.self.inside.core)) (sym c.has_ended.ensures ∙ c.if-has_ended.false) in
-    let next : IsNext (over_machines g.U.UserLevel.calls c.args.self.now.core.budget) s (record { 0 = c.loop-turn.next }) =
-    next-free (over_machines g.U.UserLevel.calls c.args.self.now.core.budget) s (record { 0 = c.loop-turn.next }) c.loop-turn.invariant.free
-    c.loop-turn.invariant.first c.loop-turn.invariant.below few on in
-    let turns : Turns (over_machines g.U.UserLevel.calls c.args.self.now.core.budget) s (record { 0 = c.loop-turn.next }) after =
-    subst (λ n. Turns (over_machines g.U.UserLevel.calls n) s (record { 0 = c.loop-turn.next }) after) c.loop-turn.invariant.budget c.in_ok-turn.ensures.ok in
+    let next : IsNext (over_machines g.U.UserLevel.calls c.args.self.now.core.budget) s (record { 0 = c.first.result }) =
+    next-free (over_machines g.U.UserLevel.calls c.args.self.now.core.budget) s (record { 0 = c.first.result }) c.loop-turn.invariant.free
+    (subst (λ n. c.first.result ≡ first (over_machines g.U.UserLevel.calls n) (machine c.loop-turn.self.core)) c.loop-turn.invariant.budget
+    c.first.ensures.first) c.first.ensures.below few on in
+    let turns : Turns (over_machines g.U.UserLevel.calls c.args.self.now.core.budget) s (record { 0 = c.first.result }) after =
+    subst (λ n. Turns (over_machines g.U.UserLevel.calls n) s (record { 0 = c.first.result }) after) c.loop-turn.invariant.budget c.in_ok-turn.ensures.ok in
     record {
       budget = c.turn.ensures.budget ∙ c.loop-turn.invariant.budget;
       workload = c.turn.ensures.workload ∙ c.loop-turn.invariant.workload;
-      free = free-on (over_machines g.U.UserLevel.calls c.args.self.now.core.budget) s after (record { 0 = c.loop-turn.next }) turns c.loop-turn.invariant.free;
-      first = c.behind_last-next.ensures.first;
-      below = c.behind_last-next.ensures.below;
+      free = free-on (over_machines g.U.UserLevel.calls c.args.self.now.core.budget) s after (record { 0 = c.first.result }) turns c.loop-turn.invariant.free;
       runs = λ t reply runs. c.loop-turn.invariant.runs t reply
-          (runs-on (over_machines g.U.UserLevel.calls c.args.self.now.core.budget) c.args.turns c.loop-turn._turn s s after t (record { 0 = c.loop-turn.next })
+          (runs-on (over_machines g.U.UserLevel.calls c.args.self.now.core.budget) c.args.turns c.loop-turn._turn s s after t (record { 0 = c.first.result })
           reply c.loop-turn-test.true next refl turns runs);
       so_far = λ t comes. c.loop-turn.invariant.so_far t
           (comes-on (over_machines g.U.UserLevel.calls c.args.self.now.core.budget) c.args.turns c.loop-turn._turn s s after t
-          (record { 0 = c.loop-turn.next }) c.loop-turn-test.true next refl turns comes);
+          (record { 0 = c.first.result }) c.loop-turn-test.true next refl turns comes);
     }
 
 pub returns-clause-ok : goal.returns-clause-ok
