@@ -153,7 +153,6 @@ impl<U: UserLevel> Session<U> {
         ensures halted { Gives (with_halt (session self.old) p halted, Reply.Accepted) (session self.new) result }
         ensures core { self.new.core ≡ self.old.core }
     {
-        self.core.workload().ranges();
         self.halts.set(p, halted);
         Reply::Accepted
     }
