@@ -101,10 +101,8 @@ impl Lives {
     pub fn space(&self, a: Option<ActNo>) -> Option<SpaceNo>
         ensures { result ≡ space_at (lives_of self.now) a }
     {
-        match self.life(a?) {
-            None => None,
-            Some(life) => Some(life.space()),
-        }
+        let life = self.life(a?)?;
+        Some(life.space())
     }
 
     /// The number of the life of the last up.

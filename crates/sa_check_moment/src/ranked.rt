@@ -60,19 +60,13 @@ impl RankedReady {
     pub fn best(&self, s: SpaceNo) -> Option<u16>
         ensures { IsBest (row_at self.now s) result }
     {
-        match self.rows.get(usize::from(s.0)) {
-            None => None,
-            Some(row) => row.best(),
-        }
+        self.rows.get(usize::from(s.0))?.best()
     }
 
     /// The newest of the ready threads of the space that have this rank.
     pub fn newest(&self, s: SpaceNo, rank: u16) -> Option<ThreadNo>
         ensures { result ≡ newest (stack_at self.now s rank) }
     {
-        match self.rows.get(usize::from(s.0)) {
-            None => None,
-            Some(row) => row.newest(rank),
-        }
+        self.rows.get(usize::from(s.0))?.newest(rank)
     }
 }

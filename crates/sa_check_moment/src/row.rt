@@ -95,10 +95,7 @@ impl RankedRow {
     pub(crate) fn newest(&self, rank: u16) -> Option<ThreadNo>
         ensures { result ≡ newest (row_stack self.now rank) }
     {
-        match self.stacks.get(usize::from(rank)) {
-            None => None,
-            Some(stack) => stack.last(),
-        }
+        self.stacks.get(usize::from(rank))?.last()
     }
 }
 

@@ -1,7 +1,7 @@
 // The kinds of records.
 ghost use Rattle.std.specs.Prelude.{◌≡◌};
 ghost use Rattle.sa_laws.specs.History.{is_step, is_up, is_free};
-ghost use Rattle.sa_laws.specs.Shape.{is_want, is_aim_at, is_line, is_of_closing, is_of_leave, follows_aim, is_other_line};
+ghost use Rattle.sa_laws.specs.Shape.{is_want, is_aim_at, is_of_closing, is_of_leave, follows_aim, is_other_line};
 ghost use Rattle.sa_laws.specs.Turns.{is_of_locks};
 ghost use Rattle.sa_laws.specs.Locks.{is_back};
 
@@ -66,16 +66,6 @@ pub fn is_aim_at(what: Record) -> bool
 {
     match what {
         Record::Aim(_, Some(_)) => true,
-        _ => false,
-    }
-}
-
-/// A line.
-pub fn is_line(what: Record) -> bool
-    ensures { result ≡ is_line what }
-{
-    match what {
-        Record::Line(..) => true,
         _ => false,
     }
 }

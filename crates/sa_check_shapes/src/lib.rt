@@ -14,7 +14,7 @@ pub use behind::{
 };
 pub use due::{Aimed, are_aims, are_lines, are_told, are_wants, has_aims, is_told};
 pub use kinds::{
-    follows_aim, is_aim_at, is_back, is_free, is_line, is_of_closing, is_of_leave, is_of_locks,
+    follows_aim, is_aim_at, is_back, is_free, is_of_closing, is_of_leave, is_of_locks,
     is_other_line, is_step, is_up, is_want,
 };
 pub use parts::{
