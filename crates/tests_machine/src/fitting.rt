@@ -1,11 +1,11 @@
-// A kernel whose contexts are numbers, with its trace, and which entries fit it.
+// A kernel whose contexts are numbers, with its trace, and an entry that fits it.
 ghost use Rattle.std.specs.Prelude.{◌<◌, IsTrue, IfSome};
 ghost use Rattle.sa_kernel.specs.Kept.{kernel_of, processors};
-ghost use Rattle.sa_kernel_model.specs.Entering.{MayEnter, MayComplete, MayAskForMore, MayInterruptOwn};
-ghost use Rattle.sa_kernel_model.specs.Entries.{IsOwnPage};
+ghost use Rattle.sa_kernel_model.specs.Entering.{MayEnter, MayInterruptOwn};
 ghost use Rattle.tests_machine.specs.Asks.{AsksFor};
+ghost use Rattle.tests_machine.specs.Plain.{IsAtWork, IsPlain};
 
-use sa_base::{IoNo, ProcNo, Trace};
+use sa_base::{ProcNo, Stopped, ThreadNo, Trace};
 use sa_kernel::{Entry, Kernel};
 
 // Whether a context asks on the processor: it is owned, and its line is low.
@@ -16,64 +16,63 @@ fn asks(kernel: &Kernel<u64>, p: ProcNo) -> bool
     kernel.owner(p).is_some() && kernel.line(p).is_none()
 }
 
-// Whether that many processors more fit the demand of the space that asks.
-fn can_want(kernel: &Kernel<u64>, p: ProcNo, event: u64, n: u16) -> bool
-    requires { p.0 < processors kernel.now }
-    ensures { IsTrue result → MayAskForMore (kernel_of kernel.now) p n }
-{
-    asks(kernel, p)
-        && n >= 1
-        && u32::from(kernel.seen(p, event).demand) + u32::from(n) <= u32::from(kernel.processors())
-}
-
 // Whether the line of another processor of the space that asks is low.
 fn can_interrupt(kernel: &Kernel<u64>, p: ProcNo, q: ProcNo) -> bool
-    requires { p.0 < processors kernel.now }
+    requires within { p.0 < processors kernel.now }
+    requires asks { AsksFor (kernel_of kernel.now) p }
     ensures { IsTrue result → MayInterruptOwn (kernel_of kernel.now) p q }
 {
-    asks(kernel, p)
-        && q.0 != p.0
+    q.0 != p.0
         && q.0 < kernel.processors()
         && asks(kernel, q)
         && kernel.owner(q) == kernel.owner(p)
 }
 
-// Whether this is the I/O that is due.
-fn can_complete(kernel: &Kernel<u64>, p: ProcNo, event: u64, io: IoNo) -> bool
-    requires { p.0 < processors kernel.now }
-    ensures { IsTrue result → MayComplete (kernel_of kernel.now) p event io }
+// The context of a thread at work.
+fn at_work() -> Stopped<u64>
+    ensures { IsAtWork result }
 {
-    let Some(due) = kernel.due(event) else {
-        return false;
-    };
-    due.0 == io.0 && kernel.line(p).is_none()
-}
-
-// Whether the entry fits the processor at the event, as the getters show it.
-pub(crate) fn fits(kernel: &Kernel<u64>, p: ProcNo, event: u64, entry: &Entry<u64>) -> bool
-    requires { p.0 < processors kernel.now }
-    ensures { IsTrue result → MayEnter (kernel_of kernel.now) p event entry.now }
-{
-    match entry {
-        Entry::Interrupt(held) => {
-            kernel.line(p).is_some() && held.is_some() == kernel.owner(p).is_some()
-        }
-        Entry::Block { page, .. } => asks(kernel, p) && is_own_page(*page),
-        Entry::Complete(io) => can_complete(kernel, p, event, *io),
-        Entry::More(n) => can_want(kernel, p, event, *n),
-        Entry::Idle => asks(kernel, p) && kernel.seen(p, event).demand >= 1,
-        Entry::GiveBack => asks(kernel, p) && kernel.seen(p, event).taken >= 1,
-        Entry::InterruptOwn(q) => can_interrupt(kernel, p, *q),
+    Stopped {
+        ctx: 0,
+        thread: Some(ThreadNo(0)),
+        idle: false,
     }
 }
 
-// Whether a context may block for this page, or for none.
-fn is_own_page(page: Option<u16>) -> bool
-    ensures { IsTrue result → IfSome page IsOwnPage }
+// What the context on the processor asks for, by the event's number, if it may.
+fn asked(kernel: &Kernel<u64>, event: u64, p: ProcNo) -> Option<Entry<u64>>
+    requires within { p.0 < processors kernel.now }
+    requires asks { AsksFor (kernel_of kernel.now) p }
+    ensures fits { IfSome result (MayEnter (kernel_of kernel.now) p event) }
+    ensures plain { IfSome result IsPlain }
 {
-    match page {
-        None => true,
-        Some(k) => 1 <= k && k <= 15,
+    let seen = kernel.seen(p, event);
+    let other = ProcNo((event % 3) as u16);
+    match event % 7 {
+        0..=2 if seen.demand < kernel.processors() => Some(Entry::More(1)),
+        3 if seen.demand >= 1 => Some(Entry::Idle),
+        4 if seen.taken >= 1 => Some(Entry::GiveBack),
+        5 | 6 if can_interrupt(kernel, p, other) => Some(Entry::InterruptOwn(other)),
+        _ => None,
+    }
+}
+
+// What enters the kernel on the processor: an interrupt or a completion where it is due, else what a context asks for.
+pub(crate) fn choose(kernel: &Kernel<u64>, event: u64, p: ProcNo) -> Option<Entry<u64>>
+    requires { p.0 < processors kernel.now }
+    ensures fits { IfSome result (MayEnter (kernel_of kernel.now) p event) }
+    ensures plain { IfSome result IsPlain }
+{
+    if kernel.line(p).is_some() {
+        return match kernel.owner(p) {
+            None => Some(Entry::Interrupt(None)),
+            Some(_) => Some(Entry::Interrupt(Some(at_work()))),
+        };
+    }
+    match kernel.due(event) {
+        Some(io) => Some(Entry::Complete(io)),
+        None if asks(kernel, p) => asked(kernel, event, p),
+        None => None,
     }
 }
 

@@ -1,13 +1,13 @@
 // A caller that relies on the kernel's contracts alone: its trace is a history, at each event of which the kernel's laws hold.
-ghost use Rattle.std.specs.Prelude.{◌≡◌, ℕ, ◌<◌, ◌≤◌, [], None, IsTrue, IfOk, IfSome, OnOk};
+ghost use Rattle.std.specs.Prelude.{◌≡◌, ℕ, ◌<◌, ◌≤◌, [], None, IsTrue, IfOk, OnOk};
 ghost use Rattle.sa_kernel.specs.Kept.{kernel_of, processors, scene};
 ghost use Rattle.sa_kernel_model.specs.State.{line_of};
 ghost use Rattle.sa_kernel_model.specs.Entering.{MayEnter};
 ghost use Rattle.sa_laws.specs.History.{Test};
-ghost use Rattle.tests_machine.specs.Plain.{GoesFrom, IsAtWork, IsLawful, IsPlain, IsSameSlice};
+ghost use Rattle.tests_machine.specs.Plain.{GoesFrom, IsLawful, IsPlain, IsSameSlice};
 
-use crate::fitting::{Bench, fits};
-use sa_base::{Item, MAX_EVENTS, ProcNo, Record, Stopped, ThreadNo, Trace};
+use crate::fitting::{Bench, choose};
+use sa_base::{Item, MAX_EVENTS, ProcNo, Record, Trace};
 use sa_kernel::{Entry, Kernel};
 use sa_kernel_laws::quiet_events_go_on;
 use sa_spaces::Workload;
@@ -22,53 +22,6 @@ const TURNS: u64 = 4000;
 // Two spaces on three processors; the upcall page of one is absent at first.
 const TEXT: &str =
     "workload 2\nprocessors 3\nfetch 3\nslice 50\nspaces 2\nspace 0 0 0 0 1\nprogram 1\nend\nspace 0 0 0 0 1\nabsent 0\nprogram 1\nend\nclose\n";
-
-// The context of a thread at work.
-fn at_work() -> Stopped<u64>
-    ensures { IsAtWork result }
-{
-    Stopped {
-        ctx: 0,
-        thread: Some(ThreadNo(0)),
-        idle: false,
-    }
-}
-
-// What enters the kernel on the processor: an interrupt or a completion where it is due, else what the event's number says.
-fn candidate(kernel: &Kernel<u64>, event: u64, p: ProcNo) -> Entry<u64>
-    requires { p.0 < processors kernel.now }
-    ensures { IsPlain result }
-{
-    if kernel.line(p).is_some() {
-        return match kernel.owner(p) {
-            None => Entry::Interrupt(None),
-            Some(_) => Entry::Interrupt(Some(at_work())),
-        };
-    }
-    if let Some(io) = kernel.due(event) {
-        return Entry::Complete(io);
-    }
-    match event % 7 {
-        0..=2 => Entry::More(1),
-        3 => Entry::Idle,
-        4 => Entry::GiveBack,
-        _ => Entry::InterruptOwn(ProcNo((event % 3) as u16)),
-    }
-}
-
-// The same, if it fits.
-fn choose(kernel: &Kernel<u64>, event: u64, p: ProcNo) -> Option<Entry<u64>>
-    requires { p.0 < processors kernel.now }
-    ensures fits { IfSome result (MayEnter (kernel_of kernel.now) p event) }
-    ensures plain { IfSome result IsPlain }
-{
-    let entry = candidate(kernel, event, p);
-    if fits(kernel, p, event, &entry) {
-        Some(entry)
-    } else {
-        None
-    }
-}
 
 // An event of an entry.
 fn enter(

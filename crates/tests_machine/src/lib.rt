@@ -1,6 +1,6 @@
 //! A caller of the kernel that relies on its contracts alone; a run of the smallest user level on the core; and what stands below
-//! the kernel: sources and sinks, the words of a refusal, seeded orders, the workload of a probe, and what a line word holds. With a
-//! host thread for each processor: a machine behind its lock.
+//! the kernel: sources and sinks, the workload of a probe, and what a line word holds. With a host thread for each processor: a
+//! machine behind its lock.
 #![tactic(auto)]
 
 #[cfg(test)]
@@ -12,14 +12,10 @@ mod lines;
 #[cfg(test)]
 mod probes;
 #[cfg(test)]
-mod refusals;
-#[cfg(test)]
 mod rows;
 #[cfg(test)]
 mod seat;
 #[cfg(test)]
 mod second;
-#[cfg(test)]
-mod seeded;
 #[cfg(test)]
 mod sources;

@@ -31,10 +31,6 @@ enum Act {
 const RAISED: &str =
     "workload 1\nprocessors 2\nfetch 10\nspaces 2\nspace 0 0 0 0 1\nprogram 4\ncompute\ncompute\ncompute\nend\nspace 7 0 0 0 2\nprogram 2\nfork r0 1\nend\nprogram 1\nend\nclose\n";
 
-// One processor, with slices of six events.
-const SLICED: &str =
-    "workload 2\nprocessors 1\nfetch 10\nslice 6\nspaces 1\nspace 0 0 0 0 1\nprogram 4\ncompute\ncompute\ncompute\nend\nclose\n";
-
 // The seat enters so often, and is answered so each time.
 #[tactic(auto, using(crate::proofs::Seats::entered_proc))]
 fn enter<U: UserLevel, K: Named, R: Wait + Abort>(
@@ -183,15 +179,4 @@ fn a_burst_ends_at_its_limit(rt: HostRuntime) -> Result<(), Fail> {
         Act::Enters(0, 1, Entered::Turned(2)),
     ];
     play::<FastThreads, HostRuntime>(&rt, rt.alloc(), RAISED, &acts)
-}
-
-#[test]
-fn a_slice_leaves_less_of_a_burst(rt: HostRuntime) -> Result<(), Fail> {
-    let acts = [
-        Act::Enters(0, 4, TURN),
-        Act::Bursts(0, 16, BurstEnd::Shared, 3),
-        Act::Enters(0, 1, Entered::Turned(2)),
-        Act::Enters(0, 1, TURN),
-    ];
-    play::<FastThreads, HostRuntime>(&rt, rt.alloc(), SLICED, &acts)
 }
