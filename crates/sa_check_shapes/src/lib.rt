@@ -18,7 +18,7 @@ pub use kinds::{
     is_other_line, is_step, is_up, is_want,
 };
 pub use parts::{
-    before_aims, before_wants, behind_told, closing_part, front_part, last_lines, leave_run,
+    before_aims, before_wants, closing_part, front_part, last_lines, leave_run,
     others_of, own_part, parted,
 };
 pub use turns::{

@@ -1,7 +1,7 @@
 // The parts of an event's list of records.
 ghost use Rattle.std.specs.Prelude.{◌≡◌, ◌≤◌, [], ◌∷◌, length, take_while, Some, MatchOption};
 ghost use Rattle.std.specs.List.{prefix_len};
-ghost use Rattle.sa_laws.specs.Shape.{own_part, closing_part, others_of, before_aims, before_wants, before_lines, front_part, last_lines, behind_told, leave_run};
+ghost use Rattle.sa_laws.specs.Shape.{own_part, closing_part, others_of, before_aims, before_wants, before_lines, front_part, last_lines, leave_run};
 ghost use Rattle.sa_check_shapes.specs.Runs.{test_of, first_and_run};
 
 use crate::kinds::{is_aim_at, is_of_closing, is_of_leave, is_other_line, is_want};
@@ -154,16 +154,4 @@ fn lines_len(first: Record, others: &[Record]) -> usize
         last = *what;
     }
     others.len()
-}
-
-/// What comes after the run of told records with which the list begins.
-pub fn behind_told(records: &[Record]) -> &[Record]
-    ensures { result.now ≡ behind_told records.now }
-{
-    for (i, what) in records.iter().enumerate() {
-        let Record::Told(_) = *what else {
-            return &records[i..];
-        };
-    }
-    &records[records.len()..]
 }

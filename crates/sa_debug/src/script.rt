@@ -1,5 +1,5 @@
 // A script.
-ghost use Rattle.std.specs.Prelude.{◌≡◌, ◌++◌, [], ◌∷◌, length, slice_get, IsTrue, ◌↔◌, OnOk, OnErr};
+ghost use Rattle.std.specs.Prelude.{◌≡◌, slice_get};
 ghost use Rattle.std.specs.Option.{option_copied};
 
 mod command;
@@ -14,7 +14,6 @@ pub use command::{DebugCommand, Point};
 pub use printing::print_reply;
 pub use reading::read_script;
 pub use reply::{Reply, View};
-use std::alloc::{AllocError, Global};
 use std::marker::Model;
 
 /// The most lines of a script, its last one among them.
@@ -36,38 +35,6 @@ impl Model for Script {
 }
 
 impl Script {
-    // A script without a command.
-    pub(crate) fn new(alloc: Global) -> Script
-        ensures { result ≡ [] }
-    {
-        Script {
-            commands: Vec::new(alloc),
-        }
-    }
-
-    // Adds a command after the others. An error changes nothing.
-    pub(crate) fn add(&mut self, command: DebugCommand) -> Result<(), AllocError>
-        ensures ok { OnOk result (self.new ≡ self.old ++ command ∷ []) }
-        ensures err { OnErr result (self.new ≡ self.old) }
-    {
-        self.commands.push(command)?;
-        Ok(())
-    }
-
-    /// The number of commands.
-    pub fn len(&self) -> usize
-        ensures { result ≡ length self.now }
-    {
-        self.commands.len()
-    }
-
-    /// Whether there is no command.
-    pub fn is_empty(&self) -> bool
-        ensures { IsTrue result ↔ (self.now ≡ []) }
-    {
-        self.commands.is_empty()
-    }
-
     /// The command of this number, from 0; `None` exactly where there are no more.
     pub fn get(&self, i: usize) -> Option<&DebugCommand>
         ensures { option_copied result ≡ slice_get self.now i }

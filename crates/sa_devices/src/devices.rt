@@ -143,13 +143,6 @@ impl Devices {
         self.fetching[usize::from(s.0)] > 0
     }
 
-    /// The resident pages of each space: bit k for page k.
-    pub fn all_pages(&self) -> &[u16]
-        ensures { result.now ≡ self.now.pages }
-    {
-        self.pages.as_slice()
-    }
-
     /// Adds the I/Os under way, in the order of their numbers, at the end of `out`. Fails only where memory runs out.
     pub fn copy_ios(&self, out: &mut Vec<Entry>) -> Result<(), AllocError>
         ensures { OnOk result (out.new.items ≡ out.old.items ++ map entry_of self.now.ios.under_way) }

@@ -156,19 +156,6 @@ impl Links {
         at(&self.nodes, at(&self.nodes, head).next).number
     }
 
-    /// The last node of `list`: `None` exactly where the list is empty.
-    pub fn back(&self, list: u32) -> Option<u32>
-        requires { list < length self.now.lists }
-        ensures last { let xs = list_at self.now.lists list in
-            result ≡ slice_get xs (length xs - 1) }
-        ensures node { IfSome result (λ node. node < self.now.nodes) }
-        ensures stands { IfSome result (λ node. IsIn node (list_at self.now.lists list)) }
-        ensures listed { IfSome result (λ node. IsListed self.now node) }
-    {
-        let head = slot_of(&self.nodes, self.begin, self.count as usize + list as usize);
-        at(&self.nodes, at(&self.nodes, head).prev).number
-    }
-
     /// Whether `list` has no node.
     pub fn is_empty(&self, list: u32) -> bool
         requires { list < length self.now.lists }

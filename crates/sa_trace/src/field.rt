@@ -1,6 +1,6 @@
 // The fields of records.
-ghost use Rattle.std.specs.Prelude.{◌≡◌, ◌↔◌, IsTrue};
-ghost use Rattle.sa_trace.specs.Field.{range_of, FitsField};
+ghost use Rattle.std.specs.Prelude.{◌≡◌};
+ghost use Rattle.sa_trace.specs.Field.{range_of};
 
 /// What a field of a record is. An `Optional` one may be absent, which the trace text writes as `-`.
 #[derive(Clone, Copy)]
@@ -60,16 +60,6 @@ impl Field {
                 greatest: u64::MAX,
                 optional: false,
             },
-        }
-    }
-
-    /// Whether such a field may hold this.
-    pub fn fits(self, value: Option<u64>) -> bool
-        ensures { IsTrue result ↔ FitsField self value }
-    {
-        match value {
-            None => self.range().optional,
-            Some(number) => number <= self.range().greatest,
         }
     }
 }

@@ -20,15 +20,15 @@ pub fn read_script(alloc: Global, bytes: &[u8], w: &Workload) -> Result<Script, 
     ensures { IsReading (script_of w.now bytes.now) result }
 {
     let mut lines = Lines::new(bytes);
-    let mut script = Script::new(alloc);
+    let mut commands = Vec::new(alloc);
     while let Some(line) = lines.next() {
         match read_line(w, bytes, line) {
             Err(cause) => return Err(Unread::Bad(Bad::new(line.number, cause))),
-            Ok(Some(command)) => script.add(command)?,
+            Ok(Some(command)) => commands.push(command)?,
             Ok(None) => {
                 return match check_end(bytes, &mut lines) {
                     Err(bad) => Err(Unread::Bad(bad)),
-                    Ok(()) => Ok(script),
+                    Ok(()) => Ok(Script { commands }),
                 };
             }
         }

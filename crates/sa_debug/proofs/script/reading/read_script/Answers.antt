@@ -9,5 +9,5 @@ loop-line-init c = (
   c.new-lines.ensures.text,
   ap (read_from c.args.w.now 1 []) (sym c.new-lines.ensures.bytes)
       ∙ ap (λ n. read_from c.args.w.now n [] (map (text_of_line c.args.bytes.now) c.new-lines.result.left)) (sym c.new-lines.ensures.number)
-      ∙ ap (λ cs. read_from c.args.w.now c.new-lines.result.number cs (map (text_of_line c.args.bytes.now) c.new-lines.result.left)) (sym c.new-script.ensures),
+      ∙ ap (λ cs. read_from c.args.w.now c.new-lines.result.number cs (map (text_of_line c.args.bytes.now) c.new-lines.result.left)) (sym c.new-commands.ensures.items),
 )

@@ -7,7 +7,7 @@ use Rattle.sa_debug.proofs.script.reading.read_script.Given as goal
 abbrev pub invariant-loop-line : goal.invariant-loop-line
 invariant-loop-line l =
     (l.lines.text ≡ l.bytes)
-    × (script_of l.w l.bytes ≡ read_from l.w l.lines.number l.script (map (text_of_line l.bytes) l.lines.left))
+    × (script_of l.w l.bytes ≡ read_from l.w l.lines.number l.commands.items (map (text_of_line l.bytes) l.lines.left))
 
 abbrev pub decreases-loop-line : goal.decreases-loop-line
 decreases-loop-line l = length l.lines.left
