@@ -157,26 +157,17 @@ fn a_burst_becomes_as_many_events(rt: HostRuntime) -> Result<(), Fail> {
     play::<FastThreads, HostRuntime>(&rt, rt.alloc(), RAISED, &acts)
 }
 
-// The other processor's ninth turn asks for this one, so the burst is dropped, and none can begin before the interrupt.
+// A burst that ends at its limit. The other processor's ninth turn asks for this one, so the burst is dropped, and none can
+// begin before the interrupt.
 #[test]
 fn a_burst_is_dropped_for_an_interrupt(rt: HostRuntime) -> Result<(), Fail> {
     let acts = [
         Act::Enters(0, 4, TURN),
-        Act::Bursts(0, 16, BurstEnd::Shared, 3),
+        Act::Bursts(0, 2, BurstEnd::Limit, 2),
         Act::Enters(1, 9, TURN),
         Act::Enters(0, 1, Entered::DroppedLine(13)),
         Act::Bursts(0, 16, BurstEnd::Line(13), 0),
         Act::Enters(0, 1, TURN),
-    ];
-    play::<FastThreads, HostRuntime>(&rt, rt.alloc(), RAISED, &acts)
-}
-
-#[test]
-fn a_burst_ends_at_its_limit(rt: HostRuntime) -> Result<(), Fail> {
-    let acts = [
-        Act::Enters(0, 4, TURN),
-        Act::Bursts(0, 2, BurstEnd::Limit, 2),
-        Act::Enters(0, 1, Entered::Turned(2)),
     ];
     play::<FastThreads, HostRuntime>(&rt, rt.alloc(), RAISED, &acts)
 }
