@@ -6,7 +6,7 @@ use Rattle.sa_base.specs.declared.number.ProcNo.{ProcNo}
 use Rattle.sa_base.specs.declared.number.SpaceNo.{SpaceNo}
 use Rattle.sa_base.specs.declared.number.ActNo.{ActNo}
 use Rattle.sa_base.specs.declared.context.Stopped.{Stopped}
-use Rattle.sa_base.specs.declared.record.Note.TheVariants.{Preempted}
+use Rattle.sa_base.specs.declared.record.Note.TheVariants.{Preempted, Blocked}
 use Rattle.sa_base.specs.Recorded.{Recorded, Adds}
 use Rattle.sa_assign.specs.AssignView.{AssignView}
 use Rattle.sa_kernel.specs.declared.parts.Parts.{Parts}
@@ -14,7 +14,7 @@ use Rattle.sa_kernel.specs.View.{Spends}
 use Rattle.sa_kernel.specs.Needs.{HasProc, HasSpace, MayUpcall}
 use Rattle.sa_kernel_model.specs.State.{KernelState, Scene, untold_of}
 use Rattle.sa_kernel_model.specs.Parts.{with_line, moved}
-use Rattle.sa_kernel_model.specs.Entries.{stopped}
+use Rattle.sa_kernel_model.specs.Entries.{stopped, block_begun}
 use Rattle.sa_kernel_model.proofs.parts.Sizes.{Sizes, sizes_of, sizes-kept}
 
 -- what is spent in turn
@@ -100,6 +100,12 @@ module _ {C : Type 0} where
   sizes-stopped e p (Some s) (Some a) None x = refl
   sizes-stopped e p (Some s) (Some a) (Some h) x =
       let noted = untold_of x.state s.0 ++ Preempted a ∷ [] in
+      λ i. record (sizes_of x.state) { lives = length-set x.state.lives p.0 None i; untold = length-set x.state.untold s.0 noted i }
+
+  pub sizes-begun : (e : ℕ) (p : ProcNo) (s : SpaceNo) (a : ActNo) (held : Stopped C) (len : ℕ) (page : Option ℕ) (x : Scene C)
+      → sizes_of (block_begun e p s a held len page x).state ≡ sizes_of x.state
+  sizes-begun e p s a held len page x =
+      let noted = untold_of x.state s.0 ++ Blocked a ∷ [] in
       λ i. record (sizes_of x.state) { lives = length-set x.state.lives p.0 None i; untold = length-set x.state.untold s.0 noted i }
 
   pub notes-moved : (e : ℕ) (p : ProcNo) (s : SpaceNo) (owned : Bool) (x : Scene C)

@@ -1,14 +1,14 @@
 -- Calls that may take a fresh activation.
-use Rattle.std.proofs.Common.{◌≡◌, ℕ, ◌+◌, ◌≤◌, Bool, true, false, not, Option, Some, None, List, [], ◌∷◌, ◌++◌, length, sum_by, slice_index, slice_set, get_or, refl, sym, ap, ◌∙◌, ◌⊎◌, inl, inr, arith, length-append}
-use Rattle.std.proofs.lemmas.Bool.{cases_eq, cases_lt}
-use Rattle.std.proofs.lemmas.List.{get_or_past, set_past}
-use Rattle.std.proofs.lemmas.List.Sums.{sum_by-set}
+use Rattle.std.proofs.Common.{◌≡◌, ℕ, ◌+◌, ◌≤◌, ◌<◌, Bool, true, false, not, Option, Some, None, List, [], ◌∷◌, ◌++◌, length, sum_by, slice_index, slice_set, get_or, refl, sym, ap, ◌∙◌, ◌⊎◌, inl, inr, arith, length-append}
+use Rattle.std.proofs.lemmas.Bool.{cases_eq, cases_lt, eq-eqb}
+use Rattle.std.proofs.lemmas.List.{get_or_past, set_past, get_or-set_same}
+use Rattle.std.proofs.lemmas.List.Sums.{sum_by-set, get_or-le-sum_by}
 use Rattle.sa_base.specs.declared.number.ProcNo.{ProcNo}
 use Rattle.sa_base.specs.declared.number.SpaceNo.{SpaceNo}
 use Rattle.sa_base.specs.declared.number.ActNo.{ActNo}
 use Rattle.sa_base.specs.declared.context.Stopped.{Stopped}
 use Rattle.sa_base.specs.declared.record.Note.{Note}
-use Rattle.sa_base.specs.declared.record.Note.TheVariants.{Preempted}
+use Rattle.sa_base.specs.declared.record.Note.TheVariants.{Preempted, Blocked}
 use Rattle.sa_lemmas.specs.Function.{put}
 use Rattle.sa_lemmas.proofs.FunctionUpdates.{put-at, put-other}
 use Rattle.sa_acts.specs.declared.acts.Act.{Act}
@@ -19,7 +19,7 @@ use Rattle.sa_base.specs.Pages.{has_page}
 use Rattle.sa_kernel_model.specs.declared.entry.Entry.{Entry}
 use Rattle.sa_kernel_model.specs.declared.entry.Given.{Given}
 use Rattle.sa_kernel_model.specs.declared.entry.Given.TheVariants.{Nothing, Upcall}
-use Rattle.sa_kernel_model.specs.State.{KernelState, Scene, owner_of, aim_of, life_of, can_upcall}
+use Rattle.sa_kernel_model.specs.State.{KernelState, Scene, owner_of, aim_of, life_of, untold_of, can_upcall}
 use Rattle.sa_kernel_model.specs.Parts.{with_line, leave, moved, upcall, go_to, go_to_by}
 use Rattle.sa_kernel_model.specs.Entries.{entered_as, stopped, go_to_aim, interrupted, told_or_left, block_begun, blocked, blocked_by}
 use Rattle.sa_kernel_model.specs.Entering.{upcalls}
@@ -71,24 +71,6 @@ module _ {C : Type 0} where
     scene = ap (λ o. go_to_aim e p a o x) (sym none);
   }
 
-  pub enters-left : (e : ℕ) (p : ProcNo) (s : SpaceNo) (a : ActNo) (old new : Scene C) → old.state.acts a.0 ≡ None → can_upcall old.state s ≡ false
-      → new ≡ leave e p s old → Enters old new Nothing (can_upcall old.state s) (λ b. told_or_left e p s b (can_upcall old.state s))
-  enters-left e p s a old new unused absent is = record {
-    fresh = a;
-    unused = unused;
-    given = ap (λ b. given_by b a) (sym absent);
-    scene = is ∙ ap (λ b. told_or_left e p s a b old) (sym absent);
-  }
-
-  pub enters-told : (e : ℕ) (p : ProcNo) (s : SpaceNo) (a : ActNo) (old new : Scene C) → old.state.acts a.0 ≡ None → can_upcall old.state s ≡ true
-      → new ≡ upcall e p s a false old → Enters old new (Upcall a) (can_upcall old.state s) (λ b. told_or_left e p s b (can_upcall old.state s))
-  enters-told e p s a old new unused present is = record {
-    fresh = a;
-    unused = unused;
-    given = ap (λ b. given_by b a) (sym present);
-    scene = is ∙ ap (λ b. told_or_left e p s a b old) (sym present);
-  }
-
   -- a held context takes no number
   unused-held : (acts : ℕ → Option (Act C)) (b n : ℕ) (held : Stopped C) → put acts b (holding held (acts b)) n ≡ None → acts n ≡ None
   unused-held acts b n held none = elim (cases_eq n b) [
@@ -132,20 +114,28 @@ module _ {C : Type 0} where
             ∙ ap (λ b. go_to_aim e p enters.fresh b (stopped e p o l held (lowered p old))) is;
       }
 
+  -- a processor that the space owns goes to it where it is
+  gone-owned : (e : ℕ) (p : ProcNo) (s : SpaceNo) (b : ActNo) (present : Bool) (x : Scene C)
+      → go_to_by e p s b true present x ≡ told_or_left e p s b present x
+  gone-owned e p s b true x = refl
+  gone-owned e p s b false x = refl
+
   pub enters-block : (e : ℕ) (p : ProcNo) (s : SpaceNo) (a : ActNo) (held : Stopped C) (len : ℕ) (page : Option ℕ) (old mid new : Scene C) (result : Given)
       → owner_of old.state p ≡ Some s → life_of old.state p ≡ Some a → mid ≡ block_begun e p s a held len page old
-      → Enters mid new result (can_upcall mid.state s) (λ b. told_or_left e p s b (can_upcall mid.state s))
+      → Enters mid new result (can_upcall mid.state s) (λ b. go_to e p s b)
       → Enters old new result (upcalls_in old.state (owner_of old.state p) (life_of old.state p)) (λ b. blocked e p b held len page)
   enters-block e p s a held len page old mid new result owner life begins enters =
-      let after_begin = block_begun e p s a held len page old in
       let b = enters.fresh in
       let same : can_upcall mid.state s ≡ can_upcall old.state s = ap (λ (x : Scene C). can_upcall x.state s) begins in
+      let owned : is_aim s.0 (owner_of mid.state p) ≡ true =
+      ap (λ (x : Scene C). is_aim s.0 (owner_of x.state p)) begins ∙ ap (is_aim s.0) owner ∙ eq-eqb s.0 s.0 refl in
       record {
         fresh = b;
         unused = unused-held old.state.acts a.0 b.0 held (sym (ap (λ (x : Scene C). x.state.acts b.0) begins) ∙ enters.unused);
         given = enters.given ∙ ap (λ c. given_by c b) same ∙ ap (λ o. given_by (upcalls_in old.state o (Some a)) b) (sym owner)
             ∙ ap (λ l. given_by (upcalls_in old.state (owner_of old.state p) l) b) (sym life);
-        scene = enters.scene ∙ ap (λ c. told_or_left e p s b c mid) same ∙ ap (λ x. told_or_left e p s b (can_upcall old.state s) x) begins
+        scene = enters.scene ∙ ap (λ o. go_to_by e p s b o (can_upcall mid.state s) mid) owned ∙ gone-owned e p s b (can_upcall mid.state s) mid
+            ∙ ap (λ c. told_or_left e p s b c mid) same ∙ ap (λ x. told_or_left e p s b (can_upcall old.state s) x) begins
             ∙ ap (λ o. blocked_by e p b o (Some a) held len page old) (sym owner)
             ∙ ap (λ l. blocked_by e p b (owner_of old.state p) l held len page old) (sym life);
       }
@@ -191,6 +181,16 @@ module _ {C : Type 0} where
   count-stopped e p (Some s) None held x = omega arith
   count-stopped e p (Some s) (Some a) None x = omega arith
   count-stopped e p (Some s) (Some a) (Some h) x = count-noted x.state.untold s.0 (Preempted a)
+
+  -- what a block leaves to be told of a space
+  pub few-begun : (e : ℕ) (p : ProcNo) (s : SpaceNo) (a : ActNo) (held : Stopped C) (len : ℕ) (page : Option ℕ) (old mid : Scene C)
+      → s.0 < length old.state.untold → mid ≡ block_begun e p s a held len page old → length (untold_of mid.state s.0) ≤ untold_count old.state + 1
+  few-begun e p s a held len page old mid within begins =
+      let noted : List Note = untold_of old.state s.0 ++ Blocked a ∷ [] in
+      let same : length (untold_of mid.state s.0) ≡ length (untold_of old.state s.0 ++ Blocked a ∷ []) =
+      ap (λ (x : Scene C). length (untold_of x.state s.0)) begins ∙ ap length (get_or-set_same old.state.untold s.0 noted [] within) in
+      let few : length (untold_of old.state s.0) ≤ untold_count old.state = get_or-le-sum_by length old.state.untold s.0 [] within in
+      omega (arith, length-append (untold_of old.state s.0) (Blocked a ∷ []))
 
   abbrev with_assign : AssignView → Scene C → Scene C
   with_assign a x = record x { state = record x.state { assign = a } }

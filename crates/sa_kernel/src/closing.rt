@@ -1,15 +1,13 @@
 // The closing of an event.
 ghost use Rattle.std.specs.Prelude.{◌≡◌, ◌+◌, ◌*◌, ◌≤◌, ◌<◌, ◌&&◌, length, is_some, Some, None, IfSome, slice_index_or};
 ghost use Rattle.std.specs.List.{list_any};
-ghost use Rattle.sa_acts.specs.Table.{held_of};
 ghost use Rattle.sa_assign.specs.Aims.{aimed, least_below};
 ghost use Rattle.sa_base.specs.Recorded.{Adds};
-ghost use Rattle.sa_kernel_model.specs.Closing.{was_idle};
 
 use crate::parts::{Parts, is_owner};
 use arrayvec::ArrayVec;
 use sa_assign::AIM_ITEMS;
-use sa_base::{ActNo, Item, MAX_SPACES, Note, ProcNo, Record, SpaceNo, Trace};
+use sa_base::{Item, MAX_SPACES, Note, ProcNo, Record, SpaceNo, Trace};
 use sa_share::Claim;
 
 // The most items that a closing says: a want and a line of each space, and the new aims.
@@ -19,17 +17,7 @@ impl<C: Drop> Parts<C> {
     ghost use Rattle.sa_kernel.specs.View.{state_of, scene_of, Spends};
     ghost use Rattle.sa_kernel.specs.Needs.{HasProc, HasSpace};
     ghost use Rattle.sa_kernel_model.specs.Sound.{HasSizes};
-    ghost use Rattle.sa_kernel_model.specs.Closing.{calls_for, must_want, want_for, wants, claim_of, claims, first_space, aims, is_told_by, has_low_line, must_interrupt, interrupt, interrupt_for, lines, closed};
-
-    // Whether the context that is held of an activation was idle.
-    fn was_idle(&self, a: ActNo) -> bool
-        ensures { result ≡ was_idle (held_of ((state_of self.now).acts a.0)) }
-    {
-        match self.acts.held(a) {
-            None => false,
-            Some(held) => held.idle,
-        }
-    }
+    ghost use Rattle.sa_kernel_model.specs.Closing.{calls_for, must_want, want_for, wants, claim_of, claims, first_space, aims, is_told_by, has_low_line, must_interrupt, interrupt_for, lines, closed};
 
     // Whether the space must be told this even where it wants no processor.
     fn calls_for(&self, note: Note) -> bool
@@ -37,7 +25,10 @@ impl<C: Drop> Parts<C> {
     {
         match note {
             Note::Add(_) => false,
-            Note::Preempted(a) => !self.was_idle(a),
+            Note::Preempted(a) => match self.acts.held(a) {
+                None => true,
+                Some(held) => !held.idle,
+            },
             Note::Blocked(_) => false,
             Note::Unblocked(_) => true,
         }
@@ -88,19 +79,11 @@ impl<C: Drop> Parts<C> {
         Claim {
             priority: self.priorities[usize::from(s.0)],
             want: if self.devices.fetching(s) {
-                demand.min(self.aimed(s))
+                demand.min(self.assign.aimed(s) as u16)
             } else {
                 demand
             },
         }
-    }
-
-    // How many processors are aimed at the space.
-    fn aimed(&self, s: SpaceNo) -> u16
-        requires sizes { HasSizes (state_of self.now) }
-        ensures { result ≡ aimed s.0 self.now.assign.aims }
-    {
-        self.assign.aimed(s) as u16
     }
 
     // What each space claims.
@@ -214,24 +197,6 @@ impl<C: Drop> Parts<C> {
         self.notices.has_untold(s) && !self.devices.fetching(s) && !self.is_told(s)
     }
 
-    // The line of this processor is raised, if there is one.
-    fn raise(&mut self, event: u64, p: ProcNo, q: Option<u16>, trace: &mut Trace)
-        requires sizes { HasSizes (state_of self.old) }
-        requires low { IfSome q (λ q. (q < length self.old.lives.items)
-            × (slice_index_or self.old.assign.lines q None ≡ None)) }
-        requires trace { 1 ≤ trace.old.spare }
-        ensures exact { scene_of self.new trace.new ≡ interrupt event p q (scene_of self.old trace.old) }
-        ensures sizes { HasSizes (state_of self.new) }
-        ensures spaces { length self.new.demands.items ≡ length self.old.demands.items }
-        ensures room { Spends self.old self.new 0 0 0 }
-        ensures items { Adds 1 trace.old trace.new }
-    {
-        if let Some(q) = q {
-            self.assign.raise(ProcNo(q), event);
-            trace.say(event, p, Record::Line(ProcNo(q)));
-        }
-    }
-
     // A processor of a space is interrupted, if the space must be told something.
     fn interrupt_for(&mut self, event: u64, p: ProcNo, s: SpaceNo, trace: &mut Trace)
         requires space { HasSpace (state_of self.old) s }
@@ -243,7 +208,9 @@ impl<C: Drop> Parts<C> {
         ensures items { Adds 1 trace.old trace.new }
     {
         if self.must_interrupt(s) {
-            self.raise(event, p, self.first_low(s), trace);
+            if let Some(q) = self.first_low(s) {
+                self.raise(event, p, ProcNo(q), trace);
+            }
         }
     }
 

@@ -2,7 +2,6 @@ ghost use Rattle.std.specs.Prelude.{◌≡◌, ◌+◌, ◌-◌, ◌≤◌, ◌<
 ghost use Rattle.sa_base.specs.Items.{items_at};
 ghost use Rattle.sa_acts.specs.Table.{acts_of, held_of, taken_in, IsRunning};
 ghost use Rattle.sa_devices.specs.Ios.{io_at};
-ghost use Rattle.sa_devices.specs.Pages.{IsKind};
 ghost use Rattle.sa_base.specs.Recorded.{Adds};
 ghost use Rattle.sa_kernel_model.specs.Entries.{io_for, thread_of, without_acts, IsOwnPage};
 
@@ -17,11 +16,11 @@ use sa_kernel_model::Given;
 impl<C: Drop> Parts<C> {
     ghost use Rattle.sa_kernel.specs.View.{state_of, scene_of, used, Spends};
     ghost use Rattle.sa_kernel.specs.Needs.{HasProc, HasSpace, MayUpcall, MayBegin};
-    ghost use Rattle.sa_kernel_model.specs.State.{owner_of, aim_of, life_of, demand_of, can_upcall};
+    ghost use Rattle.sa_kernel_model.specs.State.{owner_of, aim_of, life_of, demand_of};
     ghost use Rattle.sa_kernel_model.specs.Sound.{IsFormed, HasSizes, AreSpaces, AreIos, AreAlive};
     ghost use Rattle.sa_kernel_model.specs.Enters.{Enters, upcalls_for, upcalls_in, untold_count, taken_count};
     ghost use Rattle.sa_kernel_model.specs.Parts.{go_to};
-    ghost use Rattle.sa_kernel_model.specs.Entries.{stopped, go_to_aim, interrupted, told_or_left, block_begun, blocked, kind_at, come_back, over_for, over, more, idled, announced, gave_back, interrupted_own};
+    ghost use Rattle.sa_kernel_model.specs.Entries.{stopped, go_to_aim, interrupted, block_begun, blocked, kind_at, come_back, over, more, idled, announced, gave_back, interrupted_own};
 
     // The context that ran on a processor, if one did, is stopped by an interrupt.
     fn stop(&mut self, event: u64, p: ProcNo, held: Option<Stopped<C>>, trace: &mut Trace)
@@ -35,13 +34,13 @@ impl<C: Drop> Parts<C> {
         ensures room { Spends self.old self.new 1 0 0 }
         ensures items { Adds 1 trace.old trace.new }
     {
+        let Some(held) = held else {
+            return;
+        };
         let Some(s) = self.assign.owner(p) else {
             return;
         };
         let Some(a) = self.life(p) else {
-            return;
-        };
-        let Some(held) = held else {
             return;
         };
         trace.say(event, p, Record::Stop(s, held.thread, a));
@@ -141,13 +140,15 @@ impl<C: Drop> Parts<C> {
         }
     }
 
-    // The line of another processor is raised.
-    pub(crate) fn interrupt_own(&mut self, event: u64, p: ProcNo, q: ProcNo, trace: &mut Trace)
+    // The line of a processor is raised.
+    pub(crate) fn raise(&mut self, event: u64, p: ProcNo, q: ProcNo, trace: &mut Trace)
         requires proc { HasProc (state_of self.old) q }
         requires low { slice_index_or self.old.assign.lines q.0 None ≡ None }
         requires trace { 1 ≤ trace.old.spare }
         ensures exact { scene_of self.new trace.new
             ≡ interrupted_own event p q (scene_of self.old trace.old) }
+        ensures sizes { HasSizes (state_of self.new) }
+        ensures spaces { length self.new.demands.items ≡ length self.old.demands.items }
         ensures room { Spends self.old self.new 0 0 0 }
         ensures items { Adds 1 trace.old trace.new }
     {
@@ -184,26 +185,6 @@ impl<C: Drop> Parts<C> {
         self.put_aside(p, s, a, Note::Blocked(a), held);
     }
 
-    // The space is told in a fresh activation, or the processor is left where its upcall page is absent.
-    fn tell_or_leave(&mut self, event: u64, p: ProcNo, s: SpaceNo, trace: &mut Trace) -> Given
-        requires proc { HasProc (state_of self.old) p }
-        requires space { HasSpace (state_of self.old) s }
-        requires upcall { MayUpcall self.old }
-        requires ios { MayBegin self.old event 1 }
-        requires trace { 3 + untold_count (state_of self.old) ≤ trace.old.spare }
-        ensures exact { let k = state_of self.old in
-            Enters (scene_of self.old trace.old) (scene_of self.new trace.new) result
-            (can_upcall k s) (λ a. told_or_left event p s a (can_upcall k s)) }
-        ensures room { Spends self.old self.new 0 1 1 }
-        ensures items { Adds (3 + untold_count (state_of self.old)) trace.old trace.new }
-    {
-        if !self.can_upcall(s) {
-            self.leave(event, p, s, trace);
-            return Given::Nothing;
-        }
-        Given::Upcall(self.upcall(event, p, s, false, trace))
-    }
-
     // The running context blocks.
     pub(crate) fn block(
         &mut self,
@@ -234,7 +215,7 @@ impl<C: Drop> Parts<C> {
             return Given::Nothing;
         };
         self.begin_block(event, p, s, a, held, len, page, trace);
-        self.tell_or_leave(event, p, s, trace)
+        self.go_to(event, p, s, trace)
     }
 
     // The thread that the context held of an activation carries.
@@ -249,7 +230,7 @@ impl<C: Drop> Parts<C> {
 
     // A context has come back, which its space is to be told.
     fn come_back(&mut self, event: u64, p: ProcNo, s: SpaceNo, a: ActNo, trace: &mut Trace)
-        requires space { HasSpace (state_of self.old) s }
+        requires space { s.0 < length self.old.notices.untold }
         requires notes { 1 ≤ self.old.notices.spare }
         requires trace { 1 ≤ trace.old.spare }
         ensures exact { scene_of self.new trace.new
@@ -262,25 +243,7 @@ impl<C: Drop> Parts<C> {
         trace.say(event, p, Record::Unblock(s, thread, a));
     }
 
-    // What an I/O that is over means for its space.
-    fn over(&mut self, event: u64, p: ProcNo, kind: IoKind, trace: &mut Trace)
-        requires sizes { HasSizes (state_of self.old) }
-        requires kind { IsKind (length self.old.demands.items) kind }
-        requires notes { 1 ≤ self.old.notices.spare }
-        requires trace { 1 ≤ trace.old.spare }
-        ensures exact { scene_of self.new trace.new
-            ≡ over_for event p kind (scene_of self.old trace.old) }
-        ensures room { Spends self.old self.new 1 0 0 }
-        ensures items { Adds 1 trace.old trace.new }
-    {
-        match kind {
-            IoKind::Plain(s, a) => self.come_back(event, p, s, a, trace),
-            IoKind::Page(s, a, _) => self.come_back(event, p, s, a, trace),
-            IoKind::Upcall(s) => trace.say(event, p, Record::Fetched(s)),
-        }
-    }
-
-    // An I/O is over.
+    // An I/O is over: a context has come back, or the upcall page of a space is there.
     pub(crate) fn complete(&mut self, event: u64, p: ProcNo, io: IoNo, trace: &mut Trace)
         requires sizes { HasSizes (state_of self.old) }
         requires kinds { AreIos (length self.old.demands.items) self.old.devices.ios.under_way }
@@ -292,8 +255,11 @@ impl<C: Drop> Parts<C> {
         ensures room { Spends self.old self.new 1 0 0 }
         ensures items { Adds 1 trace.old trace.new }
     {
-        let kind = self.devices.complete(io);
-        self.over(event, p, kind, trace);
+        match self.devices.complete(io) {
+            IoKind::Plain(s, a) => self.come_back(event, p, s, a, trace),
+            IoKind::Page(s, a, _) => self.come_back(event, p, s, a, trace),
+            IoKind::Upcall(s) => trace.say(event, p, Record::Fetched(s)),
+        }
     }
 
     // The taken activations of the space that owns the processor are given back.

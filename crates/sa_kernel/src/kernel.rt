@@ -178,7 +178,7 @@ impl<C: Drop> Kernel<C> {
     pub fn need(&self) -> usize
         ensures { result ≡ need_of (kernel_of self.now) }
     {
-        self.parts.need()
+        ENTRY_ITEMS + self.parts.notices.count() + self.parts.taken_count()
     }
 
     /// Shows what always holds: an activation runs on each processor that is owned, in its owner and nowhere else; a
@@ -299,6 +299,6 @@ impl<C: Drop> Kernel<C> {
     pub fn quiet(&self) -> bool
         ensures { result ≡ is_quiet (kernel_of self.now) }
     {
-        self.parts.quiet()
+        !self.parts.devices.busy() && !self.parts.has_line() && !self.parts.has_call()
     }
 }

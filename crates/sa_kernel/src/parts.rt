@@ -27,9 +27,9 @@ pub(crate) struct Parts<C: Drop> {
 impl<C: Drop> Parts<C> {
     ghost use Rattle.sa_kernel.specs.View.{state_of, scene_of, Spends};
     ghost use Rattle.sa_kernel.specs.Needs.{HasProc, HasSpace, MayUpcall, MayBegin};
-    ghost use Rattle.sa_kernel_model.specs.State.{life_of, can_upcall, is_fetching, untold_of};
+    ghost use Rattle.sa_kernel_model.specs.State.{life_of, can_upcall, untold_of};
     ghost use Rattle.sa_batch.specs.Notices.{notes_told};
-    ghost use Rattle.sa_kernel_model.specs.Parts.{put_aside, run_in, upcall, leave, fetch_page, moved, go_to};
+    ghost use Rattle.sa_kernel_model.specs.Parts.{put_aside, run_in, upcall, leave, moved, go_to};
     ghost use Rattle.sa_kernel_model.specs.Enters.{Enters};
 
     // The context that runs on a processor is no longer there: it is held, and its space is to be told.
@@ -95,23 +95,7 @@ impl<C: Drop> Parts<C> {
         a
     }
 
-    // The upcall page of a space is fetched, unless it is on its way.
-    fn fetch_page(&mut self, event: u64, p: ProcNo, s: SpaceNo, trace: &mut Trace)
-        requires space { HasSpace (state_of self.old) s }
-        requires ios { MayBegin self.old event 1 }
-        requires trace { 1 ≤ trace.old.spare }
-        ensures exact { scene_of self.new trace.new
-            ≡ fetch_page event p s (is_fetching (state_of self.old) s.0) (scene_of self.old trace.old) }
-        ensures room { Spends self.old self.new 0 0 1 }
-        ensures items { Adds 1 trace.old trace.new }
-    {
-        if !self.devices.fetching(s) {
-            let _io = self.devices.begin(IoKind::Upcall(s), event, self.fetch);
-            trace.say(event, p, Record::Fetch(s));
-        }
-    }
-
-    // A processor is left for want of the upcall page of a space, which is fetched.
+    // A processor is left for want of the upcall page of a space, which is fetched, unless it is on its way.
     pub(crate) fn leave(&mut self, event: u64, p: ProcNo, s: SpaceNo, trace: &mut Trace)
         requires proc { HasProc (state_of self.old) p }
         requires space { HasSpace (state_of self.old) s }
@@ -126,7 +110,10 @@ impl<C: Drop> Parts<C> {
         self.assign.clear_aim(p);
         trace.say(event, p, Record::Move(owner, None));
         trace.say(event, p, Record::Aim(p, None));
-        self.fetch_page(event, p, s, trace);
+        if !self.devices.fetching(s) {
+            let _io = self.devices.begin(IoKind::Upcall(s), event, self.fetch);
+            trace.say(event, p, Record::Fetch(s));
+        }
     }
 
     // The activation that runs on a processor.

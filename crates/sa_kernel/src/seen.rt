@@ -9,11 +9,11 @@ pub(crate) type Lows = [u16; MAX_SPACES];
 
 impl<C: Drop> Parts<C> {
     ghost use Rattle.sa_kernel.specs.View.{state_of};
-    ghost use Rattle.sa_kernel.specs.Needs.{HasProc, HasSpace};
+    ghost use Rattle.sa_kernel.specs.Needs.{HasProc};
     ghost use Rattle.sa_kernel.specs.Kept.{AreLow, IsLowOwner};
     ghost use Rattle.sa_kernel_model.specs.State.{owner_of};
     ghost use Rattle.sa_kernel_model.specs.Sound.{HasSizes, AreSpaces, IsFormed};
-    ghost use Rattle.sa_kernel_model.specs.Seen.{seen_of, has_line, has_call, is_quiet};
+    ghost use Rattle.sa_kernel_model.specs.Seen.{seen_of, has_line, has_call};
 
     // What each space sees of low lines.
     pub(crate) fn lows(&self) -> Lows
@@ -40,22 +40,6 @@ impl<C: Drop> Parts<C> {
         self.assign.owner(p)
     }
 
-    // What the space sees on one of its processors, where this is what each space sees of low lines.
-    fn seen_by(&self, p: ProcNo, s: SpaceNo, event: u64, lows: &Lows) -> Seen
-        requires space { HasSpace (state_of self.now) s }
-        requires lows { AreLow (state_of self.now) lows.now }
-        ensures { result ≡ seen_of (state_of self.now) p s event }
-    {
-        Seen {
-            proc: p,
-            event,
-            demand: self.demands[usize::from(s.0)],
-            pages: self.devices.pages(s),
-            taken: self.acts.taken(s),
-            low: lows[usize::from(s.0)],
-        }
-    }
-
     // What the space that owns the processor sees there, where this is what each space sees of low lines.
     pub(crate) fn seen(&self, p: ProcNo, event: u64, lows: &Lows) -> Seen
         requires proc { HasProc (state_of self.now) p }
@@ -68,11 +52,18 @@ impl<C: Drop> Parts<C> {
         let Some(s) = self.assign.owner(p) else {
             unreachable!()
         };
-        self.seen_by(p, s, event, lows)
+        Seen {
+            proc: p,
+            event,
+            demand: self.demands[usize::from(s.0)],
+            pages: self.devices.pages(s),
+            taken: self.acts.taken(s),
+            low: lows[usize::from(s.0)],
+        }
     }
 
     // Whether the line of a processor is raised.
-    fn has_line(&self) -> bool
+    pub(crate) fn has_line(&self) -> bool
         requires { HasSizes (state_of self.now) }
         ensures { result ≡ has_line (state_of self.now) }
     {
@@ -85,7 +76,7 @@ impl<C: Drop> Parts<C> {
     }
 
     // Whether a space was not told yet of a context that was not idle.
-    fn has_call(&self) -> bool
+    pub(crate) fn has_call(&self) -> bool
         requires { HasSizes (state_of self.now) }
         ensures { result ≡ has_call (state_of self.now) }
     {
@@ -95,14 +86,6 @@ impl<C: Drop> Parts<C> {
             }
         }
         false
-    }
-
-    // Whether nothing is under way, no line is raised, and no space waits to be told of a context that was not idle.
-    pub(crate) fn quiet(&self) -> bool
-        requires { HasSizes (state_of self.now) }
-        ensures { result ≡ is_quiet (state_of self.now) }
-    {
-        !self.devices.busy() && !self.has_line() && !self.has_call()
     }
 }
 

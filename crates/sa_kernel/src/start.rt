@@ -11,10 +11,10 @@ use crate::closing::CLOSING_ITEMS;
 use crate::parts::Parts;
 use sa_acts::Acts;
 use sa_assign::Assign;
-use sa_base::{ActNo, MAX_EVENTS, MAX_SPACES, Note, ProcNo, Record, SpaceNo, Stopped, Trace};
+use sa_base::{ActNo, MAX_SPACES, Note, ProcNo, Record, SpaceNo, Stopped, Trace};
 use sa_batch::Notices;
 use sa_devices::Devices;
-use sa_kernel_model::{ENTRY_ITEMS, Entry, Given};
+use sa_kernel_model::{Entry, Given};
 use sa_spaces::{SpaceDef, Workload};
 use std::alloc::{AllocError, Global};
 
@@ -29,8 +29,7 @@ impl<C: Drop> Parts<C> {
     ghost use Rattle.sa_kernel_model.specs.Opening.{opening_state};
     ghost use Rattle.sa_kernel_model.specs.Closing.{closed};
     ghost use Rattle.sa_kernel_model.specs.Entries.{entered_as, held_for, handed_by, fetched, next_note, after_fetch};
-    ghost use Rattle.sa_kernel_model.specs.Owed.{pending_count};
-    ghost use Rattle.sa_kernel_model.specs.Entering.{need_of, MayEnter, upcalls};
+    ghost use Rattle.sa_kernel_model.specs.Entering.{MayEnter, upcalls};
 
     // The parts at the opening of a workload.
     pub(crate) fn new(alloc: Global, w: &Workload) -> Result<Self, AllocError>
@@ -118,7 +117,7 @@ impl<C: Drop> Parts<C> {
     }
 
     // How many activations are taken and not given back.
-    fn taken_count(&self) -> usize
+    pub(crate) fn taken_count(&self) -> usize
         requires { HasSizes (state_of self.now) }
         ensures is { result ≡ taken_count (state_of self.now) }
         ensures few { result ≤ MAX_SPACES * 2 ^ 32 }
@@ -128,15 +127,6 @@ impl<C: Drop> Parts<C> {
             count += self.acts.taken(SpaceNo(s as u16)) as usize;
         }
         count
-    }
-
-    // A spare of the trace that suffices for an entry.
-    pub(crate) fn need(&self) -> usize
-        requires sizes { HasSizes (state_of self.now) }
-        requires few { pending_count (state_of self.now) ≤ MAX_EVENTS }
-        ensures { result ≡ need_of (state_of self.now) }
-    {
-        ENTRY_ITEMS + self.notices.count() + self.taken_count()
     }
 
     // What an entry does, but for the closing.
@@ -179,7 +169,7 @@ impl<C: Drop> Parts<C> {
                 Given::Nothing
             }
             Entry::InterruptOwn(q) => {
-                self.interrupt_own(event, p, q, trace);
+                self.raise(event, p, q, trace);
                 Given::Nothing
             }
         }

@@ -26,4 +26,4 @@ returns-in-GiveBack-clause-exact g c =
 pub returns-in-InterruptOwn-clause-exact : goal.returns-in-InterruptOwn-clause-exact
 returns-in-InterruptOwn-clause-exact g c =
     enters-quietly c.args.event c.args.p c.args.entry _ (vacant c.args.self.now.acts) (scene_of c.args.self.now c.args.trace.now)
-    (scene_of c.interrupt_own.new.self c.interrupt_own.new.trace) c.in-InterruptOwn.is refl (vacant-unused c.args.self.now.acts) c.interrupt_own.ensures.exact
+    (scene_of c.raise.new.self c.raise.new.trace) c.in-InterruptOwn.is refl (vacant-unused c.args.self.now.acts) c.raise.ensures.exact

@@ -1,6 +1,6 @@
 use Rattle.std.proofs.Common.{arith}
 use Rattle.std.proofs.lemmas.Grind.{common_steps}
-use Rattle.sa_kernel.proofs.parts.Parts.fetch_page.Goals as goal
+use Rattle.sa_kernel.proofs.parts.Parts.leave.Goals as goal
 
 pub fetching-requires : goal.fetching-requires
 fetching-requires g c = grind (arith, common_steps)
@@ -16,9 +16,6 @@ begin-io-requires-clause-few g c = grind (arith, common_steps)
 
 pub begin-io-requires-clause-kind : goal.begin-io-requires-clause-kind
 begin-io-requires-clause-kind g c = grind (arith, common_steps)
-
-pub say-requires : goal.say-requires
-say-requires g c = grind (arith, common_steps)
 
 pub returns-then-not-fetching-clause-exact : goal.returns-then-not-fetching-clause-exact
 returns-then-not-fetching-clause-exact g c = grind (arith, common_steps)
