@@ -111,9 +111,12 @@ fn copy_next(from: &[u8], at: usize, most: usize, to: &mut [u8]) -> usize
 fn is_next_listed(numbers: &[u64], calls: u64) -> bool
     ensures { IsTrue result ↔ Contains numbers.now (calls + 1) }
 {
-    numbers
-        .iter()
-        .any(|number| *number > 0 && *number - 1 == calls)
+    for number in numbers {
+        if *number > 0 && *number - 1 == calls {
+            return true;
+        }
+    }
+    false
 }
 
 /// A sink in memory, of a fixed size. Chosen writes fail.
