@@ -6,7 +6,6 @@ ghost use Rattle.std.specs.Vec.{vec_ptr};
 ghost use Rattle.sa_links.specs.Slot.{IsSlot, index_of};
 
 use std::alloc::{AllocError, Allocator};
-use std::fmt;
 use std::marker::Send;
 
 // Where a value of a block lies. It owns nothing.
@@ -28,12 +27,6 @@ impl<T> Copy for Slot<T> {}
 
 // A slot gives no access by itself: `at` and `put` want the block too.
 unsafe impl<T> Send for Slot<T> {}
-
-impl<T> fmt::Debug for Slot<T> {
-    fn fmt<W: fmt::Write>(&self, f: &mut fmt::Formatter<W>) -> fmt::Result {
-        f.write_str("Slot")
-    }
-}
 
 // The slot where a block begins.
 pub(crate) fn begin_of<T, A: Allocator>(block: &mut Vec<T, A>) -> Slot<T>
