@@ -150,24 +150,23 @@ impl<C: Drop> Acts<C> {
 fn no_queues(alloc: Global) -> [Queue; MAX_SPACES]
     ensures { All (λ q. q.numbers ≡ []) result }
 {
-    let queue = || Queue::new(alloc);
     [
-        queue(),
-        queue(),
-        queue(),
-        queue(),
-        queue(),
-        queue(),
-        queue(),
-        queue(),
-        queue(),
-        queue(),
-        queue(),
-        queue(),
-        queue(),
-        queue(),
-        queue(),
-        queue(),
+        Queue::new(alloc),
+        Queue::new(alloc),
+        Queue::new(alloc),
+        Queue::new(alloc),
+        Queue::new(alloc),
+        Queue::new(alloc),
+        Queue::new(alloc),
+        Queue::new(alloc),
+        Queue::new(alloc),
+        Queue::new(alloc),
+        Queue::new(alloc),
+        Queue::new(alloc),
+        Queue::new(alloc),
+        Queue::new(alloc),
+        Queue::new(alloc),
+        Queue::new(alloc),
     ]
 }
 
