@@ -26,3 +26,12 @@ pub all_each : (P : Operand → Type 0) (tested : Bool) (os : List Operand)
 all_each P true os all = (λ _. each_of_all P os (All-from_all_within P os all), λ _. refl)
 all_each P false os fails =
     (λ is. absurd (false≢true is), λ each. absurd (fails.2 (Value 0) (each_at P os fails.0 (Value 0) fails.1 each)))
+
+-- two things hold of each operand
+pub each_both : (P Q : Operand → Type 0) (os : List Operand) → Each (λ o. P o × Q o) os → Each P os × Each Q os
+each_both P Q [] each = (tt, tt)
+each_both P Q (o ∷ os) each = let rest = each_both P Q os each.1 in ((each.0.0, rest.0), (each.0.1, rest.1))
+
+pub both_each : (P Q : Operand → Type 0) (os : List Operand) → Each P os → Each Q os → Each (λ o. P o × Q o) os
+both_each P Q [] p q = tt
+both_each P Q (o ∷ os) p q = ((p.0, q.0), both_each P Q os p.1 q.1)

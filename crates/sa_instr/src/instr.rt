@@ -88,24 +88,15 @@ pub enum Instr {
 }
 
 impl Instr {
-    // Whether each number with a range of its own is in it.
-    pub(crate) fn is_in_range(&self) -> bool
-        ensures { IsTrue result ↔ IsInRange self.now }
+    // Whether it fits a program of `len` instructions: a jump goes to a place below `len`, and each number with a range of
+    // its own is in it.
+    pub(crate) fn fits(&self, len: usize) -> bool
+        ensures { IsTrue result ↔ (JumpsBelow len self.now × IsInRange self.now) }
     {
         self.parts()
             .operands()
             .iter()
-            .all(|operand| operand.is_in_range())
-    }
-
-    // Whether a jump goes to a place below `len`.
-    pub(crate) fn jumps_below(&self, len: usize) -> bool
-        ensures { IsTrue result ↔ JumpsBelow len self.now }
-    {
-        self.parts()
-            .operands()
-            .iter()
-            .all(|operand| operand.is_below(len))
+            .all(|operand| operand.is_below(len) && operand.is_in_range())
     }
 
     // Whether the mutex, semaphore, cell or program that the instruction names is declared.

@@ -101,7 +101,5 @@ fn is_program(instrs: &[Instr]) -> bool
     let len = instrs.len();
     len <= MAX_INSTRUCTIONS
         && matches!(instrs.last(), Some(Instr::End))
-        && instrs
-            .iter()
-            .all(|instr| instr.jumps_below(len) && instr.is_in_range())
+        && instrs.iter().all(|instr| instr.fits(len))
 }
