@@ -1,5 +1,5 @@
 -- What always holds of a run is kept by each turn.
-use Rattle.std.proofs.Common.{◌≡◌, ◌≢◌, ℕ, ◌+◌, ◌-◌, ◌<◌, ◌≤◌, Bool, true, false, cond, Some, None, refl, sym, ap, subst, ◌∙◌, arith}
+use Rattle.std.proofs.Common.{◌≡◌, ◌≢◌, ℕ, ◌+◌, ◌-◌, ◌^◌, ◌<◌, ◌≤◌, Bool, true, false, cond, Some, None, refl, sym, ap, subst, ◌∙◌, arith}
 use Rattle.std.specs.Prelude.{◌==◌}
 use Rattle.std.specs.Option.{option_map}
 use Rattle.std.proofs.lemmas.Bool.{eq-eqb}
@@ -72,6 +72,9 @@ module _ (m : Parts) (budget spare : ℕ) (kept : IsKept m budget spare) (p : Pr
 
   turn_read : TurnIsRead m.replay.workload p (board_of m) (turned p (board_of m)) kept.read
   turn_read = turns_are_read m.replay.workload p (board_of m) kept.read inside event
+
+  pub few : (acts p (option_map io_no (due_of m.number m.devices.ios.under_way)) (after_evictions (board_of m))).number < 2 ^ 63
+  few = let number : (turned p (board_of m)).number ≡ m.number + 1 = turn_read.number in omega (arith, number, event)
 
   pub waits : BlocksByIos (acts p (option_map io_no (due_of m.number m.devices.ios.under_way)) (after_evictions (board_of m)))
   waits = read_waits m.replay.workload (turned p (board_of m)) turn_read.read

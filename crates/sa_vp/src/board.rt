@@ -32,7 +32,7 @@ pub(crate) const EVENT_ITEMS: usize = 3;
 // The one list of the queue.
 const QUEUE: u32 = 0;
 
-/// The parts of a run, which ends by `into_trace` or `into_losses`. A virtual processor is the place of its number.
+/// The parts of a run, which ends by `into_losses`. A virtual processor is the place of its number.
 pub(crate) struct Parts {
     // the workload, and the state of the abstract machine
     pub(crate) replay: Replay,
@@ -106,19 +106,6 @@ impl Parts {
         }
     }
 
-    // The first thread of the virtual processor's work list.
-    fn front_of_work(&self, a: ActNo) -> Option<ThreadNo>
-        requires tabled { IsTabled (board_of self.now) }
-        requires known { IsVirtual (board_of self.now) a }
-        ensures first { result ≡ option_map thread (slice_get (list_in self.now.work.items (space_of a) (list_of a)) 0) }
-        ensures small { IfSome result (λ t. t.0 < MAX_THREADS) }
-    {
-        let s = space_of(a);
-        let l = list_of(a);
-        let first = self.work[usize::from(s.0)].front(u32::from(l.0))?;
-        Some(ThreadNo(first as u16))
-    }
-
     // The first thread of the virtual processor's work list; no list is looked at where no thread is in any.
     fn first_due(&self, a: ActNo) -> Option<ThreadNo>
         requires tabled { IsTabled (board_of self.now) }
@@ -130,7 +117,10 @@ impl Parts {
         if self.due == 0 {
             return None;
         }
-        self.front_of_work(a)
+        let s = space_of(a);
+        let l = list_of(a);
+        let first = self.work[usize::from(s.0)].front(u32::from(l.0))?;
+        Some(ThreadNo(first as u16))
     }
 
     // The first ready list of the virtual processor's space, round from its own, that has a thread: none where no thread of
@@ -316,21 +306,6 @@ impl Parts {
         self.say(p, Record::Out(s, t, value));
     }
 
-    // The thread runs `io`, and blocks for an I/O of `len` events.
-    fn go_block(&mut self, p: ProcNo, a: ActNo, t: ThreadNo, pc: u16, len: u32)
-        requires inside { p.0 < self.old.replay.workload.processors }
-        requires at { pc ≡ (thread_at self.old.replay.state (space_of a) t).pc }
-        requires can { CanGoOn p a t (board_of self.old) }
-        requires blocks { CanBlockOn p a t (Plain (space_of a) a) (goes p a t (board_of self.old)) }
-        requires io { 1 ≤ self.old.devices.ios.spare }
-        requires room { EVENT_ITEMS ≤ self.old.trace.spare }
-        ensures board { board_of self.new ≡ blocks p a t (Plain (space_of a) a) len (goes p a t (board_of self.old)) }
-        ensures room { Spends self.old self.new }
-    {
-        self.go(p, a, t, pc);
-        self.block(p, a, t, IoKind::Plain(space_of(a), a), len);
-    }
-
     // The thread runs its instruction, which is at this place and for which no page is missing.
     fn go_on(&mut self, p: ProcNo, a: ActNo, t: ThreadNo, pc: u16, instr: Instr)
         requires inside { p.0 < self.old.replay.workload.processors }
@@ -345,7 +320,10 @@ impl Parts {
     {
         match instr {
             Instr::Out(reg) => self.go_out(p, a, t, pc, reg),
-            Instr::Io(len) => self.go_block(p, a, t, pc, len),
+            Instr::Io(len) => {
+                self.go(p, a, t, pc);
+                self.block(p, a, t, IoKind::Plain(space_of(a), a), len);
+            }
             _ => self.go(p, a, t, pc),
         }
     }

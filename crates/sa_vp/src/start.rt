@@ -1,5 +1,5 @@
 // The opening of a run.
-ghost use Rattle.std.specs.Prelude.{◌≡◌, ◌≤◌, [], ◌∷◌, None, length, replicate, IfOk};
+ghost use Rattle.std.specs.Prelude.{◌≡◌, ◌≤◌, [], ◌∷◌, length, replicate, IfOk};
 ghost use Rattle.sa_base.specs.declared.limits.TheConstants.{MAX_PROCESSORS};
 ghost use Rattle.sa_vp_model.specs.Board.{empty, first_ready, opened, act_numbers};
 ghost use Rattle.sa_virtual.specs.Virtual.{opening_queue};
@@ -54,34 +54,6 @@ fn opening_work(alloc: Global, spaces: usize, lists: u16) -> Result<Vec<Links>, 
     Ok(rows)
 }
 
-// No virtual processor on any of the processors. Fails only where memory runs out.
-fn nobody(alloc: Global, processors: u16) -> Result<Vec<Option<ActNo>>, AllocError>
-    ensures { IfOk result (λ placed. placed.items ≡ replicate processors None) }
-{
-    vec![in alloc; None; usize::from(processors)]
-}
-
-// No thread of any of `count` virtual processors. Fails only where memory runs out.
-fn no_threads(alloc: Global, count: usize) -> Result<Vec<Option<ThreadNo>>, AllocError>
-    ensures { IfOk result (λ threads. threads.items ≡ replicate count None) }
-{
-    vec![in alloc; None; count]
-}
-
-// So many counts of 0. Fails only where memory runs out.
-fn zeros(alloc: Global, count: usize) -> Result<Vec<u32>, AllocError>
-    ensures { IfOk result (λ counts. counts.items ≡ replicate count 0) }
-{
-    vec![in alloc; 0; count]
-}
-
-// So many losses of 0. Fails only where memory runs out.
-fn no_losses(alloc: Global, spaces: usize) -> Result<Vec<u64>, AllocError>
-    ensures { IfOk result (λ lost. lost.items ≡ replicate spaces 0) }
-{
-    vec![in alloc; 0; spaces]
-}
-
 // What is kept of virtual processors at the opening, but for their lists.
 #[derive(Drop)]
 struct Tables {
@@ -97,11 +69,11 @@ fn opening_tables(alloc: Global, spaces: usize, processors: u16) -> Result<Table
     ensures { IfOk result (IsOpeningTable spaces processors) }
 {
     Ok(Tables {
-        placed: nobody(alloc, processors)?,
-        threads: no_threads(alloc, VIRTUALS as usize)?,
-        steps: zeros(alloc, VIRTUALS as usize)?,
-        blocked: zeros(alloc, spaces)?,
-        lost: no_losses(alloc, spaces)?,
+        placed: vec![in alloc; None; usize::from(processors)]?,
+        threads: vec![in alloc; None; VIRTUALS as usize]?,
+        steps: vec![in alloc; 0; VIRTUALS as usize]?,
+        blocked: vec![in alloc; 0; spaces]?,
+        lost: vec![in alloc; 0; spaces]?,
     })
 }
 

@@ -2,9 +2,9 @@
 ghost use Rattle.std.specs.Prelude.{◌≡◌, ℕ, ◌+◌, ◌≤◌, ◌<◌, ◌^◌, length, map, slice_index_or};
 ghost use Rattle.std.specs.List.{range_with_len};
 ghost use Rattle.std.specs.Option.{option_map};
-ghost use Rattle.sa_base.specs.declared.limits.TheConstants.{MAX_EVENTS, MAX_SPACES};
+ghost use Rattle.sa_base.specs.declared.limits.TheConstants.{MAX_SPACES};
 ghost use Rattle.sa_devices.specs.Ios.{due_of, io_no};
-ghost use Rattle.sa_vp_model.specs.Turn.{after_evictions, acts, counted, loses, loss, turned, has_had_its_turn};
+ghost use Rattle.sa_vp_model.specs.Turn.{after_evictions, acts, counted, loss, turned, has_had_its_turn};
 ghost use Rattle.sa_vp_model.specs.Needs.{CanAct, CanLose};
 ghost use Rattle.sa_vp_model.specs.End.{is_done, is_stuck};
 ghost use Rattle.sa_vp.specs.View.{board_of};
@@ -52,19 +52,8 @@ impl Parts {
         }
     }
 
-    // Each space loses as many of its ready threads as it has blocked virtual processors: none where no I/O is under way.
-    fn lose(&mut self)
-        requires can { CanLose (board_of self.old) }
-        requires ios { BlocksByIos (board_of self.old) }
-        ensures rest { self.new ≡ record self.old { lost = self.new.lost } }
-        ensures lost { self.new.lost.items ≡ loses (board_of self.old) }
-    {
-        if self.devices.busy() {
-            add_losses(&mut self.lost, &self.blocked, &self.replay);
-        }
-    }
-
-    // The end of an event: the losses are counted.
+    // The end of an event: each space loses as many of its ready threads as it has blocked virtual processors, and none where
+    // no I/O is under way.
     fn count(&mut self)
         requires can { CanLose (board_of self.old) }
         requires ios { BlocksByIos (board_of self.old) }
@@ -73,15 +62,17 @@ impl Parts {
         ensures trace { self.new.trace ≡ self.old.trace }
         ensures devices { self.new.devices ≡ self.old.devices }
     {
-        self.lose();
         self.number += 1;
+        if self.devices.busy() {
+            add_losses(&mut self.lost, &self.blocked, &self.replay);
+        }
     }
 
     /// One event of the processor.
     pub(crate) fn turn(&mut self, p: ProcNo)
         requires can { CanAct p (after_evictions (board_of self.old)) }
         requires counted { CountsWork (board_of self.old) }
-        requires few { self.old.number ≤ MAX_EVENTS }
+        requires few { (acts p (option_map io_no (due_of self.old.number self.old.devices.ios.under_way)) (after_evictions (board_of self.old))).number < 2 ^ 63 }
         requires lose { CanLose (acts p (option_map io_no (due_of self.old.number self.old.devices.ios.under_way)) (after_evictions (board_of self.old))) }
         requires ios { BlocksByIos (acts p (option_map io_no (due_of self.old.number self.old.devices.ios.under_way)) (after_evictions (board_of self.old))) }
         requires io { 1 ≤ self.old.devices.ios.spare }
@@ -99,14 +90,6 @@ impl Parts {
         ensures { result ≡ is_done (board_of self.now) }
     {
         self.replay.are_all_done()
-    }
-
-    /// The trace alone.
-    pub(crate) fn into_trace(self) -> Trace
-        ensures { result ≡ self.trace }
-    {
-        let (trace, _lost) = self.into_losses();
-        trace
     }
 
     /// The trace, and what each space has lost.

@@ -135,12 +135,8 @@ impl Vp {
     pub fn into_trace(self) -> Trace
         ensures { result.items ≡ self.board.items }
     {
-        let Vp {
-            parts,
-            budget: _,
-            spare: _,
-        } = self;
-        parts.into_trace()
+        let (trace, _lost) = self.into_losses();
+        trace
     }
 
     /// The history of the run, and what each space has lost.

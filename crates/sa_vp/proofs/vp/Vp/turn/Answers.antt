@@ -1,7 +1,7 @@
 use Rattle.std.proofs.Common.{ap, ◌∙◌, arith}
 use Rattle.sa_vp_model.specs.Turn.{turned}
 use Rattle.sa_vp.specs.View.{VpView}
-use Rattle.sa_vp.proofs.Kept.{inside-view, can, lose, waits, work, kept-turn, number-turn}
+use Rattle.sa_vp.proofs.Kept.{inside-view, can, lose, few, waits, work, kept-turn, number-turn}
 use Rattle.sa_vp.proofs.vp.Vp.turn.Goals as goal
 
 pub turn-requires-clause-can : goal.turn-requires-clause-can
@@ -15,6 +15,12 @@ turn-requires-clause-lose c =
     let k = c.self.inside in
     let is = inside-view k.parts k.budget k.spare c.make_room.new.self c.args.self.now c.self.view_is c.make_room.ensures.rest in
     lose k.parts k.budget k.spare c.self.invariant c.args.p c.args.self.now is c.requires.within c.requires.not_ended
+
+pub turn-requires-clause-few : goal.turn-requires-clause-few
+turn-requires-clause-few c =
+    let k = c.self.inside in
+    let is = inside-view k.parts k.budget k.spare c.make_room.new.self c.args.self.now c.self.view_is c.make_room.ensures.rest in
+    few k.parts k.budget k.spare c.self.invariant c.args.p c.args.self.now is c.requires.within c.requires.not_ended
 
 pub turn-requires-clause-ios : goal.turn-requires-clause-ios
 turn-requires-clause-ios c =
