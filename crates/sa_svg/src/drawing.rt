@@ -3,7 +3,7 @@ ghost use Rattle.std.specs.Prelude.{◌≡◌, ◌≤◌, ◌++◌, IfOk, OnOk};
 ghost use Rattle.std.specs.List.{flat_map};
 ghost use Rattle.sa_svg.specs.Drawing.{words_at, bar_text, demand_text, aimed_text, piece_in, piece_text, stretch_text, mark_at_text, mark_text, shape_text, svg_text};
 
-use crate::head::{push_end, push_head};
+use crate::head::push_head;
 use crate::layout::{BAR_HEIGHT, Layout, has_room};
 use crate::markup::{Rect, push_numbered, push_numbered_rect, push_rect, push_words};
 use crate::titles::{push_line, push_stretch_title};
@@ -33,7 +33,7 @@ pub fn print(
         items,
         &picture.shapes,
     )?;
-    push_end(&mut out)?;
+    out.extend_from_slice(b"</svg>\n")?;
     Ok(out)
 }
 

@@ -1,9 +1,9 @@
 // What every picture has: its size, colours, legend, axis and names.
-ghost use Rattle.std.specs.Prelude.{◌≡◌, ◌≤◌, ◌++◌, OnOk, codes};
+ghost use Rattle.std.specs.Prelude.{◌≡◌, ◌≤◌, ◌++◌, OnOk};
 ghost use Rattle.std.specs.List.{flat_map};
-ghost use Rattle.sa_svg.specs.Head.{opened, open_text, size_attrs, sheet, outlines, style_text, ground_text, sample_box, sample_text, legend_entry, legend_text, space_entry, spaces_legend, tick, ticks, lane_name, lane_names, space_name, space_names, band_names, names, head_text};
+ghost use Rattle.sa_svg.specs.Head.{opened, open_text, size_attrs, sheet, outlines, style_text, ground_text, sample_box, sample_text, legend_entry, space_entry, spaces_legend, tick, ticks, lane_name, lane_names, space_name, space_names, names, head_text};
 
-use crate::layout::Layout;
+use crate::layout::{Layout, UNIT_OF_STROKES, tick_step};
 use crate::markup::{
     Rect, push_number, push_numbered, push_numbered_rect, push_numbered_words, push_rect,
     push_words,
@@ -91,17 +91,10 @@ pub(crate) fn push_head(out: &mut Vec<u8>, layout: Layout, window: Window) -> Re
     push_opening(out, layout)?;
     push_style(out, layout)?;
     push_ground(out, layout)?;
-    push_legend(out)?;
+    push_samples(out, &LEGEND)?;
     push_spaces_legend(out, layout.spaces)?;
     push_ticks(out, layout, window)?;
     push_names(out, layout)
-}
-
-/// Appends the end of the file.
-pub(crate) fn push_end(out: &mut Vec<u8>) -> Result<(), AllocError>
-    ensures { OnOk result (out.new.items ≡ out.old.items ++ codes "</svg>\n") }
-{
-    out.extend_from_slice(b"</svg>\n")
 }
 
 // Appends the tag of the whole.
@@ -149,11 +142,11 @@ fn push_style(out: &mut Vec<u8>, layout: Layout) -> Result<(), AllocError>
     push_sheet(out, outlines(layout))
 }
 
-// What is outlined.
+// What is outlined: more where the events are wide enough for strokes.
 fn outlines(layout: Layout) -> &'static [u8]
     ensures { result.now ≡ outlines layout }
 {
-    if layout.has_strokes() {
+    if layout.unit >= UNIT_OF_STROKES {
         STROKES_STYLE
     } else {
         FLAT_STYLE
@@ -184,13 +177,7 @@ fn push_ground(out: &mut Vec<u8>, layout: Layout) -> Result<(), AllocError>
     out.extend_from_slice(b"\n")
 }
 
-#[tactic(auto, unfolding(crate::specs::Head::legend_text))]
-fn push_legend(out: &mut Vec<u8>) -> Result<(), AllocError>
-    ensures { OnOk result (out.new.items ≡ out.old.items ++ legend_text) }
-{
-    push_samples(out, &LEGEND)
-}
-
+// Appends the samples of the legend.
 fn push_samples(out: &mut Vec<u8>, samples: &[Sample]) -> Result<(), AllocError>
     ensures { OnOk result (out.new.items ≡ out.old.items ++ flat_map sample_text samples.now) }
 {
@@ -304,7 +291,7 @@ fn push_tick(out: &mut Vec<u8>, layout: Layout, window: Window, at: u16) -> Resu
     ensures { OnOk result (out.new.items ≡ out.old.items ++ tick layout window at) }
 {
     let event = window.from.saturating_add(u64::from(at));
-    if event % u64::from(layout.tick_step()) != 0 {
+    if event % u64::from(tick_step(layout.unit)) != 0 {
         return Ok(());
     }
     let x = layout.x(at);
@@ -325,16 +312,10 @@ fn push_names(out: &mut Vec<u8>, layout: Layout) -> Result<(), AllocError>
     ensures { OnOk result (out.new.items ≡ out.old.items ++ names layout) }
 {
     for band in 0..layout.bands() {
-        push_band_names(out, layout, band)?;
+        push_space_names(out, layout, band)?;
+        push_lane_names(out, layout, band)?;
     }
     Ok(())
-}
-
-fn push_band_names(out: &mut Vec<u8>, layout: Layout, band: u16) -> Result<(), AllocError>
-    ensures { OnOk result (out.new.items ≡ out.old.items ++ band_names layout band) }
-{
-    push_space_names(out, layout, band)?;
-    push_lane_names(out, layout, band)
 }
 
 // Appends the names of the spaces from 0 on.

@@ -1,6 +1,6 @@
 // Where things are.
 ghost use Rattle.std.specs.Prelude.{◌≡◌, ◌*◌, ◌≤◌};
-ghost use Rattle.sa_svg.specs.Layout.{unit_of, per_of, layout_of, band_of, bands, pieces, piece_from, piece_to, x_of, span_of, lane_height, band_height, band_top, tracks_top, tracks_height, lane_top, bar_y, mark_y, space_base, steps, width_of, height_of, has_strokes, has_room, tick_step};
+ghost use Rattle.sa_svg.specs.Layout.{unit_of, per_of, layout_of, band_of, bands, pieces, piece_from, piece_to, x_of, span_of, lane_height, band_height, band_top, tracks_top, tracks_height, lane_top, bar_y, mark_y, space_base, steps, width_of, height_of, has_room, tick_step};
 
 use sa_shapes::{Picture, Stretch};
 
@@ -142,13 +142,6 @@ impl Layout {
         times(to.saturating_sub(from), self.unit)
     }
 
-    // Whether the events are wide enough for strokes.
-    pub(crate) fn has_strokes(self) -> bool
-        ensures { result ≡ has_strokes self }
-    {
-        self.unit >= UNIT_OF_STROKES
-    }
-
     // How high a lane is, and a band with all its spaces and lanes.
     fn lane_height(self) -> u64
         ensures height { result ≡ lane_height self }
@@ -239,14 +232,6 @@ impl Layout {
     {
         self.band_top(self.bands())
     }
-
-    // After how many events the axis has another number.
-    pub(crate) fn tick_step(self) -> u16
-        ensures step { result ≡ tick_step self.unit }
-        ensures some { 1 ≤ result }
-    {
-        step_of(self.unit)
-    }
 }
 
 // A word of so many letters has room in a shape that is so wide.
@@ -257,7 +242,7 @@ pub(crate) fn has_room(width: u64, word: &[u8]) -> bool
 }
 
 // After how many events of this width the axis has another number.
-fn step_of(unit: u16) -> u16
+pub(crate) fn tick_step(unit: u16) -> u16
     ensures step { result ≡ tick_step unit }
     ensures some { 1 ≤ result }
 {
@@ -286,7 +271,7 @@ fn per_of(width: u64, unit: u16, count: u16) -> u16
     ensures { result ≡ per_of width unit count }
 {
     let fit = width.saturating_sub(SIDE + MARGIN) / u64::from(unit.max(1));
-    let step = u64::from(step_of(unit));
+    let step = u64::from(tick_step(unit));
     if fit >= u64::from(count) {
         count.max(1)
     } else if fit < step {

@@ -1,6 +1,6 @@
 // Tags, attributes and elements.
 ghost use Rattle.std.specs.Prelude.{◌≡◌, ◌++◌, OnOk, codes};
-ghost use Rattle.sa_svg.specs.Markup.{number, rect_attrs, text_attrs, text_tag, text_at, rect, numbered};
+ghost use Rattle.sa_svg.specs.Markup.{number, rect_attrs, text_tag, text_at, rect, numbered};
 
 use sa_text::print_number;
 use std::alloc::AllocError;
@@ -23,26 +23,6 @@ pub(crate) fn push_number(out: &mut Vec<u8>, name: &[u8], n: u64) -> Result<(), 
     out.extend_from_slice(b"=\"")?;
     print_number(n, out)?;
     out.extend_from_slice(b"\"")
-}
-
-// Appends the attributes that say where a rectangle is.
-#[tactic(auto, unfolding(crate::specs::Markup::rect_attrs))]
-fn push_rect_attrs(out: &mut Vec<u8>, rect: Rect) -> Result<(), AllocError>
-    ensures { OnOk result (out.new.items ≡ out.old.items ++ rect_attrs rect) }
-{
-    push_number(out, b"x", rect.x)?;
-    push_number(out, b"y", rect.y)?;
-    push_number(out, b"width", rect.width)?;
-    push_number(out, b"height", rect.height)
-}
-
-// Appends the attributes that say where a text is.
-#[tactic(auto, unfolding(crate::specs::Markup::text_attrs))]
-fn push_text_attrs(out: &mut Vec<u8>, x: u64, y: u64) -> Result<(), AllocError>
-    ensures { OnOk result (out.new.items ≡ out.old.items ++ text_attrs x y) }
-{
-    push_number(out, b"x", x)?;
-    push_number(out, b"y", y)
 }
 
 /// Appends a word and a number after it.
@@ -78,12 +58,16 @@ pub(crate) fn push_numbered_rect(
     push_rect_end(out, place)
 }
 
-// Appends what follows a rectangle's class.
+// Appends what follows a rectangle's class: where it is, and how large.
+#[tactic(auto, unfolding(crate::specs::Markup::rect_attrs))]
 fn push_rect_end(out: &mut Vec<u8>, place: Rect) -> Result<(), AllocError>
     ensures { OnOk result (out.new.items ≡ out.old.items ++ codes "\"" ++ rect_attrs place ++ codes "/>") }
 {
     out.extend_from_slice(b"\"")?;
-    push_rect_attrs(out, place)?;
+    push_number(out, b"x", place.x)?;
+    push_number(out, b"y", place.y)?;
+    push_number(out, b"width", place.width)?;
+    push_number(out, b"height", place.height)?;
     out.extend_from_slice(b"/>")
 }
 
@@ -121,13 +105,14 @@ pub(crate) fn push_numbered_words(
 }
 
 // Appends the beginning of words of this class.
-#[tactic(auto, unfolding(crate::specs::Markup::text_tag))]
+#[tactic(auto, unfolding(crate::specs::Markup::text_tag, crate::specs::Markup::text_attrs))]
 fn push_text_tag(out: &mut Vec<u8>, class: &[u8], x: u64, y: u64) -> Result<(), AllocError>
     ensures { OnOk result (out.new.items ≡ out.old.items ++ text_tag class.now x y) }
 {
     out.extend_from_slice(b"<text class=\"")?;
     out.extend_from_slice(class)?;
     out.extend_from_slice(b"\"")?;
-    push_text_attrs(out, x, y)?;
+    push_number(out, b"x", x)?;
+    push_number(out, b"y", y)?;
     out.extend_from_slice(b">")
 }
