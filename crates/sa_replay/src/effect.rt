@@ -3,7 +3,7 @@ ghost use Rattle.std.specs.Prelude.{◌≡◌, ◌≢◌, ◌+◌, ◌^◌, ◌<
 ghost use Rattle.sa_instr.specs.Instr.{NamesDeclared};
 ghost use Rattle.sa_instr.specs.Local.{pc_after, regs_after};
 ghost use Rattle.sa_sync.specs.Sync.{WaitsNowhere, joiners_at, with_joiners};
-ghost use Rattle.sa_laws.specs.Effect.{effect, effect_of, next, next_with, answered, fork_effect, join_effect, end_effect};
+ghost use Rattle.sa_laws.specs.Effect.{effect, effect_of, answered, fork_effect, join_effect, end_effect};
 ghost use Rattle.sa_replay.specs.Running.{instr_in, IsAt};
 ghost use Rattle.sa_replay.specs.Space.{space, named, CanDo, HasRoom};
 
@@ -51,29 +51,29 @@ pub(crate) fn does(
         Instr::Compute | Instr::Set(..) | Instr::Add(..) | Instr::Sub(..) | Instr::Jnz(..) => {
             go(def, table, t, thread)
         }
-        Instr::Load(reg, cell) => give(table, t, thread, reg, sync.load(cell)),
+        Instr::Load(reg, cell) => table.set(t, &thread.next_with(reg, sync.load(cell))),
         Instr::Store(reg, cell) => {
             sync.store(cell, thread.regs().get(reg));
-            pass(table, t, thread);
+            table.set(t, &thread.next());
         }
-        Instr::Out(_) | Instr::Io(_) | Instr::Touch(_) => pass(table, t, thread),
+        Instr::Out(_) | Instr::Io(_) | Instr::Touch(_) => table.set(t, &thread.next()),
         Instr::Fork(reg, program) => fork(table, roused, t, thread, reg, program),
         Instr::Join(reg) => join(table, sync, roused, t, thread, reg),
         Instr::Lock(mutex) => {
             let answer = sync.lock(t, mutex);
-            answer_to(table, roused, t, thread, answer);
+            tell(table, roused, t, &thread.next(), answer);
         }
         Instr::Unlock(mutex) => {
             let answer = sync.unlock(t, mutex);
-            answer_to(table, roused, t, thread, answer);
+            tell(table, roused, t, &thread.next(), answer);
         }
         Instr::Wait(semaphore) => {
             let answer = sync.wait(t, semaphore);
-            answer_to(table, roused, t, thread, answer);
+            tell(table, roused, t, &thread.next(), answer);
         }
         Instr::Signal(semaphore) => {
             let answer = sync.signal(semaphore);
-            answer_to(table, roused, t, thread, answer);
+            tell(table, roused, t, &thread.next(), answer);
         }
         Instr::End => end(table, sync, roused, t, thread),
     }
@@ -92,42 +92,6 @@ fn go(def: &SpaceDef, table: &mut Threads, t: ThreadNo, thread: &ThreadState)
     let mut after = *thread;
     after.run_local(program);
     table.set(t, &after);
-}
-
-// The thread goes on to the place after its instruction.
-fn pass(table: &mut Threads, t: ThreadNo, thread: &ThreadState)
-    requires made { t.0 < length table.old }
-    requires next { thread.now.pc + 1 < 2 ^ 16 }
-    ensures { table.new ≡ slice_set table.old t.0 (next thread.now) }
-{
-    table.set(t, &thread.next());
-}
-
-// The thread goes on after its instruction, with this value in a register.
-fn give(table: &mut Threads, t: ThreadNo, thread: &ThreadState, reg: Reg, value: u64)
-    requires made { t.0 < length table.old }
-    requires next { thread.now.pc + 1 < 2 ^ 16 }
-    ensures { table.new ≡ slice_set table.old t.0 (next_with thread.now reg value) }
-{
-    table.set(t, &thread.next_with(reg, value));
-}
-
-// What the answer to a thread's call does to it.
-fn answer_to(
-    table: &mut Threads,
-    roused: &mut Vec<ThreadNo>,
-    t: ThreadNo,
-    thread: &ThreadState,
-    answer: SyncAnswer,
-)
-    requires made { t.0 < length table.old }
-    requires next { thread.now.pc + 1 < 2 ^ 16 }
-    requires room { HasRoom roused.old }
-    ensures effect { (sync : _) → effect (space table.new sync) roused.new.items
-        ≡ answered (space table.old sync) t (next thread.now) answer }
-    ensures room { vec_capacity roused.new ≡ vec_capacity roused.old }
-{
-    tell(table, roused, t, &thread.next(), answer);
 }
 
 // What an answer does to the calling thread, which goes on to the place after its instruction.

@@ -45,7 +45,10 @@ impl Spaces {
         requires { length defs.now ≤ MAX_SPACES }
         ensures { IfOk result (λ spaces. spaces ≡ map opening_space defs.now) }
     {
-        let spaces = opening_spaces(alloc, defs)?;
+        let mut spaces = Vec::new(alloc);
+        for def in defs {
+            spaces.push(SpaceThreads::new(alloc, def)?)?;
+        }
         let count = defs.len() as u16;
         Ok(Spaces {
             spaces,
@@ -197,17 +200,6 @@ impl Spaces {
         self.restless = moved(self.restless, restless, !space.are_at_rest());
         Ok(())
     }
-}
-
-// The spaces at the opening.
-fn opening_spaces(alloc: Global, defs: &[SpaceDef]) -> Result<Vec<SpaceThreads>, AllocError>
-    ensures { IfOk result (λ spaces. spaces.items ≡ map opening_space defs.now) }
-{
-    let mut spaces = Vec::new(alloc);
-    for def in defs {
-        spaces.push(SpaceThreads::new(alloc, def)?)?;
-    }
-    Ok(spaces)
 }
 
 // Whether a thread there runs.

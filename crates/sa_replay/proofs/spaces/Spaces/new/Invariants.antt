@@ -1,6 +1,6 @@
 use Rattle.std.proofs.Common.{◌≡◌, map, take}
 use Rattle.sa_laws.specs.State.{opening_space}
-use Rattle.sa_replay.proofs.spaces.opening_spaces.Given as goal
+use Rattle.sa_replay.proofs.spaces.Spaces.new.Given as goal
 
 -- as many spaces are made as definitions were read
 abbrev pub invariant-loop-def : goal.invariant-loop-def
