@@ -103,6 +103,9 @@ module _ (m : Parts) (budget spare : ℕ) (kept : IsKept m budget spare) (p : Pr
     pub number-turn : new.number ≡ old.board.number + 1
     number-turn = number ∙ ap (λ (b : Board). b.number + 1) is.board
 
+    pub workload-turn : new.replay.workload ≡ old.board.workload
+    workload-turn = ap (λ (b : Board). b.workload) read.is ∙ ap (λ (b : Board). b.workload) is.board
+
 -- more room changes nothing else
 pub kept-room : (m new : Parts) (budget spare n : ℕ) → IsKept m budget spare → board_of new ≡ board_of m → HasRoom new n → IsKept new budget n
 kept-room m new budget spare n kept same room = record {

@@ -1,7 +1,7 @@
 use Rattle.std.proofs.Common.{ap, ◌∙◌, arith}
 use Rattle.sa_vp_model.specs.Turn.{turned}
 use Rattle.sa_vp.specs.View.{VpView}
-use Rattle.sa_vp.proofs.Kept.{inside-view, can, lose, few, waits, work, kept-turn, number-turn}
+use Rattle.sa_vp.proofs.Kept.{inside-view, can, lose, few, waits, work, kept-turn, number-turn, workload-turn}
 use Rattle.sa_vp.proofs.vp.Vp.turn.Goals as goal
 
 pub turn-requires-clause-can : goal.turn-requires-clause-can
@@ -48,6 +48,13 @@ returns-clause-number c =
     let k = c.self.inside in
     let is = inside-view k.parts k.budget k.spare c.make_room.new.self c.args.self.now c.self.view_is c.make_room.ensures.rest in
     number-turn k.parts k.budget k.spare c.self.invariant c.args.p c.args.self.now is c.requires.within c.requires.not_ended c.turn.new.self
+    c.turn.ensures.board c.turn.ensures.room
+
+pub returns-clause-workload : goal.returns-clause-workload
+returns-clause-workload c =
+    let k = c.self.inside in
+    let is = inside-view k.parts k.budget k.spare c.make_room.new.self c.args.self.now c.self.view_is c.make_room.ensures.rest in
+    workload-turn k.parts k.budget k.spare c.self.invariant c.args.p c.args.self.now is c.requires.within c.requires.not_ended c.turn.new.self
     c.turn.ensures.board c.turn.ensures.room
 
 pub returns-clause-ok : goal.returns-clause-ok
