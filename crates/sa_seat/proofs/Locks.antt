@@ -15,10 +15,9 @@ use Rattle.sa_abstract.specs.Keeps.{Standing, Keeps}
 use Rattle.sa_assign.specs.Reaim.{proc_no, line_at}
 use Rattle.sa_kernel_model.specs.State.{line_of}
 use Rattle.sa_core_model.specs.Machine.{Machine}
-use Rattle.sa_core_model.specs.End.{end_of, local_on, committable}
+use Rattle.sa_core_model.specs.End.{end_of, local_on}
 use Rattle.sa_abstract.specs.declared.answer.SeatState.{SeatState}
-use Rattle.sa_core_model.specs.Run.{opening, IsTurn, AreNextLocal, Move, IsMove}
-use Rattle.sa_core_model.specs.Turn.{committed}
+use Rattle.sa_core_model.specs.Run.{opening, AreNextLocal, Move, IsMove}
 use Rattle.sa_core_model.specs.Run.Move.{turn, commit}
 use Rattle.sa_core.specs.View.{CoreView, machine}
 use Rattle.sa_lines.specs.declared.credit.Account.{Account}
@@ -32,8 +31,9 @@ use Rattle.sa_seat.specs.Chain.{IsChain, turns_in, turns_of, line_item}
 use Rattle.sa_seat.specs.Lock.{IsLane, IsLocked}
 use Rattle.sa_seat.specs.Follow.{AreEvents, MayFollow, HasFollowed}
 use Rattle.sa_core.proofs.CoreLemmas.{goes-on}
-use Rattle.sa_seat.specs.Seat.{CanMove}
-use Rattle.sa_seat.proofs.Chains.{move-next, commits, turns-more, leads-more, size, AreSaid, Moves, moves-by, Reached, reached}
+use Rattle.sa_seat.specs.Seat.{SeatView, IsPlace, CanMove}
+use Rattle.sa_seat.specs.Enter.{IsTurned, IsCommitted, IsEvents}
+use Rattle.sa_seat.proofs.Chains.{move-next, commits, turns-more, leads-more, size, AreSaid, Moves, moves-by, Reached, reached, place-of}
 
 -- the turns of a move are those of its processor
 
@@ -106,6 +106,21 @@ module _ {U C : Type 0} (f : Calls U C) (stands : Standing U C) (keep : Keeps f 
           stored = λ p lt. follows.lines_are p (omega (arith, lt, procs));
         };
       }
+
+  -- what holds while the lock is free
+
+  module _ (w : WorkloadView) (table : TableId) (budget : ℕ) (core : CoreView U C) (lines : List (Option ℕ)) (keeper : KeeperSeen)
+      (locked : IsLocked f budget w table core lines keeper) where
+    pub standing : Reached f stands keep w locked.moves (machine core)
+    standing = reached f stands keep w budget (machine core) locked.moves locked.workload locked.chain
+
+    pub processor-in : (p : ℕ) → p < w.processors → p < (machine core).workload.processors
+    processor-in p lt = (let e = ap (λ (v : WorkloadView). v.processors) standing.workload in omega (arith, e, lt))
+
+    pub place-in : (p : ProcNo) (x : SeatState) → x ≡ local_on f (machine core) p → IsPlace w x
+    place-in p x is = subst (λ (y : SeatState). IsPlace w y) (sym is)
+        (subst (λ (v : WorkloadView). IsPlace v (local_on f (machine core) p)) standing.workload
+        (place-of f stands keep (machine core) p standing.between))
 
   -- a move
 
@@ -202,8 +217,8 @@ module _ {U C : Type 0} (f : Calls U C) (stands : Standing U C) (keep : Keeps f 
     pub may-end : MayCredit (lane_at keeper.lanes p.0).account (EndCredit x)
     may-end = elim (locked.kept.each p.0 lt).end [ inl e ↦ inl e | inr e ↦ inr (e ∙ ends) ]
 
-    pub locked-ended : IsLocked f budget w table core lines (credited_at p.0 (EndCredit x) keeper)
-    locked-ended = record {
+    pub locked-ended : (told : KeeperSeen) → told ≡ credited_at p.0 (EndCredit x) keeper → IsLocked f budget w table core lines told
+    locked-ended told is = subst (λ (z : KeeperSeen). IsLocked f budget w table core lines z) (sym is) record {
       workload = locked.workload;
       few = locked.few;
       budget_is = locked.budget_is;
@@ -226,43 +241,81 @@ module _ {U C : Type 0} (f : Calls U C) (stands : Standing U C) (keep : Keeps f 
       };
     }
 
-  -- a turn and a commit are moves
+  -- what the core makes of an entry is a move
 
-  pub record Done (budget : ℕ) (m after : Machine U C) (move : Move) : Type 0 where
+  pub record Done (budget : ℕ) (m after : Machine U C) (p : ProcNo) (n : ℕ) : Type 0 where
+    pub move : Move
     pub made : IsMove f m move after
     pub within : after.event ≤ budget
+    pub some : 0 < n
+    pub here : turns_in p.0 move ≡ n
+    pub elsewhere : (q : ℕ) → q ≢ p.0 → turns_in q move ≡ 0
 
-  pub turn-done : (w : WorkloadView) (table : TableId) (budget : ℕ) (core new : CoreView U C) (lines : List (Option ℕ)) (keeper : KeeperSeen) (p : ProcNo)
-      → IsLocked f budget w table core lines keeper
-      → end_of f budget (machine core) ≡ None → p.0 < w.processors → IsTurn f (machine core) p (machine new) → (machine new).event ≡ (machine core).event + 1
-      → Done budget (machine core) (machine new) (turn p)
-  turn-done w table budget core new lines keeper p locked none lt is event =
-      let r = reached f stands keep w budget (machine core) locked.moves locked.workload locked.chain in
-      let left = goes-on f budget (machine core) none locked.within in
-      let procs = ap (λ (v : WorkloadView). v.processors) r.workload in
-      let few = locked.few in record {
-        made = (record { within = omega (arith, lt, procs); event = omega (arith, left, few) }, is);
-        within = omega (arith, event, left);
-      }
+  module _ (w : WorkloadView) (table : TableId) (budget : ℕ) (core new : CoreView U C) (lines : List (Option ℕ)) (keeper : KeeperSeen)
+      (s : SeatView) (n : ℕ) (locked : IsLocked f budget w table core lines keeper)
+      (within : s.poller.proc.0 < w.processors) (can : CanMove w s.pending s.start) where
+    stood : Reached f stands keep w locked.moves (machine core)
+    stood = standing w table budget core lines keeper locked
 
-  pub can-next : (w : WorkloadView) (table : TableId) (budget n : ℕ) (core : CoreView U C) (lines : List (Option ℕ)) (keeper : KeeperSeen) (p : ProcNo)
-      (start : SeatState)
-      → IsLocked f budget w table core lines keeper → 0 < n → CanMove w n start → local_on f (machine core) p ≡ start
-      → AreNextLocal (machine core).workload n (local_on f (machine core) p)
-  can-next w table budget n core lines keeper p start locked some can is =
-      let r = reached f stands keep w budget (machine core) locked.moves locked.workload locked.chain in
-      subst (λ (v : WorkloadView). AreNextLocal v n (local_on f (machine core) p)) (sym r.workload)
-      (subst (λ (x : SeatState). AreNextLocal w n x) (sym is) (move-next w n start some can))
+    turn-done : IsTurned f budget (machine core) s n (machine new) → Done budget (machine core) (machine new) s.poller.proc n
+    turn-done is =
+        let left = goes-on f budget (machine core) is.not_ended locked.within in
+        let procs = ap (λ (v : WorkloadView). v.processors) stood.workload in
+        let few = locked.few in
+        let made : IsMove f (machine core) (turn s.poller.proc) (machine new) = (record { within = omega (arith, within, procs); event = omega (arith, left, few) }, is.turn) in
+        let moved = moves-by f stands keep (machine core) (machine new) (turn s.poller.proc) stood.between made in
+        let one = is.one in record {
+          move = turn s.poller.proc;
+          made = made;
+          within = (let e = moved.event in omega (arith, e, left));
+          some = omega (arith, one);
+          here = turns-here s.poller.proc 1 ∙ sym one;
+          elsewhere = λ q apart. turns-else s.poller.proc q 1 apart;
+        }
 
-  pub commit-done : (w : WorkloadView) (table : TableId) (budget n k : ℕ) (core new : CoreView U C) (lines : List (Option ℕ)) (keeper : KeeperSeen)
-      (p : ProcNo) → IsLocked f budget w table core lines keeper
-      → end_of f budget (machine core) ≡ None → k ≡ committable core.budget (machine core) n → 1 ≤ k → line_of (machine core).kernel p ≡ None
-      → AreNextLocal (machine core).workload n (local_on f (machine core) p) → machine new ≡ committed f p k (machine core)
-      → Done budget (machine core) (machine new) (commit p k) × (k ≤ n) × (k ≡ committable budget (machine core) n)
-  commit-done w table budget n k core new lines keeper p locked none is some low next made =
-      let left = goes-on f budget (machine core) none locked.within in
-      let same : k ≡ committable budget (machine core) n = is ∙ ap (λ (b : ℕ). committable b (machine core) n) locked.budget_is in
-      let c = commits f (machine core) p n budget k same some left locked.few low next in
-      let r = reached f stands keep w budget (machine core) locked.moves locked.workload locked.chain in
-      let m = moves-by f stands keep (machine core) (machine new) (commit p k) r.between (c.can, made) in
-      (record { made = (c.can, made); within = (let a = m.event in let b = c.within in omega (arith, a, b)) }, c.few, same)
+    commit-done : 0 < s.pending → IsCommitted f budget (machine core) s n (machine new) → Done budget (machine core) (machine new) s.poller.proc n
+    commit-done some is =
+        let left = goes-on f budget (machine core) is.not_ended locked.within in
+        let next : AreNextLocal (machine core).workload s.pending (local_on f (machine core) s.poller.proc) =
+        subst (λ (v : WorkloadView). AreNextLocal v s.pending (local_on f (machine core) s.poller.proc)) (sym stood.workload)
+        (subst (λ (x : SeatState). AreNextLocal w s.pending x) (sym is.start) (move-next w s.pending s.start some can)) in
+        let c = commits f (machine core) s.poller.proc s.pending budget n is.made is.some left locked.few is.low next in
+        let moved = moves-by f stands keep (machine core) (machine new) (commit s.poller.proc n) stood.between (c.can, is.is) in record {
+          move = commit s.poller.proc n;
+          made = (c.can, is.is);
+          within = (let a = moved.event in let b = c.within in omega (arith, a, b));
+          some = is.some;
+          here = turns-here s.poller.proc n;
+          elsewhere = λ q apart. turns-else s.poller.proc q n apart;
+        }
+
+    pub events-done : IsEvents f budget (machine core) s s.pending n (machine new) → Done budget (machine core) (machine new) s.poller.proc n
+    events-done is = go s.pending refl is
+      where
+        go : (i : ℕ) → i ≡ s.pending → IsEvents f budget (machine core) s i n (machine new) → Done budget (machine core) (machine new) s.poller.proc n
+        go zero e made = turn-done made
+        go (suc i) e made = commit-done (omega (arith, e)) made
+
+  -- an entry, from what the core made of it
+
+  module _ (w : WorkloadView) (table : TableId) (budget : ℕ) (core new : CoreView U C) (lines : List (Option ℕ)) (keeper : KeeperSeen)
+      (s : SeatView) (n : ℕ) (locked : IsLocked f budget w table core lines keeper) (none : end_of f budget (machine core) ≡ None)
+      (within : s.poller.proc.0 < w.processors) (can : CanMove w s.pending s.start)
+      (events : IsEvents f budget (machine core) s s.pending n (machine new)) where
+    done : Done budget (machine core) (machine new) s.poller.proc n
+    done = events-done w table budget core new lines keeper s n locked within can events
+
+    pub entry-follows : MayFollow (machine new) lines keeper
+    entry-follows = may-follow w table budget core new lines keeper locked none done.move done.made done.within
+
+    module _ (next : KeeperSeen) (stored : List (Option ℕ))
+        (follows : HasFollowed (machine new).kernel (machine new).workload.processors keeper next stored) where
+      pub entry-counts : (i : ℕ) → i ≡ n → MayCredit (lane_at next.lanes s.poller.proc.0).account (Turns i)
+      entry-counts i is = subst (λ (k : ℕ). MayCredit (lane_at next.lanes s.poller.proc.0).account (Turns k)) (sym is) (may-count w table budget core new lines keeper locked none done.move done.made done.within next stored follows
+          s.poller.proc n within done.here done.some)
+
+      pub entry-locked : new.budget ≡ core.budget → (i : ℕ) → i ≡ n → (told : KeeperSeen) → told ≡ credited_at s.poller.proc.0 (Turns i) next
+          → IsLocked f budget w table new stored told
+      entry-locked same i is told so = subst (λ (z : KeeperSeen). IsLocked f budget w table new stored z)
+          (sym (so ∙ ap (λ (k : ℕ). credited_at s.poller.proc.0 (Turns k) next) is)) (locked-after w table budget core new lines keeper locked none done.move done.made done.within next stored follows
+          s.poller.proc n within done.here done.elsewhere same)

@@ -1,7 +1,6 @@
 -- What the machine's lock keeps.
-use Rattle.std.specs.Prelude.{◌≡◌, ◌≢◌, ℕ, ◌<◌, ◌≤◌, ◌⊎◌, Option, None, List, [], Contains, length}
+use Rattle.std.specs.Prelude.{◌≡◌, ℕ, ◌<◌, ◌≤◌, ◌⊎◌, Option, None, List, [], Contains, length}
 use Rattle.atomic_table.specs.Seated.{TableId}
-use Rattle.sa_base.specs.declared.number.ProcNo.{ProcNo}
 use Rattle.sa_base.specs.declared.limits.TheConstants.{MAX_EVENTS}
 use Rattle.sa_spaces.specs.Workload.{WorkloadView, IsWorkload}
 use Rattle.sa_abstract.specs.Calls.{Calls}
@@ -9,12 +8,12 @@ use Rattle.sa_assign.specs.Reaim.{proc_no, line_at}
 use Rattle.sa_kernel_model.specs.State.{line_of}
 use Rattle.sa_core_model.specs.Machine.{Machine}
 use Rattle.sa_core_model.specs.End.{end_of}
-use Rattle.sa_core_model.specs.Run.{Move, IsMove}
+use Rattle.sa_core_model.specs.Run.{Move}
 use Rattle.sa_core.specs.View.{CoreView, machine}
 use Rattle.sa_lines.specs.declared.view.Lane.{Lane}
 use Rattle.sa_lines.specs.Words.{lane_at}
 use Rattle.sa_lines.specs.Seen.{KeeperSeen, line_value}
-use Rattle.sa_seat.specs.Chain.{IsChain, turns_in, turns_of, HasLine}
+use Rattle.sa_seat.specs.Chain.{IsChain, turns_of, HasLine}
 
 -- what a contract sees behind the lock
 pub record HeldView (U C : Type 0) : Type 0 where
@@ -55,17 +54,3 @@ module _ {U C : Type 0} (f : Calls U C) (budget : ℕ) where
     pub moves : List Move
     pub chain : IsChain f budget w moves (machine core)
     pub kept : AreLanes w moves (machine core) lines keeper.lanes
-
-  -- the core has moved on by n events of a processor, while the lines and the keeper are as the lock kept them before
-  pub record HasMoved (w : WorkloadView) (table : TableId) (core : CoreView U C) (lines : List (Option ℕ)) (keeper : KeeperSeen) (p : ProcNo) (n : ℕ)
-      : Type 0 where
-    pub before : CoreView U C
-    pub locked : IsLocked w table before lines keeper
-    pub not_ended : end_of f budget (machine before) ≡ None
-    pub move : Move
-    pub made : IsMove f (machine before) move (machine core)
-    pub within : (machine core).event ≤ budget
-    pub budget_same : core.budget ≡ before.budget
-    pub some : 0 < n
-    pub here : turns_in p.0 move ≡ n
-    pub elsewhere : (q : ℕ) → q ≢ p.0 → turns_in q move ≡ 0

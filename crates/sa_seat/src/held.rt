@@ -1,23 +1,23 @@
 // The core and its keeper, behind the lock.
-ghost use Rattle.std.specs.Prelude.{◌≡◌, ◌<◌, ◌≤◌, Some, None, OnOk, OnErr, IfOk};
+ghost use Rattle.std.specs.Prelude.{◌≡◌, ◌<◌, ◌≤◌, Some, None, OnErr, IfOk, IfSome, IfNone};
 ghost use Rattle.sa_core_model.specs.End.{end_of, local_on};
 ghost use Rattle.sa_base.specs.declared.limits.TheConstants.{MAX_EVENTS};
 ghost use Rattle.sa_spaces.specs.Workload.{IsWorkload};
-ghost use Rattle.sa_core_model.specs.Run.{IsTurn, opening};
+ghost use Rattle.sa_core_model.specs.Run.{opening};
 ghost use Rattle.sa_kernel_model.specs.State.{line_of};
 ghost use Rattle.sa_core.specs.View.{machine};
-ghost use Rattle.sa_lines.specs.declared.credit.Credit.TheVariants.{Turns, End as EndCredit};
 ghost use Rattle.sa_lines.specs.Seen.{fresh_keeper};
-ghost use Rattle.sa_seat.specs.Seat.{IsPlace, renewed};
+ghost use Rattle.sa_seat.specs.declared.answer.Entered.TheVariants.{Turned, Ended};
+ghost use Rattle.sa_seat.specs.Seat.{CanMove, renewed};
 ghost use Rattle.sa_seat.specs.Chain.{IsLed};
-ghost use Rattle.sa_seat.specs.Lock.{IsLocked, HasMoved};
-ghost use Rattle.sa_seat.specs.Enter.{IsEntered, IsCommitted, with_credited};
+ghost use Rattle.sa_seat.specs.Lock.{IsLocked};
+ghost use Rattle.sa_seat.specs.Enter.{IsAnswer, IsEvents, IsEntered, credited_by};
 
 use crate::answer::Entered;
 use crate::follow::{Lines, PLACES, follow};
 use crate::named::Named;
 use crate::seat::Seat;
-use sa_abstract::{SeatState, UserLevel};
+use sa_abstract::UserLevel;
 use sa_base::End;
 use sa_core::Core;
 use sa_lines::{Credit, Keeper, LineWords};
@@ -85,22 +85,11 @@ impl<U: UserLevel, K: Named> Held<U, K> {
             self.tell_end(rt, words, seat, end);
             return Ok(Entered::Ended(end));
         }
-        if seat.pending() == 0 {
-            self.turn_once(rt, words, seat)?;
-            return Ok(Entered::Turned(1));
-        }
-        if let Some(event) = self.line(seat) {
+        if let Some(dropped) = self.dropped(seat) {
             self.renew(seat);
-            return Ok(Entered::DroppedLine(event));
+            return Ok(dropped);
         }
-        let context = self.context(seat);
-        let start = seat.start();
-        if context != start {
-            self.renew(seat);
-            return Ok(Entered::DroppedStart(context, start));
-        }
-        let made = self.commit(rt, words, seat)?;
-        Ok(Entered::Turned(made))
+        Ok(Entered::Turned(self.make_events(rt, words, seat)?))
     }
 
     // Turns and commits led here, which the lock keeps.
@@ -117,19 +106,29 @@ impl<U: UserLevel, K: Named> Held<U, K> {
         self.core.end()
     }
 
-    // The line of the seat's processor.
-    fn line(&self, seat: &Seat<K>) -> Option<u64>
-        ensures { result ≡ line_of (machine self.now.core).kernel seat.now.poller.proc }
+    // Why the seat's burst is dropped, or none where it may be committed, or none is pending.
+    fn dropped(&self, seat: &Seat<K>) -> Option<Entered>
+        requires not_ended { end_of U.calls K.budget (machine self.now.core) ≡ None }
+        ensures cause { IfSome result (λ answer. IsAnswer U.calls K.budget
+            (machine self.now.core) seat.now answer (machine self.now.core)) }
+        ensures uncredited { IfSome result (λ answer. credited_by answer seat.now ≡ seat.now) }
+        ensures low { IfNone result (0 < seat.now.pending
+            → line_of (machine self.now.core).kernel seat.now.poller.proc ≡ None) }
+        ensures start { IfNone result (0 < seat.now.pending
+            → local_on U.calls (machine self.now.core) seat.now.poller.proc ≡ seat.now.start) }
     {
-        self.core.line(seat.proc())
-    }
-
-    // Where the context stands that runs on the seat's processor.
-    fn context(&self, seat: &Seat<K>) -> SeatState
-        ensures context { result ≡ local_on U.calls (machine self.now.core) seat.now.poller.proc }
-        ensures place { IsPlace K.workload result }
-    {
-        self.core.context(seat.proc())
+        if seat.pending() == 0 {
+            return None;
+        }
+        if let Some(event) = self.core.line(seat.proc()) {
+            return Some(Entered::DroppedLine(event));
+        }
+        let context = self.core.context(seat.proc());
+        let start = seat.start();
+        if context != start {
+            return Some(Entered::DroppedStart(context, start));
+        }
+        None
     }
 
     // The seat begins anew from the context that runs on its processor.
@@ -137,106 +136,69 @@ impl<U: UserLevel, K: Named> Held<U, K> {
         ensures { seat.new ≡ renewed
             (local_on U.calls (machine self.now.core) seat.old.poller.proc) seat.old }
     {
-        let context = self.context(seat);
-        seat.renew(&context);
+        seat.renew(&self.core.context(seat.proc()));
     }
 
     // Tells the end of the run.
     fn tell_end<R: Wait>(&mut self, rt: &R, words: &LineWords, seat: &mut Seat<K>, end: End)
         requires own { words.now ≡ K.table }
         requires end { end_of U.calls K.budget (machine self.old.core) ≡ Some end }
-        ensures same { self.new.core ≡ self.old.core }
-        ensures seat { seat.new ≡ renewed
-            (local_on U.calls (machine self.new.core) seat.old.poller.proc)
-            (with_credited (EndCredit end) seat.old) }
+        ensures { IsEntered U.calls K.budget
+            (machine self.old.core) seat.old (Ended end) (machine self.new.core) seat.new }
     {
         seat.credit(rt, &mut self.keeper, words, Credit::End(end));
         self.renew(seat);
     }
 
-    // One turn of the seat's processor.
-    fn turn_once<R: Wait>(
-        &mut self,
-        rt: &R,
-        words: &LineWords,
-        seat: &mut Seat<K>,
-    ) -> Result<(), AllocError>
-        requires own { words.now ≡ K.table }
-        requires not_ended { end_of U.calls K.budget (machine self.old.core) ≡ None }
-        ensures turn { OnOk result
-            (IsTurn U.calls (machine self.old.core) seat.old.poller.proc (machine self.new.core)) }
-        ensures seat { OnOk result (seat.new ≡ renewed
-            (local_on U.calls (machine self.new.core) seat.old.poller.proc)
-            (with_credited (Turns 1) seat.old)) }
-        ensures held_stays { OnErr result (machine self.new.core ≡ machine self.old.core) }
-        ensures seat_stays { OnErr result (seat.new ≡ seat.old) }
-    {
-        self.core.turn(seat.proc())?;
-        settle(
-            rt,
-            &self.core,
-            &mut self.keeper,
-            &mut self.lines,
-            words,
-            seat,
-            1,
-        );
-        self.renew(seat);
-        Ok(())
-    }
-
-    // The seat's burst, or what the budget and the slice leave of it.
-    fn commit<R: Wait>(
+    // The seat's burst becomes events, or where none is pending one turn is made: how many events that were.
+    fn make_events<R: Wait>(
         &mut self,
         rt: &R,
         words: &LineWords,
         seat: &mut Seat<K>,
     ) -> Result<u16, AllocError>
         requires own { words.now ≡ K.table }
-        requires pending { 0 < seat.old.pending }
         requires not_ended { end_of U.calls K.budget (machine self.old.core) ≡ None }
-        requires low { line_of (machine self.old.core).kernel seat.old.poller.proc ≡ None }
-        requires start { local_on U.calls (machine self.old.core) seat.old.poller.proc ≡ seat.old.start }
-        ensures made { IfOk result (λ n. IsCommitted U.calls K.budget
-            (machine self.old.core) seat.old n (machine self.new.core)) }
-        ensures seat { IfOk result (λ n. seat.new ≡ renewed
-            (local_on U.calls (machine self.new.core) seat.old.poller.proc)
-            (with_credited (Turns n) seat.old)) }
+        requires low { 0 < seat.old.pending
+            → line_of (machine self.old.core).kernel seat.old.poller.proc ≡ None }
+        requires start { 0 < seat.old.pending
+            → local_on U.calls (machine self.old.core) seat.old.poller.proc ≡ seat.old.start }
+        ensures made { IfOk result (λ n. IsEntered U.calls K.budget
+            (machine self.old.core) seat.old (Turned n) (machine self.new.core) seat.new) }
         ensures held_stays { OnErr result (machine self.new.core ≡ machine self.old.core) }
         ensures seat_stays { OnErr result (seat.new ≡ seat.old) }
     {
-        let made = self.core.commit(seat.proc(), seat.pending())?;
-        settle(
-            rt,
-            &self.core,
-            &mut self.keeper,
-            &mut self.lines,
-            words,
-            seat,
-            made,
-        );
+        let made = move_core(&mut self.core, seat)?;
+        follow(&mut self.keeper, words, &self.core, &mut self.lines);
+        let credit = Credit::Turns(u64::from(made));
+        seat.credit(rt, &mut self.keeper, words, credit);
         self.renew(seat);
         Ok(made)
     }
 }
 
-// After so many events of the seat's processor the lines are stored, and the events are credited.
-fn settle<U: UserLevel, K: Named, R: Wait>(
-    rt: &R,
-    core: &Core<U>,
-    keeper: &mut Keeper,
-    lines: &mut Lines,
-    words: &LineWords,
-    seat: &mut Seat<K>,
-    made: u16,
-)
-    requires own { words.now ≡ K.table }
-    requires table { keeper.old.table ≡ K.table }
-    requires moved { HasMoved U.calls K.budget K.workload K.table core.now lines.old keeper.old
-        seat.old.poller.proc made }
-    ensures locked { IsLocked U.calls K.budget K.workload K.table core.now lines.new keeper.new }
-    ensures seat { seat.new ≡ with_credited (Turns made) seat.old }
+// One turn of the seat's processor, or, of a burst that is pending, what the budget and the slice leave: how many events that
+// were.
+fn move_core<U: UserLevel, K: Named>(core: &mut Core<U>, seat: &Seat<K>) -> Result<u16, AllocError>
+    requires workload { (machine core.old).workload ≡ K.workload }
+    requires budget { core.old.budget ≡ K.budget }
+    requires not_ended { end_of U.calls K.budget (machine core.old) ≡ None }
+    requires low { 0 < seat.now.pending
+        → line_of (machine core.old).kernel seat.now.poller.proc ≡ None }
+    requires start { 0 < seat.now.pending
+        → local_on U.calls (machine core.old) seat.now.poller.proc ≡ seat.now.start }
+    ensures made { IfOk result (λ n. IsEvents U.calls K.budget
+        (machine core.old) seat.now seat.now.pending n (machine core.new)) }
+    ensures within { seat.now.poller.proc.0 < K.workload.processors }
+    ensures local { CanMove K.workload seat.now.pending seat.now.start }
+    ensures budget_same { core.new.budget ≡ core.old.budget }
+    ensures err { OnErr result (machine core.new ≡ machine core.old) }
 {
-    follow(keeper, words, core, lines);
-    seat.credit(rt, keeper, words, Credit::Turns(u64::from(made)));
+    let p = seat.proc();
+    let pending = seat.pending();
+    if pending == 0 {
+        core.turn(p)?;
+        return Ok(1);
+    }
+    core.commit(p, pending)
 }

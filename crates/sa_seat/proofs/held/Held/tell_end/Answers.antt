@@ -1,8 +1,7 @@
-use Rattle.std.proofs.Common.{◌≡◌, Some, sym, ap, subst, ◌∙◌}
+use Rattle.std.proofs.Common.{◌≡◌, Some, ap, ◌∙◌}
 use Rattle.sa_core_model.specs.End.{end_of}
 use Rattle.sa_core.specs.View.{machine}
-use Rattle.sa_lines.specs.Seen.{KeeperSeen}
-use Rattle.sa_seat.specs.Lock.{HeldView, IsLocked}
+use Rattle.sa_seat.specs.Lock.{HeldView}
 use Rattle.sa_seat.proofs.Locks.{may-end, locked-ended}
 use Rattle.sa_seat.proofs.held.Held.tell_end.Goals as goal
 
@@ -23,6 +22,5 @@ invariant_of-self g c =
     let h = c.self.inside in
     let ends : end_of f g.K.Named.budget (machine h.core) ≡ Some c.args.end =
     ap (λ (v : HeldView g.row.U.Denot g.row.U-Ctx.Denot). end_of f g.K.Named.budget (machine v.core)) c.self.view_is ∙ c.requires.end in
-    subst (λ (k : KeeperSeen). IsLocked f g.K.Named.budget g.K.Named.workload g.K.Named.table h.core h.lines k) (sym c.credit.ensures.keeper)
-    (locked-ended f g.U.UserLevel.stands keep g.K.Named.workload g.K.Named.table g.K.Named.budget h.core h.lines h.keeper c.self.invariant c.args.end ends
-    c.args.seat.now.poller.proc c.credit.ensures.within)
+    locked-ended f g.U.UserLevel.stands keep g.K.Named.workload g.K.Named.table g.K.Named.budget h.core h.lines h.keeper c.self.invariant c.args.end ends
+    c.args.seat.now.poller.proc c.credit.ensures.within c.credit.new.keeper c.credit.ensures.keeper
