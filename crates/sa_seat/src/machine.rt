@@ -13,7 +13,7 @@ use crate::closed::Closed;
 use crate::follow::PLACES;
 use crate::held::Held;
 use crate::named::Named;
-use crate::seat::{Seat, seat_all};
+use crate::seat::Seat;
 use sa_abstract::UserLevel;
 use sa_core::Core;
 use sa_lines::{Keeper, LineWords, Poller};
@@ -46,13 +46,16 @@ impl<U: UserLevel, K: Named> Model for Machine<U, K> {
 fn copy_and_seat<K: Named>(
     alloc: Global,
     workload: &Workload,
-    pollers: Vec<Poller>,
+    mut pollers: Vec<Poller>,
 ) -> Result<(Workload, Vec<Seat<K>>), AllocError>
     requires { pollers.items ≡ fresh_pollers K.table K.workload.processors }
     ensures copy { IfOk result (λ made. made.0 ≡ workload.now) }
     ensures seats { IfOk result (λ made. AreFresh K.table K.workload.processors made.1.items) }
 {
-    let seats = seat_all::<K>(alloc, pollers)?;
+    let mut seats = Vec::with_capacity(alloc, pollers.len())?;
+    while !pollers.is_empty() {
+        seats.push(Seat::of(pollers.remove(0)))?;
+    }
     Ok((workload.copy(alloc)?, seats))
 }
 

@@ -1,11 +1,11 @@
 // A processor's seat.
-ghost use Rattle.std.specs.Prelude.{◌≡◌, ◌<◌, ◌≤◌, length, slice_get, IfOk};
+ghost use Rattle.std.specs.Prelude.{◌≡◌, ◌<◌, ◌≤◌, length, slice_get};
 ghost use Rattle.sa_base.specs.declared.limits.TheConstants.{MAX_BURST};
 ghost use Rattle.sa_core_model.specs.Run.{programs_in};
 ghost use Rattle.sa_lines.specs.Credit.{MayCredit};
 ghost use Rattle.sa_lines.specs.Words.{lane_at};
-ghost use Rattle.sa_lines.specs.Seen.{fresh_pollers, credited_at};
-ghost use Rattle.sa_seat.specs.Seat.{IsPlace, CanMove, code_of, IsCode, IsReady, IsAdvanced, IsBurst, IsStep, renewed, AreFresh};
+ghost use Rattle.sa_lines.specs.Seen.{credited_at};
+ghost use Rattle.sa_seat.specs.Seat.{IsPlace, CanMove, code_of, IsCode, IsReady, IsAdvanced, IsBurst, IsStep, renewed};
 ghost use Rattle.sa_seat.specs.Enter.{with_credited};
 
 use crate::answer::BurstEnd;
@@ -16,7 +16,6 @@ use sa_base::{MAX_BURST, ProcNo, SpaceNo};
 use sa_instr::{Local, Program, local};
 use sa_lines::{Account, Credit, Keeper, LineWords, Poller};
 use sa_spaces::Workload;
-use std::alloc::{AllocError, Global};
 use std::marker::{Model, PhantomData};
 use std::sync::Wait;
 
@@ -212,19 +211,4 @@ fn program_of(workload: &Workload, space: SpaceNo, program: u16) -> &Program
     ensures { result.now ≡ code_of workload.now space program }
 {
     &workload.spaces()[space.0 as usize].programs()[program as usize]
-}
-
-// A seat for each poller, in order.
-pub(crate) fn seat_all<K: Named>(
-    alloc: Global,
-    mut pollers: Vec<Poller>,
-) -> Result<Vec<Seat<K>>, AllocError>
-    requires { pollers.items ≡ fresh_pollers K.table K.workload.processors }
-    ensures { IfOk result (λ seats. AreFresh K.table K.workload.processors seats.items) }
-{
-    let mut seats = Vec::with_capacity(alloc, pollers.len())?;
-    while !pollers.is_empty() {
-        seats.push(Seat::of(pollers.remove(0)))?;
-    }
-    Ok(seats)
 }

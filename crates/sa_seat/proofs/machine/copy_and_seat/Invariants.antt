@@ -1,6 +1,6 @@
 use Rattle.std.proofs.Common.{◌≡◌, ◌≤◌, ℕ, Some, length, drop, slice_get, vec_len}
 use Rattle.sa_seat.specs.Seat.{SeatView, fresh_seat}
-use Rattle.sa_seat.proofs.seat.seat_all.Given as goal
+use Rattle.sa_seat.proofs.machine.copy_and_seat.Given as goal
 
 abbrev pub invariant-loop-seats : goal.invariant-loop-seats
 invariant-loop-seats g l = record {

@@ -4,7 +4,7 @@ use Rattle.sa_abstract.specs.declared.answer.SeatState.TheVariants.{Away}
 use Rattle.sa_lines.specs.Seen.{PollerSeen}
 use Rattle.sa_seat.specs.Seat.{SeatView}
 use Rattle.sa_seat.proofs.Fresh.{length-fresh, fresh-at, next-poller, next-seat, not-empty, all-gone}
-use Rattle.sa_seat.proofs.seat.seat_all.Goals as goal
+use Rattle.sa_seat.proofs.machine.copy_and_seat.Goals as goal
 
 pub of-requires-clause-table : goal.of-requires-clause-table
 of-requires-clause-table g c =
@@ -52,8 +52,8 @@ loop-seats-preserved g c =
     seat_of : PollerSeen → SeatView
     seat_of q = record { poller = q; start = Away; copy = Away; pending = 0 }
 
-pub returns : goal.returns
-returns g c =
+pub returns-clause-seats : goal.returns-clause-seats
+returns-clause-seats g c =
     let inv = c.loop-seats.invariant in
     let e : (vec_len c.loop-seats.pollers == 0) ≡ true = sym c.is_empty.ensures ∙ c.loop-seats-test.false in
     let none : vec_len c.loop-seats.pollers ≡ 0 = grind (arith, nat_tests, e) in (
