@@ -4,11 +4,11 @@ ghost use Rattle.sa_copies.specs.Copies.{package_ops};
 ghost use Rattle.sa_package_model.specs.Conditions.{CanTakeOver, CanBeTold};
 ghost use Rattle.sa_package_model.specs.Step.{told, told_of};
 ghost use Rattle.sa_package_model.specs.Context.{section_in};
-ghost use Rattle.sa_package_model.specs.Rules.{pair, took_over};
+ghost use Rattle.sa_package_model.specs.Rules.{pair, thread_alone, took_over};
 
 use crate::package::FastThreads;
 use crate::settling::place;
-use sa_base::{Note, Stopped};
+use sa_base::{Note, Stopped, ThreadNo};
 use sa_code::{Code, Frame};
 use sa_copies::copy_place;
 use sa_fast::KeptPlace;
@@ -52,8 +52,7 @@ impl FastThreads {
         }
         ctx.sections.append(&other.sections);
         self.package.shared.works.append(&mut ctx.work, other.work);
-        let alone = if own.is_some() { None } else { thread };
-        self.put_last(ctx, alone);
+        self.put_last(ctx, thread_alone(own, thread));
     }
 }
 
@@ -69,4 +68,11 @@ fn section_of(code: &Code, state: ContextState) -> Option<Frame>
         }
         _ => None,
     }
+}
+
+// The thread of a context that is in no section.
+fn thread_alone(own: Option<Frame>, thread: Option<ThreadNo>) -> Option<ThreadNo>
+    ensures { result ≡ thread_alone own thread }
+{
+    if own.is_some() { None } else { thread }
 }
