@@ -107,24 +107,11 @@ fn drive<U: UserLevel, K: Named + Send + Sync, R: Threads + Wait + Sync, G: Gate
         MAX_PROCESSORS as usize,
         &|_i, seat: &mut Seat<K>|
             requires { (processors ≡ K.workload.processors) × (1 ≤ limits.burst) × (limits.burst ≤ MAX_BURST) }
-        { serve(rt, machine, seat, processors, limits, gate) },
+            ensures { HasWorked K.workload (quota_of processors seat.old.poller.proc.0 limits.budget) limits.burst seat.old seat.new }
+        {
+            let quota = quota(limits.budget, processors, seat.proc());
+            // A worker that runs out of memory leaves a history without an end.
+            let _ = work(rt, machine, seat, quota, limits.burst, gate);
+        },
     );
-}
-
-// One worker. One that runs out of memory leaves a history without an end.
-fn serve<U: UserLevel, K: Named, R: Wait, G: Gate>(
-    rt: &R,
-    machine: &Machine<U, K>,
-    seat: &mut Seat<K>,
-    processors: u16,
-    limits: Limits,
-    gate: &G,
-)
-    requires processors { processors ≡ K.workload.processors }
-    requires some_burst { 1 ≤ limits.burst }
-    requires few_burst { limits.burst ≤ MAX_BURST }
-    ensures { HasWorked K.workload (quota_of processors seat.old.poller.proc.0 limits.budget) limits.burst seat.old seat.new }
-{
-    let quota = quota(limits.budget, processors, seat.proc());
-    let _ = work(rt, machine, seat, quota, limits.burst, gate);
 }
