@@ -1,5 +1,5 @@
-ghost use Rattle.std.specs.Prelude.{◌≡◌, ◌↔◌, ◌+◌, ◌≤◌, ◌++◌, length, vec_len, vec_capacity, not, filter, map, Some, IsTrue, IfOk, OnOk, OnErr, Contains};
-ghost use Rattle.sa_laws.specs.Life.{new_life, has_lock, first_lock, same_thread, without_lock, change_first, with_hand, inherits, inherited, bereft};
+ghost use Rattle.std.specs.Prelude.{◌≡◌, ◌↔◌, ◌+◌, ◌≤◌, ◌++◌, length, vec_len, vec_capacity, map, Some, IsTrue, IfOk, OnOk, OnErr, Contains};
+ghost use Rattle.sa_laws.specs.Life.{new_life, has_lock, first_lock, without_lock, change_first, with_hand, inherits, inherited, bereft};
 ghost use Rattle.sa_laws.specs.Record.{one_thread, made_ready};
 ghost use Rattle.sa_check_lives.specs.Change.{changed_by, stepped_by, used_by};
 ghost use Rattle.sa_check_lives.specs.Table.{IsLost};
@@ -229,7 +229,7 @@ impl KeptLife {
     fn make_ready(&mut self, t: ThreadNo)
         ensures { self.new ≡ made_ready t self.old }
     {
-        take_from(&mut self.hand, t);
+        self.hand.retain(|u| u.0 != t.0);
         use_first(&mut self.locks, None);
     }
 
@@ -296,13 +296,6 @@ impl KeptLife {
         };
         mem::replace(self, left)
     }
-}
-
-// The thread leaves the hand.
-fn take_from(hand: &mut Vec<ThreadNo>, t: ThreadNo)
-    ensures { hand.new.items ≡ filter (λ u. not (same_thread u t)) hand.old.items }
-{
-    hand.retain(|u| u.0 != t.0);
 }
 
 // The first lock is used, by the run of a thread where one is given.

@@ -1,7 +1,7 @@
 // Of each space: the lives that were taken, and the notices that it was not told.
-ghost use Rattle.std.specs.Prelude.{◌≡◌, ◌++◌, ◌∷◌, [], OnOk, OnErr, IfOk, filter, replicate};
+ghost use Rattle.std.specs.Prelude.{◌≡◌, [], OnOk, OnErr, IfOk, filter, replicate};
 ghost use Rattle.sa_laws.specs.Record.{is_other_act, is_other_note, same_note, without_note, without_act};
-ghost use Rattle.sa_check_lives.specs.Rows.{row_at, with_item, front_of, without_last};
+ghost use Rattle.sa_check_lives.specs.Rows.{row_at, with_item, without_last};
 
 use sa_base::{ActNo, Note, SpaceNo};
 use std::alloc::{AllocError, Global};
@@ -52,7 +52,8 @@ pub(crate) fn add<T: Copy>(rows: &mut Vec<Row<T>>, s: SpaceNo, item: T) -> Resul
     if usize::from(s.0) >= rows.len() {
         return Ok(());
     }
-    rows[usize::from(s.0)].push(item)
+    rows[usize::from(s.0)].items.push(item)?;
+    Ok(())
 }
 
 // Takes out the last item of the space.
@@ -60,7 +61,7 @@ pub(crate) fn undo<T: Copy>(rows: &mut Vec<Row<T>>, s: SpaceNo)
     ensures { rows.new.items ≡ without_last rows.old.items s }
 {
     if usize::from(s.0) < rows.len() {
-        rows[usize::from(s.0)].pop();
+        rows[usize::from(s.0)].items.pop();
     }
 }
 
@@ -82,22 +83,6 @@ pub(crate) fn remove_note(rows: &mut [Row<Note>], note: Note)
 {
     for i in 0..rows.len() {
         drop_note(&mut rows[i], note);
-    }
-}
-
-impl<T: Copy> Row<T> {
-    fn push(&mut self, item: T) -> Result<(), AllocError>
-        ensures ok { OnOk result (self.new ≡ self.old ++ item ∷ []) }
-        ensures err { OnErr result (self.new ≡ self.old) }
-    {
-        self.items.push(item)?;
-        Ok(())
-    }
-
-    fn pop(&mut self)
-        ensures { self.new ≡ front_of self.old }
-    {
-        let _ = self.items.pop();
     }
 }
 

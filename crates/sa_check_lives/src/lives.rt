@@ -1,14 +1,12 @@
-ghost use Rattle.std.specs.Prelude.{◌≡◌, ◌↔◌, ◌≤◌, true, IsTrue, IfOk, OnOk, OnErr, length, slice_set};
+ghost use Rattle.std.specs.Prelude.{◌≡◌, ◌↔◌, ◌≤◌, IsTrue, IfOk, OnOk, OnErr, length, slice_set};
 ghost use Rattle.std.specs.Option.{option_copied};
-ghost use Rattle.sa_laws.specs.Life.{with_cont, with_first, without_lock, with_lock, with_hand, ran};
-ghost use Rattle.sa_laws.specs.Record.{back_with, made_ready};
 ghost use Rattle.sa_laws.specs.Readings.{Readings, IsLocked};
 ghost use Rattle.sa_laws.specs.Turns.{AnotherHas};
 ghost use Rattle.sa_laws.specs.Locks.{HoldsLock};
-ghost use Rattle.sa_check_lives.specs.Change.{stepped_by, arisen_by};
+ghost use Rattle.sa_check_lives.specs.Change.{changed_by, stepped_by, arisen_by};
 ghost use Rattle.sa_check_lives.specs.Table.{SomeIsIn};
 ghost use Rattle.sa_check_lives.specs.Recorded.{recorded, taken_lock};
-ghost use Rattle.sa_check_lives.specs.View.{lives_of, no_lives, running_at, life_if_at, space_at, taken_at, untold_at, changed, changed_on, with_up, stopped, blocked, unblocked, told, given_back, untold_threads, thread_of_note, must_be_told, noted, passed};
+ghost use Rattle.sa_check_lives.specs.View.{lives_of, no_lives, running_at, life_if_at, space_at, taken_at, untold_at, changed, changed_on, with_up, told, given_back, untold_threads, thread_of_note, must_be_told, noted, passed};
 
 use crate::change::{Change, Stepped};
 use crate::life::KeptLife;
@@ -19,11 +17,10 @@ use sa_base::{ActNo, BULK_RETURN, Note, ProcNo, Record, SpaceNo, ThreadNo};
 use std::alloc::{AllocError, Global};
 use std::marker::Model;
 
-/// The lives of a history. Each call that changes them does what one record does; each may fail for want of memory, and
-/// then nothing is changed. A call goes through the few lives whose numbers share one of 512 shelves, and through what it
-/// hands over; through the lives that have locks where one frees its last, through those that are in where one is out
-/// that was in, and through the row of a space where a life is given back; a notice that is told is looked for in what
-/// is untold.
+/// The lives of a history. A call that changes them may fail for want of memory, and then nothing is changed. A call goes
+/// through the few lives whose numbers share one of 512 shelves, and through what it hands over; through the lives that
+/// have locks where one frees its last, through those that are in where one is out that was in, and through the row of a
+/// space where a life is given back; a notice that is told is looked for in what is untold.
 #[derive(Drop)]
 pub struct Lives {
     alloc: Global,
@@ -178,7 +175,7 @@ impl Lives {
         ensures { (r : Readings) → r.lives ≡ (lives_of self.now).lives
             → (IsTrue result ↔ IsLocked r s l) }
     {
-        self.table.is_locked(s, l)
+        self.table.is_locked(None, s, l)
     }
 
     /// Some other life of the space than `a` has the list among its locks.
@@ -186,7 +183,7 @@ impl Lives {
         ensures { (r : Readings) → r.lives ≡ (lives_of self.now).lives
             → (IsTrue result ↔ AnotherHas r a s l) }
     {
-        self.table.is_locked_by_other(a, s, l)
+        self.table.is_locked(Some(a), s, l)
     }
 
     /// The thread of the space holds the lock of a list.
@@ -214,116 +211,6 @@ impl Lives {
         self.set_running(p, Some(a));
         self.upped = Some(a);
         Ok(())
-    }
-
-    /// The threads, forked or woken by an instruction, join the hand of the running life.
-    pub fn rouse(&mut self, p: ProcNo, threads: &[ThreadNo]) -> Result<(), AllocError>
-        ensures ok { OnOk result
-            (lives_of self.new ≡ changed_on (with_hand threads.now) p (lives_of self.old)) }
-        ensures err { OnErr result (lives_of self.new ≡ lives_of self.old) }
-    {
-        let a = self.running(p);
-        self.table.rouse(a, threads)
-    }
-
-    /// The running life has run the thread.
-    pub fn run(&mut self, p: ProcNo, t: ThreadNo) -> Result<(), AllocError>
-        ensures ok { OnOk result
-            (lives_of self.new ≡ changed_on (with_first (ran t)) p (lives_of self.old)) }
-        ensures err { OnErr result (lives_of self.new ≡ lives_of self.old) }
-    {
-        let a = self.running(p);
-        self.table.change(a, &Change::Run(t))
-    }
-
-    /// The running life goes on in the copy of a section.
-    pub fn cont(&mut self, p: ProcNo) -> Result<(), AllocError>
-        ensures ok { OnOk result
-            (lives_of self.new ≡ changed_on (with_cont true) p (lives_of self.old)) }
-        ensures err { OnErr result (lives_of self.new ≡ lives_of self.old) }
-    {
-        let a = self.running(p);
-        self.table.change(a, &Change::Cont)
-    }
-
-    /// The running life is back from the copy of a section, with the thread, if there is one.
-    pub fn back(&mut self, p: ProcNo, t: Option<ThreadNo>) -> Result<(), AllocError>
-        ensures ok { OnOk result
-            (lives_of self.new ≡ changed_on (back_with t) p (lives_of self.old)) }
-        ensures err { OnErr result (lives_of self.new ≡ lives_of self.old) }
-    {
-        let a = self.running(p);
-        self.table.change(a, &Change::Back(t))
-    }
-
-    /// The running life has made the thread ready.
-    pub fn ready(&mut self, p: ProcNo, t: ThreadNo) -> Result<(), AllocError>
-        ensures ok { OnOk result
-            (lives_of self.new ≡ changed_on (made_ready t) p (lives_of self.old)) }
-        ensures err { OnErr result (lives_of self.new ≡ lives_of self.old) }
-    {
-        let a = self.running(p);
-        self.table.change(a, &Change::Ready(t))
-    }
-
-    /// The running life has taken a lock.
-    pub fn take(&mut self, p: ProcNo, lock: ListLock) -> Result<(), AllocError>
-        ensures ok { OnOk result
-            (lives_of self.new ≡ changed_on (with_lock lock) p (lives_of self.old)) }
-        ensures err { OnErr result (lives_of self.new ≡ lives_of self.old) }
-    {
-        let a = self.running(p);
-        self.table.change(a, &Change::Take(lock))
-    }
-
-    /// The running life has freed its first lock.
-    pub fn free(&mut self, p: ProcNo) -> Result<(), AllocError>
-        ensures ok { OnOk result
-            (lives_of self.new ≡ changed_on without_lock p (lives_of self.old)) }
-        ensures err { OnErr result (lives_of self.new ≡ lives_of self.old) }
-    {
-        let a = self.running(p);
-        self.table.change(a, &Change::Free)
-    }
-
-    /// The life of this number was stopped on the processor, in the space and with the thread that the record names.
-    pub fn stop(
-        &mut self,
-        p: ProcNo,
-        s: SpaceNo,
-        t: Option<ThreadNo>,
-        a: ActNo,
-    ) -> Result<(), AllocError>
-        ensures ok { OnOk result (lives_of self.new ≡ stopped p s t a (lives_of self.old)) }
-        ensures err { OnErr result (lives_of self.new ≡ lives_of self.old) }
-    {
-        self.note(s, a, Note::Preempted(a), &Change::Stop(t))?;
-        self.set_running(p, None);
-        Ok(())
-    }
-
-    /// The life of this number has blocked on the processor.
-    pub fn block(
-        &mut self,
-        p: ProcNo,
-        s: SpaceNo,
-        t: Option<ThreadNo>,
-        a: ActNo,
-    ) -> Result<(), AllocError>
-        ensures ok { OnOk result (lives_of self.new ≡ blocked p s t a (lives_of self.old)) }
-        ensures err { OnErr result (lives_of self.new ≡ lives_of self.old) }
-    {
-        self.note(s, a, Note::Blocked(a), &Change::Block(t))?;
-        self.set_running(p, None);
-        Ok(())
-    }
-
-    /// The I/O of the life of this number is over.
-    pub fn unblock(&mut self, s: SpaceNo, t: Option<ThreadNo>, a: ActNo) -> Result<(), AllocError>
-        ensures ok { OnOk result (lives_of self.new ≡ unblocked s t a (lives_of self.old)) }
-        ensures err { OnErr result (lives_of self.new ≡ lives_of self.old) }
-    {
-        self.note(s, a, Note::Unblocked(a), &Change::Unblock(t))
     }
 
     /// The notice was told: it is untold no longer, and where it hands a life over, that life is taken, and the life of the
@@ -364,16 +251,21 @@ impl Lives {
         ensures err { OnErr result (lives_of self.new ≡ lives_of self.old) }
     {
         match what {
-            Record::Ins(..) => self.rouse(p, roused),
-            Record::Run(_, t) => self.run(p, t),
-            Record::Stop(s, t, a) => self.stop(p, s, t, a),
-            Record::Block(s, t, a, _) => self.block(p, s, t, a),
-            Record::Unblock(s, t, a) => self.unblock(s, t, a),
-            Record::Cont(..) => self.cont(p),
-            Record::Back(_, t) => self.back(p, t),
-            Record::Ready(_, t) => self.ready(p, t),
-            Record::Take(_, l, t) => self.take(p, lock_at(p, l, t, for_push)),
-            Record::Free(..) => self.free(p),
+            Record::Ins(..) => {
+                let a = self.running(p);
+                self.table.rouse(a, roused)
+            }
+            Record::Run(_, t) => self.change_on(p, &Change::Run(t)),
+            Record::Stop(s, t, a) => self.leave(p, s, a, Note::Preempted(a), &Change::Stop(t)),
+            Record::Block(s, t, a, _) => self.leave(p, s, a, Note::Blocked(a), &Change::Block(t)),
+            Record::Unblock(s, t, a) => self.note(s, a, Note::Unblocked(a), &Change::Unblock(t)),
+            Record::Cont(..) => self.change_on(p, &Change::Cont),
+            Record::Back(_, t) => self.change_on(p, &Change::Back(t)),
+            Record::Ready(_, t) => self.change_on(p, &Change::Ready(t)),
+            Record::Take(_, l, t) => {
+                self.change_on(p, &Change::Take(lock_at(p, l, t, for_push)))
+            }
+            Record::Free(..) => self.change_on(p, &Change::Free),
             Record::Up(s, a) => self.up(p, s, a),
             Record::Told(note) => self.tell(note),
             Record::GiveBack(a) => {
@@ -400,8 +292,18 @@ impl Lives {
             (lives_of self.new ≡ changed_on (arisen_by inside) p (lives_of self.old)) }
         ensures err { OnErr result (lives_of self.new ≡ lives_of self.old) }
     {
+        self.change_on(p, &Change::Arise(inside))
+    }
+
+    // The life that runs on the processor is changed, if one does. An error changes nothing.
+    #[inline(always)]
+    fn change_on(&mut self, p: ProcNo, change: &Change) -> Result<(), AllocError>
+        ensures ok { OnOk result
+            (lives_of self.new ≡ changed_on (changed_by change.now) p (lives_of self.old)) }
+        ensures err { OnErr result (lives_of self.new ≡ lives_of self.old) }
+    {
         let a = self.running(p);
-        self.table.change(a, &Change::Arise(inside))
+        self.table.change(a, change)
     }
 
     // Another life runs on the processor, or none.
@@ -412,6 +314,24 @@ impl Lives {
         if let Some(cell) = self.running.get_mut(usize::from(p.0)) {
             *cell = a;
         }
+    }
+
+    // The life that ran on the processor is changed, and the space was not told the notice. An error changes nothing.
+    fn leave(
+        &mut self,
+        p: ProcNo,
+        s: SpaceNo,
+        a: ActNo,
+        note: Note,
+        change: &Change,
+    ) -> Result<(), AllocError>
+        ensures ok { OnOk result (lives_of self.new ≡ let v = noted s a note change.now (lives_of self.old) in
+            record v { running = slice_set v.running p.0 None }) }
+        ensures err { OnErr result (lives_of self.new ≡ lives_of self.old) }
+    {
+        self.note(s, a, note, change)?;
+        self.set_running(p, None);
+        Ok(())
     }
 
     // The life is changed, and the space was not told the notice. An error changes nothing.

@@ -140,20 +140,14 @@ impl Table {
         Ok(())
     }
 
-    // Some life of the space has the list among its locks.
-    pub(crate) fn is_locked(&self, s: SpaceNo, l: ProcNo) -> bool
-        ensures { (r : Readings) → r.lives ≡ lives_in self.now
+    // Some life of the space, but for one that is given, has the list among its locks.
+    pub(crate) fn is_locked(&self, but: Option<ActNo>, s: SpaceNo, l: ProcNo) -> bool
+        ensures any { (r : Readings) → r.lives ≡ lives_in self.now → but ≡ None
             → (IsTrue result ↔ IsLocked r s l) }
-    {
-        some_has_list(&self.lives, self.holders.as_slice(), None, s, l)
-    }
-
-    // Some other life of the space than `a` has the list among its locks.
-    pub(crate) fn is_locked_by_other(&self, a: ActNo, s: SpaceNo, l: ProcNo) -> bool
-        ensures { (r : Readings) → r.lives ≡ lives_in self.now
+        ensures other { (r : Readings) (a : ActNo) → r.lives ≡ lives_in self.now → but ≡ Some a
             → (IsTrue result ↔ AnotherHas r a s l) }
     {
-        some_has_list(&self.lives, self.holders.as_slice(), Some(a), s, l)
+        some_has_list(&self.lives, self.holders.as_slice(), but, s, l)
     }
 
     // The thread of the space holds the lock of a list.
