@@ -1,11 +1,11 @@
 // The kinds of records.
 ghost use Rattle.std.specs.Prelude.{◌≡◌};
 ghost use Rattle.sa_laws.specs.History.{is_step, is_up, is_free};
-ghost use Rattle.sa_laws.specs.Shape.{is_want, is_aim_at, is_of_closing, is_of_leave, follows_aim, is_other_line};
+ghost use Rattle.sa_laws.specs.Shape.{is_of_closing, is_other_line};
 ghost use Rattle.sa_laws.specs.Turns.{is_of_locks};
 ghost use Rattle.sa_laws.specs.Locks.{is_back};
 
-use sa_base::{ProcNo, Record};
+use sa_base::Record;
 
 /// An event that begins with this record is a step of its processor's running life.
 pub fn is_step(what: Record) -> bool
@@ -50,42 +50,12 @@ pub fn is_back(what: Record) -> bool
     }
 }
 
-/// A want.
-pub fn is_want(what: Record) -> bool
-    ensures { result ≡ is_want what }
-{
-    match what {
-        Record::Want(..) => true,
-        _ => false,
-    }
-}
-
-/// An aim of a processor at a space.
-pub fn is_aim_at(what: Record) -> bool
-    ensures { result ≡ is_aim_at what }
-{
-    match what {
-        Record::Aim(_, Some(_)) => true,
-        _ => false,
-    }
-}
-
 /// One of the kinds that make a closing: a want, an aim at a space, a line.
 pub fn is_of_closing(what: Record) -> bool
     ensures { result ≡ is_of_closing what }
 {
     match what {
         Record::Want(..) | Record::Aim(_, Some(_)) | Record::Line(..) => true,
-        _ => false,
-    }
-}
-
-/// One of the kinds that make a leave: a move, an aim at none, a fetch.
-pub fn is_of_leave(what: Record) -> bool
-    ensures { result ≡ is_of_leave what }
-{
-    match what {
-        Record::Move(..) | Record::Aim(_, None) | Record::Fetch(..) => true,
         _ => false,
     }
 }
@@ -101,22 +71,13 @@ pub fn is_of_locks(what: Record) -> bool
     }
 }
 
-/// The record before is an aim of this processor at a space.
-pub fn follows_aim(last: Option<Record>, p: ProcNo) -> bool
-    ensures { result ≡ follows_aim last p }
-{
-    match last {
-        Some(Record::Aim(q, Some(_))) => q.0 == p.0,
-        _ => false,
-    }
-}
-
 /// A line that does not come directly after an aim of its processor at a space.
 pub fn is_other_line(last: Option<Record>, what: Record) -> bool
     ensures { result ≡ is_other_line last what }
 {
-    match what {
-        Record::Line(p) => !follows_aim(last, p),
+    match (last, what) {
+        (Some(Record::Aim(q, Some(_))), Record::Line(p)) => q.0 != p.0,
+        (_, Record::Line(_)) => true,
         _ => false,
     }
 }

@@ -13,13 +13,10 @@ pub use behind::{
     is_leave, stops_and_goes,
 };
 pub use due::{Aimed, are_aims, are_lines, are_told, are_wants, has_aims, is_told};
-pub use kinds::{
-    follows_aim, is_aim_at, is_back, is_free, is_of_closing, is_of_leave, is_of_locks,
-    is_other_line, is_step, is_up, is_want,
-};
+pub use kinds::{is_back, is_free, is_of_closing, is_of_locks, is_other_line, is_step, is_up};
 pub use parts::{
-    before_aims, before_wants, closing_part, front_part, last_lines, leave_run,
-    others_of, own_part, parted,
+    before_aims, before_wants, closing_part, front_part, last_lines, leave_run, others_of,
+    own_part, parted,
 };
 pub use turns::{
     are_of_locks, are_raising, are_told_alone, has_up, is_block, is_closing, is_fetch_or_nothing,

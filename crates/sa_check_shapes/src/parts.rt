@@ -1,10 +1,10 @@
 // The parts of an event's list of records.
-ghost use Rattle.std.specs.Prelude.{◌≡◌, ◌≤◌, [], ◌∷◌, length, take_while, Some, MatchOption};
+ghost use Rattle.std.specs.Prelude.{◌≡◌, ◌≤◌, [], ◌∷◌, length, Some, MatchOption};
 ghost use Rattle.std.specs.List.{prefix_len};
 ghost use Rattle.sa_laws.specs.Shape.{own_part, closing_part, others_of, before_aims, before_wants, before_lines, front_part, last_lines, leave_run};
 ghost use Rattle.sa_check_shapes.specs.Runs.{test_of, first_and_run};
 
-use crate::kinds::{is_aim_at, is_of_closing, is_of_leave, is_other_line, is_want};
+use crate::kinds::{is_of_closing, is_other_line};
 use sa_base::Record;
 
 /// The first item and the others.
@@ -34,20 +34,16 @@ fn passes(run: Run, what: Record) -> bool
 {
     match run {
         Run::Own => !is_of_closing(what),
-        Run::NoAim => !is_aim_at(what),
-        Run::NoWant => !is_want(what),
-        Run::Leave => is_of_leave(what),
+        Run::NoAim => !matches!(what, Record::Aim(_, Some(_))),
+        Run::NoWant => !matches!(what, Record::Want(..)),
+        Run::Leave => matches!(
+            what,
+            Record::Move(..) | Record::Aim(_, None) | Record::Fetch(..)
+        ),
     }
 }
 
-// The records with which the list begins that pass the test.
-fn run_of(run: Run, records: &[Record]) -> &[Record]
-    ensures { result.now ≡ take_while (test_of run) records.now }
-{
-    &records[..run_len(run, records)]
-}
-
-// How many they are.
+// With how many records that pass the test the list begins.
 fn run_len(run: Run, records: &[Record]) -> usize
     ensures len { result ≡ prefix_len (test_of run) records.now }
     ensures within { result ≤ length records.now }
@@ -98,7 +94,7 @@ pub fn others_of(records: &[Record]) -> &[Record]
 pub fn before_aims(records: &[Record]) -> &[Record]
     ensures { result.now ≡ before_aims records.now }
 {
-    run_of(Run::NoAim, records)
+    &records[..run_len(Run::NoAim, records)]
 }
 
 /// The records before the first want that is not the event's first record.
@@ -112,7 +108,7 @@ pub fn before_wants(records: &[Record]) -> &[Record]
 pub fn leave_run(records: &[Record]) -> &[Record]
     ensures { result.now ≡ leave_run records.now }
 {
-    run_of(Run::Leave, records)
+    &records[..run_len(Run::Leave, records)]
 }
 
 /// The records before the first line, not counting the event's first record, that does not come directly after an aim of

@@ -1,6 +1,6 @@
 // The shapes of turns: which records an event's own part and its closing consist of.
 ghost use Rattle.std.specs.Prelude.{◌≡◌, ◌↔◌, IsTrue};
-ghost use Rattle.std.specs.List.{list_all, list_any};
+ghost use Rattle.std.specs.List.{list_any};
 ghost use Rattle.sa_laws.specs.History.{is_up};
 ghost use Rattle.sa_laws.specs.Turns.{AreRaising, IsClosing, AreTold, IsFetchOrNothing, IsPassage, IsInterrupt, IsOver, IsOut, IsBlock, IsInsOf, AreOfLocks, is_of_locks};
 ghost use Rattle.sa_check_shapes.specs.Parted.{OperatesAlone};
@@ -141,13 +141,12 @@ pub fn is_ins_of(instr: Instr, records: &[Record]) -> bool
 pub fn are_of_locks(records: &[Record]) -> bool
     ensures { IsTrue result ↔ AreOfLocks records.now }
 {
-    all_operate(records)
-}
-
-fn all_operate(records: &[Record]) -> bool
-    ensures { result ≡ list_all is_of_locks records.now }
-{
-    records.iter().all(|what| is_of_locks(*what))
+    for what in records {
+        if !is_of_locks(*what) {
+            return false;
+        }
+    }
+    true
 }
 
 /// Where an operation on ready lists is among these records, nothing comes after the first.
