@@ -2,9 +2,7 @@
 #![tactic(auto, unfolding(crate::specs::Seen::seen))]
 
 ghost use Rattle.std.specs.Prelude.{◌≡◌, ◌+◌, IfOk, OnOk};
-ghost use Rattle.std.specs.List.{list_any};
 ghost use Rattle.sa_laws.specs.Readings.{Readings, running_of, life_if};
-ghost use Rattle.sa_laws.specs.History.{is_up, is_running_or_blocked};
 ghost use Rattle.sa_check_lives.specs.View.{lives_of};
 ghost use Rattle.sa_check_moment.specs.Seen.{seen, event, at_end, lowers};
 ghost use Rattle.sa_check_moment.specs.Urged.{asks_last};
@@ -16,7 +14,7 @@ use crate::rules::Rules;
 use crate::start::Start;
 use sa_base::{ActNo, ProcNo, Record};
 use sa_check_lives::{KeptLife, Lives, Scan, Stepped};
-use sa_check_shapes::{closing_part, is_step};
+use sa_check_shapes::{closing_part, has_up, is_step};
 use sa_laws::Place;
 use std::alloc::AllocError;
 
@@ -101,7 +99,12 @@ impl Moment {
         ensures { result ≡ settles_by lowers (seen self.now).readings first.now }
     {
         match *first {
-            Record::Ins(s, t, _) => !runs_or_is_blocked(self.thread(s, t).place()),
+            Record::Ins(s, t, _) => {
+                !matches!(
+                    self.thread(s, t).place(),
+                    Place::Running(_) | Place::Blocked
+                )
+            }
             Record::Want(..) => !lowers,
             Record::Idle | Record::Block(..) => false,
             _ => true,
@@ -156,25 +159,6 @@ fn asks_last(records: &[Record]) -> bool
     ensures { result ≡ asks_last records.now }
 {
     has_entry(records) || closing_part(records).is_empty()
-}
-
-// A thread there runs or is blocked.
-fn runs_or_is_blocked(place: Place) -> bool
-    ensures { result ≡ is_running_or_blocked place }
-{
-    matches!(place, Place::Running(_) | Place::Blocked)
-}
-
-// An up is among the records.
-fn has_up(records: &[Record]) -> bool
-    ensures { result ≡ list_any is_up records.now }
-{
-    for what in records {
-        if matches!(*what, Record::Up(..)) {
-            return true;
-        }
-    }
-    false
 }
 
 // How the looks that found no thread are counted on.
