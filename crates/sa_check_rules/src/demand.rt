@@ -1,6 +1,6 @@
 // Demand is announced.
 ghost use Rattle.std.specs.Prelude.{◌≡◌, ◌↔◌, IsTrue};
-ghost use Rattle.sa_laws.specs.Demand.{is_bound, OwesNothing, IsFree, BeginsFreely, DemandIsAnnounced};
+ghost use Rattle.sa_laws.specs.Demand.{is_bound, OwesNothing, BeginsFreely, DemandIsAnnounced};
 ghost use Rattle.sa_check_moment.specs.Seen.{seen, event};
 
 use crate::life::{carried_by, has_nothing};
@@ -18,7 +18,7 @@ pub(crate) fn is_announced(moment: &Moment, number: u64, p: ProcNo, records: &[R
     number == 0 || begins_freely(moment, p, records)
 }
 
-// A step is made by a running life, which is free to make it.
+// A step is made by a running life, which is out or owes nothing, where only such a life begins a step so.
 #[inline(always)]
 fn begins_freely(moment: &Moment, p: ProcNo, records: &[Record]) -> bool
     ensures { let m = seen moment.now in
@@ -32,17 +32,10 @@ fn begins_freely(moment: &Moment, p: ProcNo, records: &[Record]) -> bool
     }
     match moment.life_on(p) {
         None => false,
-        Some(life) => is_free(moment, life, first),
+        Some(life) => {
+            !is_bound(moment, life, first) || !life.inside() || owes_nothing(moment, life)
+        }
     }
-}
-
-// The life is out or owes nothing, where only such a life begins a step so.
-#[inline(always)]
-fn is_free(moment: &Moment, life: &KeptLife, first: Record) -> bool
-    ensures { let m = seen moment.now in
-        IsTrue result ↔ IsFree m.workload m.readings life.now first }
-{
-    !is_bound(moment, life, first) || !life.inside() || owes_nothing(moment, life)
 }
 
 // Only a life that is out or owes nothing begins a step so.

@@ -1,9 +1,9 @@
 // A line has its cause: the law of each record, on the moment before it. `rest` comes after it.
 ghost use Rattle.std.specs.Prelude.{◌↔◌, IsTrue};
-ghost use Rattle.sa_laws.specs.Upcalls.{IsHeard, RaisesLine};
+ghost use Rattle.sa_laws.specs.Upcalls.{RaisesLine};
 ghost use Rattle.sa_check_moment.specs.Seen.{seen};
 
-use sa_base::{ProcNo, Record};
+use sa_base::Record;
 use sa_check_moment::Moment;
 use sa_check_shapes::begins_with_line;
 
@@ -13,15 +13,8 @@ pub fn raises_line(moment: &Moment, what: &Record, rest: &[Record]) -> bool
     ensures { IsTrue result ↔ RaisesLine (seen moment.now).readings what.now rest.now }
 {
     match *what {
-        Record::Aim(p, Some(_)) => is_heard(moment, p, rest),
+        Record::Aim(p, Some(_)) => moment.line(p).is_some() || begins_with_line(p, rest),
         Record::Line(p) => moment.line(p).is_none(),
         _ => true,
     }
-}
-
-// The processor's line is raised, or its record comes here.
-fn is_heard(moment: &Moment, p: ProcNo, rest: &[Record]) -> bool
-    ensures { IsTrue result ↔ IsHeard (seen moment.now).readings p rest.now }
-{
-    moment.line(p).is_some() || begins_with_line(p, rest)
 }

@@ -3,12 +3,12 @@ ghost use Rattle.std.specs.Prelude.{◌≡◌, ◌↔◌, Some, IsTrue, map, nat
 ghost use Rattle.sa_base.specs.declared.record.Record.TheVariants.{GiveBack};
 ghost use Rattle.sa_laws.specs.Readings.{demand_of};
 ghost use Rattle.sa_laws.specs.Life.{first_lock};
-ghost use Rattle.sa_laws.specs.Turns.{IsUnused, CanFault, CanSpin, CanRaise, CanLower, CanHint, CanIdle, CanGiveBack, StepIn, IsStep};
+ghost use Rattle.sa_laws.specs.Turns.{CanFault, CanSpin, CanRaise, CanLower, CanHint, CanIdle, CanGiveBack, StepIn, IsStep};
 ghost use Rattle.sa_check_moment.specs.Seen.{seen};
 
 use crate::life::{carried_by, finds_none, has_no_lock, has_nothing, patience};
 use sa_base::{ActNo, BULK_RETURN, PACKAGE_PAGE, ProcNo, Record, SpaceNo};
-use sa_check_lives::{KeptLife, ListLock};
+use sa_check_lives::KeptLife;
 use sa_check_moment::Moment;
 use sa_check_shapes::{are_of_locks, is_ins_of, is_passage, parted};
 
@@ -55,21 +55,19 @@ pub(crate) fn is_step_of(
     }
 }
 
-// Where the life has a lock, the package's page is absent, and the first lock is unused.
+// Where the life has a lock, the package's page is absent, and the first lock has got no ready or run record, and if it
+// was inherited, a cont is open.
 fn can_fault(moment: &Moment, life: &KeptLife) -> bool
     ensures { IsTrue result ↔ CanFault (seen moment.now).readings life.now (first_lock life.now) }
 {
     match life.first_lock() {
         None => true,
-        Some(lock) => { !moment.is_resident(life.space(), PACKAGE_PAGE) && is_unused(life, lock) }
+        Some(lock) => {
+            !moment.is_resident(life.space(), PACKAGE_PAGE)
+                && !lock.used
+                && (!lock.inherited || life.cont())
+        }
     }
-}
-
-// The lock has got no ready or run record, and if it was inherited, a cont is open.
-fn is_unused(life: &KeptLife, lock: ListLock) -> bool
-    ensures { IsTrue result ↔ IsUnused life.now lock }
-{
-    !lock.used && (!lock.inherited || life.cont())
 }
 
 // The life has a thread to push, and its own list is locked by another.

@@ -2,7 +2,7 @@
 ghost use Rattle.std.specs.Prelude.{◌≡◌, ◌↔◌, ◌++◌, IsTrue};
 ghost use Rattle.std.specs.Option.{option_to_list};
 ghost use Rattle.sa_laws.specs.Readings.{untold_of};
-ghost use Rattle.sa_laws.specs.Upcalls.{notes_due, TellsAll, IsTaken, TellsAllThen};
+ghost use Rattle.sa_laws.specs.Upcalls.{notes_due, IsTaken, TellsAllThen};
 ghost use Rattle.sa_check_moment.specs.Seen.{seen};
 
 use sa_base::{ActNo, Note, ProcNo, Record, SpaceNo};
@@ -15,19 +15,14 @@ pub fn tells_all(moment: &Moment, p: ProcNo, what: &Record, rest: &[Record]) -> 
     ensures { IsTrue result ↔ TellsAllThen p (seen moment.now).readings what.now rest.now }
 {
     match *what {
-        Record::Up(s, a) => tells_all_to(moment, p, s, a, rest),
+        Record::Up(s, a) => {
+            moment.life(a).is_none()
+                && are_told(rest, note_of_move(moment, p, s), moment.untold(s))
+                && is_told(rest)
+        }
         Record::GiveBack(a) => is_taken(moment, a),
         _ => true,
     }
-}
-
-// After the up of the space in this activation comes all that is due to it.
-fn tells_all_to(moment: &Moment, p: ProcNo, s: SpaceNo, a: ActNo, rest: &[Record]) -> bool
-    ensures { IsTrue result ↔ TellsAll p (seen moment.now).readings s a rest.now }
-{
-    moment.life(a).is_none()
-        && are_told(rest, note_of_move(moment, p, s), moment.untold(s))
-        && is_told(rest)
 }
 
 // The notice of the processor, where it moved to the space in the same event.

@@ -1,12 +1,11 @@
 // Pairs are served.
 ghost use Rattle.std.specs.Prelude.{◌≡◌, ◌↔◌, IsTrue};
-ghost use Rattle.sa_ranks.specs.Locks.{IsUnurged, BeginsUnurged, PairsAreServed};
+ghost use Rattle.sa_ranks.specs.Locks.{BeginsUnurged, PairsAreServed};
 ghost use Rattle.sa_check_moment.specs.declared.rules.Rules.TheVariants.{Priorities};
 ghost use Rattle.sa_check_moment.specs.Seen.{seen, event};
 
 use crate::demand::{is_announced, is_bound};
 use sa_base::{ProcNo, Record};
-use sa_check_lives::KeptLife;
 use sa_check_moment::Moment;
 use sa_check_shapes::{is_step, parted};
 
@@ -20,7 +19,7 @@ pub(crate) fn pairs_are_served(moment: &Moment, number: u64, p: ProcNo, records:
     is_announced(moment, number, p, records) && (number == 0 || begins_unurged(moment, p, records))
 }
 
-// A step is made by a life that may make it where a pair exists, or where none does.
+// A step is made by a life that is out, or no pair of its space exists, where only such a life begins a step so.
 fn begins_unurged(moment: &Moment, p: ProcNo, records: &[Record]) -> bool
     requires { (seen moment.now).rules ≡ Priorities }
     ensures { let m = seen moment.now in
@@ -34,15 +33,8 @@ fn begins_unurged(moment: &Moment, p: ProcNo, records: &[Record]) -> bool
     }
     match moment.life_on(p) {
         None => true,
-        Some(life) => is_unurged(moment, life, first),
+        Some(life) => {
+            !is_bound(moment, life, first) || !life.inside() || !moment.has_pair(life.space())
+        }
     }
-}
-
-// The life is out, or no pair of its space exists, where only such a life begins a step so.
-fn is_unurged(moment: &Moment, life: &KeptLife, first: Record) -> bool
-    requires { (seen moment.now).rules ≡ Priorities }
-    ensures { let m = seen moment.now in
-        IsTrue result ↔ IsUnurged m.workload m.readings life.now first }
-{
-    !is_bound(moment, life, first) || !life.inside() || !moment.has_pair(life.space())
 }
