@@ -22,13 +22,12 @@ mod trace;
 mod verdict;
 mod wants;
 
-use aims::{aims_due, are_aims_due};
 pub use line::{verdict_line, word};
-use lines::{are_lines_due, lines_due};
+use lines::are_lines_due;
 use opening::is_numbered;
 use prompt::{is_told_in_time, wants_nothing};
 pub use sa_check_moment::Rules;
 use shares::{covers_shares, first_space, shares_at};
 pub use trace::check;
 pub use verdict::Verdict;
-use wants::{are_wants_due, wants_due};
+use wants::are_wants_due;

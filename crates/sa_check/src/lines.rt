@@ -1,7 +1,7 @@
 // The lines that are due.
 ghost use Rattle.std.specs.Prelude.{◌≡◌, ◌↔◌, not, is_none, IfOk, IsTrue};
 ghost use Rattle.sa_assign.specs.Aims.{is_aim, least_below};
-ghost use Rattle.sa_laws.specs.Closing.{will_tell, can_be_raised, must_interrupt, lines_due};
+ghost use Rattle.sa_laws.specs.Closing.{will_tell, can_be_raised, lines_due};
 ghost use Rattle.sa_laws.specs.Shape.{lines_in};
 ghost use Rattle.sa_check_moment.specs.Seen.{seen};
 ghost use Rattle.sa_check.specs.Each.{line_for};
@@ -12,21 +12,8 @@ use sa_check_moment::Moment;
 use sa_check_shapes::are_lines;
 use std::alloc::{AllocError, Global};
 
-/// The lines that are due: for each space that must be told something and would be told it nowhere, that of its
-/// lowest-numbered processor with a low line, if it owns one.
-///
-/// Fails only where memory runs out.
-pub(crate) fn lines_due(alloc: Global, moment: &Moment) -> Result<Vec<Record>, AllocError>
-    ensures { IfOk result (λ due. due.items ≡ lines_due (seen moment.now).workload (seen moment.now).readings) }
-{
-    let mut due = Vec::new(alloc);
-    for s in 0..moment.workload().spaces().len() {
-        add(&mut due, line_for(moment, SpaceNo(s as u16)))?;
-    }
-    Ok(due)
-}
-
-/// The lines among the records are those that are due. Fails only where memory runs out.
+/// The lines among the records are those that are due: for each space that must be told something and would be told it
+/// nowhere, that of its lowest-numbered processor with a low line, if it owns one. Fails only where memory runs out.
 pub(crate) fn are_lines_due(
     alloc: Global,
     moment: &Moment,
@@ -35,26 +22,23 @@ pub(crate) fn are_lines_due(
     ensures { IfOk result (λ held. IsTrue held ↔ (lines_in records.now
         ≡ lines_due (seen moment.now).workload (seen moment.now).readings)) }
 {
-    let due = lines_due(alloc, moment)?;
+    let mut due = Vec::new(alloc);
+    for s in 0..moment.workload().spaces().len() {
+        add(&mut due, line_for(moment, SpaceNo(s as u16)))?;
+    }
     Ok(are_lines(records, due.as_slice()))
 }
 
-// The line that is due of the space.
+// The line that is due of the space: of one that must be told something, whose upcall page is not being fetched, and
+// that would be told it nowhere.
 fn line_for(moment: &Moment, s: SpaceNo) -> Option<Record>
     ensures { result ≡ line_for (seen moment.now).workload (seen moment.now).readings s }
 {
-    if !must_interrupt(moment, s) {
+    if moment.untold(s).is_empty() || moment.is_fetching(s) || is_told_somewhere(moment, s) {
         return None;
     }
     let p = lowest_low(moment, s)?;
     Some(Record::Line(ProcNo(p)))
-}
-
-// The space must be told something, its upcall page is not being fetched, and it would be told it nowhere.
-fn must_interrupt(moment: &Moment, s: SpaceNo) -> bool
-    ensures { result ≡ must_interrupt (seen moment.now).workload (seen moment.now).readings s }
-{
-    !moment.untold(s).is_empty() && !moment.is_fetching(s) && !is_told_somewhere(moment, s)
 }
 
 // Some processor of the space, with a raised line, is aimed at it.

@@ -5,12 +5,13 @@ ghost use Rattle.sa_check_moment.specs.Seen.{seen};
 ghost use Rattle.sa_check.specs.Items.{told_event};
 ghost use Rattle.sa_check.specs.Places.{AimsAreDue, HasShares, DueMore};
 
+use crate::aims::aims_due;
 use crate::event::TraceEvent;
-use crate::{are_aims_due, are_lines_due, are_wants_due, covers_shares};
+use crate::{are_lines_due, are_wants_due, covers_shares};
 use sa_base::{ActNo, Record};
 use sa_check_moment::Moment;
 use sa_check_shapes::{
-    before_aims, before_wants, front_part, has_aims, last_lines, others_of, own_part,
+    are_aims, before_aims, before_wants, front_part, has_aims, last_lines, others_of, own_part,
 };
 use std::alloc::{AllocError, Global};
 
@@ -134,9 +135,9 @@ fn find_aims(alloc: Global, moment: &Moment, event: &TraceEvent) -> Result<AimsF
             covered: true,
         });
     }
-    let due = are_aims_due(alloc, moment, event.number, event.records)?;
+    let due = aims_due(alloc, moment, event.number)?;
     Ok(AimsFound {
-        due,
+        due: are_aims(event.records, due.as_slice()),
         covered: false,
     })
 }

@@ -1,5 +1,5 @@
 // The shares of the spaces at a moment.
-ghost use Rattle.std.specs.Prelude.{◌≡◌, ◌≤◌, ◌<◌, ◌↔◌, ℕ, length, min, IsTrue};
+ghost use Rattle.std.specs.Prelude.{◌≡◌, ◌≤◌, ◌<◌, ◌↔◌, ℕ, length, IsTrue};
 ghost use Rattle.sa_share.specs.Share.{share_at};
 ghost use Rattle.sa_assign.specs.Aims.{aimed};
 ghost use Rattle.sa_laws.specs.Closing.{claim_of, claims_of, first_space, shares_at};
@@ -63,20 +63,9 @@ fn claim(moment: &Moment, s: SpaceNo) -> Claim
     Claim {
         priority: moment.workload().spaces()[usize::from(s.0)].priority(),
         want: if moment.is_fetching(s) {
-            at_most(demand, aimed(moment.aims(), s))
+            usize::from(demand).min(aimed(moment.aims(), s)) as u16
         } else {
             demand
         },
-    }
-}
-
-// The less of the two.
-fn at_most(demand: u16, aims: usize) -> u16
-    ensures { result ≡ min demand aims }
-{
-    if usize::from(demand) <= aims {
-        demand
-    } else {
-        aims as u16
     }
 }

@@ -11,20 +11,8 @@ use sa_check_moment::Moment;
 use sa_check_shapes::are_wants;
 use std::alloc::{AllocError, Global};
 
-/// The wants that are due: a space that wants no processor and must be told something wants one.
-///
-/// Fails only where memory runs out.
-pub(crate) fn wants_due(alloc: Global, moment: &Moment) -> Result<Vec<Record>, AllocError>
-    ensures { IfOk result (λ due. due.items ≡ wants_due (seen moment.now).workload (seen moment.now).readings) }
-{
-    let mut due = Vec::new(alloc);
-    for s in 0..moment.workload().spaces().len() {
-        add(&mut due, want_for(moment, SpaceNo(s as u16)))?;
-    }
-    Ok(due)
-}
-
-/// The wants among the records are those that are due. Fails only where memory runs out.
+/// The wants among the records are those that are due: a space that wants no processor and must be told something wants
+/// one. Fails only where memory runs out.
 pub(crate) fn are_wants_due(
     alloc: Global,
     moment: &Moment,
@@ -33,7 +21,10 @@ pub(crate) fn are_wants_due(
     ensures { IfOk result (λ held. IsTrue held ↔ (wants_in records.now
         ≡ wants_due (seen moment.now).workload (seen moment.now).readings)) }
 {
-    let due = wants_due(alloc, moment)?;
+    let mut due = Vec::new(alloc);
+    for s in 0..moment.workload().spaces().len() {
+        add(&mut due, want_for(moment, SpaceNo(s as u16)))?;
+    }
     Ok(are_wants(records, due.as_slice()))
 }
 

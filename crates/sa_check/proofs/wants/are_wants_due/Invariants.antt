@@ -4,7 +4,7 @@ use Rattle.sa_laws.specs.Closing.{wants_due}
 use Rattle.sa_check_moment.specs.Seen.{seen}
 use Rattle.sa_check.specs.Each.{want_for}
 use Rattle.sa_check.proofs.EachLemmas.{from}
-use Rattle.sa_check.proofs.wants.wants_due.Given as goal
+use Rattle.sa_check.proofs.wants.are_wants_due.Given as goal
 
 abbrev pub invariant-loop-s : goal.invariant-loop-s
 invariant-loop-s l =

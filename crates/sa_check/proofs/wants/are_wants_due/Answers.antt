@@ -8,7 +8,7 @@ use Rattle.sa_laws.specs.Closing.{must_want, want_one}
 use Rattle.sa_check_moment.specs.Seen.{seen}
 use Rattle.sa_check.specs.Each.{want_for}
 use Rattle.sa_check.proofs.EachLemmas.{from, from-first, each-mapped, one-more}
-use Rattle.sa_check.proofs.wants.wants_due.Goals as goal
+use Rattle.sa_check.proofs.wants.are_wants_due.Goals as goal
 
 pub loop-s-init : goal.loop-s-init
 loop-s-init c =

@@ -4,7 +4,7 @@ use Rattle.sa_laws.specs.Closing.{lines_due}
 use Rattle.sa_check_moment.specs.Seen.{seen}
 use Rattle.sa_check.specs.Each.{line_for}
 use Rattle.sa_check.proofs.EachLemmas.{from}
-use Rattle.sa_check.proofs.lines.lines_due.Given as goal
+use Rattle.sa_check.proofs.lines.are_lines_due.Given as goal
 
 abbrev pub invariant-loop-s : goal.invariant-loop-s
 invariant-loop-s l =

@@ -8,7 +8,7 @@ use Rattle.sa_laws.specs.Closing.{must_interrupt, line_due}
 use Rattle.sa_check_moment.specs.Seen.{seen}
 use Rattle.sa_check.specs.Each.{line_for}
 use Rattle.sa_check.proofs.EachLemmas.{from, from-first, each-passed, one-more}
-use Rattle.sa_check.proofs.lines.lines_due.Goals as goal
+use Rattle.sa_check.proofs.lines.are_lines_due.Goals as goal
 
 pub loop-s-init : goal.loop-s-init
 loop-s-init c =
