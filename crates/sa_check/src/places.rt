@@ -1,5 +1,5 @@
 // The places in an event at which wants, aims and lines are due.
-ghost use Rattle.std.specs.Prelude.{◌≡◌, ◌↔◌, ◌≤◌, true, false, length, IfOk, IsTrue};
+ghost use Rattle.std.specs.Prelude.{◌≡◌, ◌↔◌, true, false, length, IfOk, IsTrue};
 ghost use Rattle.sa_laws.specs.Shape.{before_wants, before_aims, front_part, own_part};
 ghost use Rattle.sa_check_moment.specs.Seen.{seen};
 ghost use Rattle.sa_check.specs.Items.{told_event};

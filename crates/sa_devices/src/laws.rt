@@ -1,5 +1,5 @@
 //! Laws of I/Os and pages alone. No function here does anything: its clauses are proved for all of them.
-ghost use Rattle.std.specs.Prelude.{◌≡◌, ◌≢◌, ℕ, ◌<◌, ◌^◌, true, false, List, length, MatchOption};
+ghost use Rattle.std.specs.Prelude.{◌≡◌, ◌≢◌, ℕ, ◌<◌, true, false, List, length, MatchOption};
 ghost use Rattle.sa_spaces.specs.declared.workload.Evict.{Evict};
 ghost use Rattle.sa_devices.specs.declared.kind.IoKind.{IoKind};
 ghost use Rattle.sa_devices.specs.Ios.{Io, due_of};

@@ -1,5 +1,5 @@
 // What a search that stopped answers.
-ghost use Rattle.std.specs.Prelude.{◌≡◌, ◌≤◌, IfOk};
+ghost use Rattle.std.specs.Prelude.{◌≤◌, IfOk};
 ghost use Rattle.sa_keys.specs.Key.{key_of};
 ghost use Rattle.sa_explore_runs.specs.Runs.{IsBegun};
 ghost use Rattle.sa_explore.specs.Doing.{HasStopped, IsEndlessBy};

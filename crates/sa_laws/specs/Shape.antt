@@ -91,14 +91,10 @@ front_part (first ∷ others) = first ∷ before_lines (Some first) others
 abbrev pub last_lines : List Record → List Record
 last_lines records = drop (length (front_part records)) records
 
--- the notices of the run of told records with which a list begins, and what comes after that run
+-- the notices of the run of told records with which a list begins
 abbrev pub told_run : List Record → List Note
 told_run (Told n ∷ records) = n ∷ told_run records
 told_run _ = []
-
-abbrev pub behind_told : List Record → List Record
-behind_told (Told n ∷ records) = behind_told records
-behind_told records = records
 
 -- the records of the kinds that make a leave with which a list begins
 abbrev pub is_of_leave : Record → Bool

@@ -1,5 +1,5 @@
 // The keeper's side of the words.
-ghost use Rattle.std.specs.Prelude.{◌≡◌, ◌+◌, ◌*◌, ◌<◌, ◌≤◌, [], length, MatchBool};
+ghost use Rattle.std.specs.Prelude.{◌≡◌, ◌+◌, ◌<◌, ◌≤◌, [], length, MatchBool};
 ghost use Rattle.sa_base.specs.declared.limits.TheConstants.{MAX_EVENTS};
 ghost use Rattle.sa_lines.specs.Credit.{MayCredit};
 ghost use Rattle.sa_lines.specs.Words.{lane_at, lanes_of, IsKeeping, credit_word};

@@ -1,5 +1,5 @@
 // A poller's side of the words.
-ghost use Rattle.std.specs.Prelude.{◌≡◌, ◌+◌, ◌*◌, ◌<◌, ◌≤◌, [], MatchBool};
+ghost use Rattle.std.specs.Prelude.{◌≡◌, ◌<◌, ◌≤◌, [], MatchBool};
 ghost use Rattle.std.specs.Bool.{OnTrue};
 ghost use Rattle.sa_base.specs.declared.limits.TheConstants.{MAX_EVENTS};
 ghost use Rattle.sa_lines.specs.Credit.{applied, credit_of, number_of};

@@ -1,5 +1,5 @@
 // The check of a notice.
-ghost use Rattle.std.specs.Prelude.{◌≡◌, ◌+◌, ◌≤◌, IfSome};
+ghost use Rattle.std.specs.Prelude.{◌≡◌, IfSome};
 ghost use Rattle.sa_copies.specs.Copies.{package_ops};
 ghost use Rattle.sa_package_model.specs.Conditions.{CanTakeOver, CanBeTold};
 ghost use Rattle.sa_package_model.specs.Step.{told, told_of};

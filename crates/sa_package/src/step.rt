@@ -1,5 +1,5 @@
 // The step of a context.
-ghost use Rattle.std.specs.Prelude.{◌≡◌, ◌≢◌, ◌+◌, ◌<◌, ◌≤◌, ◌++◌, [], ◌∷◌, length, Some, None, slice_get};
+ghost use Rattle.std.specs.Prelude.{◌≡◌, ◌+◌, ◌<◌, ◌≤◌, length, Some, None, slice_get};
 ghost use Rattle.sa_copies.specs.Copies.{package_ops};
 ghost use Rattle.sa_lists.specs.ReadyView as ready;
 ghost use Rattle.sa_fast.specs.Work.{IsWork};

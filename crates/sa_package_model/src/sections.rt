@@ -1,5 +1,5 @@
 // Critical sections that are to be continued.
-ghost use Rattle.std.specs.Prelude.{◌≡◌, ◌+◌, ◌≤◌, ◌<◌, [], ◌∷◌, ◌++◌, ◌↔◌, drop, length, slice_get};
+ghost use Rattle.std.specs.Prelude.{◌≡◌, ◌+◌, ◌≤◌, ◌<◌, [], ◌∷◌, ◌++◌, drop, length, slice_get};
 ghost use Rattle.sa_package_model.specs.Context.{has_some};
 
 use arrayvec::ArrayVec;

@@ -1,5 +1,5 @@
 // A moment goes along an event, which is not judged.
-ghost use Rattle.std.specs.Prelude.{◌≡◌, IfOk};
+ghost use Rattle.std.specs.Prelude.{IfOk};
 ghost use Rattle.sa_check_moment.specs.Seen.{seen, event};
 ghost use Rattle.sa_page.specs.Advance.{told, ReadsSome, Advances};
 

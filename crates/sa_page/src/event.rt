@@ -1,5 +1,5 @@
 // The events of a trace.
-ghost use Rattle.std.specs.Prelude.{◌≡◌, ◌∷◌, ◌≤◌, ◌<◌, [], length, map, IfOk};
+ghost use Rattle.std.specs.Prelude.{◌≡◌, ◌∷◌, ◌≤◌, ◌<◌, length, map, IfOk};
 ghost use Rattle.std.specs.List.{prefix_len};
 ghost use Rattle.sa_check.specs.Items.{is_with, what_of};
 ghost use Rattle.sa_page.specs.Gathered.{IsGathered, Gathers};

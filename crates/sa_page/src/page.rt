@@ -1,5 +1,5 @@
 // The page.
-ghost use Rattle.std.specs.Prelude.{◌≡◌, ◌≤◌, ◌++◌, Ok, IfOk, IfErr};
+ghost use Rattle.std.specs.Prelude.{◌≡◌, Ok, IfOk, IfErr};
 ghost use Rattle.sa_trace.specs.Reading.{read_of, told};
 ghost use Rattle.sa_page.specs.Page.{IsPage, IsPrinted, HasNoPage};
 

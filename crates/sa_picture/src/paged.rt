@@ -1,5 +1,5 @@
 // What is written for a request: what is drawn of a trace, or the page of a workload and its trace.
-ghost use Rattle.std.specs.Prelude.{◌≡◌, ◌≤◌, IfOk, IfErr};
+ghost use Rattle.std.specs.Prelude.{IfOk, IfErr};
 ghost use Rattle.sa_picture.specs.declared.text.TheConstants.{INPUT_LIMIT};
 ghost use Rattle.sa_picture.specs.Paged.{IsWritten, IsNotWritten, IsPaged, IsNotPaged};
 

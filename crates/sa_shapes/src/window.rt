@@ -1,5 +1,5 @@
 // The window: the events that are drawn.
-ghost use Rattle.std.specs.Prelude.{◌≡◌, ◌≤◌, ◌<◌, ◌↔◌};
+ghost use Rattle.std.specs.Prelude.{◌≡◌, ◌≤◌, ◌<◌};
 ghost use Rattle.sa_shapes.specs.Window.{place, is_inside, window_to};
 
 /// The most events of a picture.

@@ -1,5 +1,5 @@
 // The answer of a search that stopped.
-ghost use Rattle.std.specs.Prelude.{◌≡◌, ◌≤◌, length, IfOk};
+ghost use Rattle.std.specs.Prelude.{◌≤◌, length, IfOk};
 ghost use Rattle.sa_explore_model.specs.Search.{AreLinked};
 ghost use Rattle.sa_states.specs.Answers.{IsAt, Answers};
 

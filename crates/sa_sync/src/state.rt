@@ -1,4 +1,4 @@
-ghost use Rattle.std.specs.Prelude.{◌≡◌, ◌-◌, ◌+◌, ◌<◌, ◌≤◌, ◌^◌, ◌↔◌, [], ◌++◌, length, IfOk, IsTrue, OnOk};
+ghost use Rattle.std.specs.Prelude.{◌≡◌, ◌-◌, ◌+◌, ◌<◌, ◌≤◌, ◌↔◌, [], ◌++◌, length, IfOk, IsTrue, OnOk};
 ghost use Rattle.std.specs.Option.{option_map};
 ghost use Rattle.sa_sync.specs.Sync.{opening, cell_at, mutex_at, semaphore_at, joiners_at, WaitsNowhere, WaitsOnce};
 ghost use Rattle.sa_sync.specs.Calls.{locked, unlocked, waited, signalled, joined, finished, first_joiner, without_joiner, stored, is_holder};

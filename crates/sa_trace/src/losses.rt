@@ -1,5 +1,5 @@
 // The lines of what the spaces of a run on virtual processors have lost.
-ghost use Rattle.std.specs.Prelude.{◌≡◌, ◌+◌, ◌*◌, ◌≤◌, ◌<◌, ◌++◌, [], decimal, length};
+ghost use Rattle.std.specs.Prelude.{◌≡◌, ◌+◌, ◌≤◌, ◌<◌, ◌++◌, [], decimal, length};
 ghost use Rattle.arrayvec.specs.ArrayVec.{array_vec_len};
 ghost use Rattle.sa_base.specs.declared.limits.TheConstants.{MAX_SPACES};
 ghost use Rattle.sa_trace.specs.Losses.{loss_line, losses_text};

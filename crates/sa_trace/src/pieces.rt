@@ -1,5 +1,5 @@
 // What a piece says where a number, a field or a word is expected.
-ghost use Rattle.std.specs.Prelude.{◌≡◌, ◌≤◌, ◌++◌, ◌↔◌, length, find};
+ghost use Rattle.std.specs.Prelude.{◌≡◌, ◌≤◌, length, find};
 ghost use Rattle.std.specs.Result.{result_err};
 ghost use Rattle.sa_trace.specs.Pieces.{field_in, fields_in, and_then, wrong_count, has_note, kind_at, note_at, end_of, with_rest};
 

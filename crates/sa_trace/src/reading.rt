@@ -1,5 +1,4 @@
 // A whole trace text, read.
-ghost use Rattle.std.specs.Prelude.{◌≡◌};
 ghost use Rattle.sa_trace.specs.Reading.{read_of, IsReading};
 
 use crate::line::Said;

@@ -1,5 +1,5 @@
 // Numbers put one after another into lists.
-ghost use Rattle.std.specs.Prelude.{◌≡◌, ℕ, ◌+◌, ◌≤◌, ◌<◌, [], ◌∷◌, ◌++◌, length, IfOk, OnOk};
+ghost use Rattle.std.specs.Prelude.{◌≡◌, ℕ, ◌+◌, ◌≤◌, ◌<◌, ◌++◌, length, IfOk, OnOk};
 ghost use Rattle.sa_base.specs.declared.limits.TheConstants.{MAX_PROCESSORS, MAX_SPACES};
 ghost use Rattle.std.specs.List.{range_with_len};
 ghost use Rattle.sa_links.specs.Lists.{count_in, count_in_all, list_at, with_list};

@@ -1,5 +1,5 @@
 // The worker of one processor.
-ghost use Rattle.std.specs.Prelude.{◌≡◌, ◌<◌, ◌≤◌, OnOk};
+ghost use Rattle.std.specs.Prelude.{◌<◌, ◌≤◌, OnOk};
 ghost use Rattle.sa_base.specs.declared.limits.TheConstants.{MAX_BURST};
 ghost use Rattle.sa_workers.specs.Worker.{HasWorked, IsThrough, HasRunAhead};
 

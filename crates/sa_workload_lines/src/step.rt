@@ -1,5 +1,5 @@
 // Where a line leads, by its word and its numbers.
-ghost use Rattle.std.specs.Prelude.{◌≡◌, ◌≤◌, ◌+◌, ◌^◌, true, List, ℕ, [], ◌∷◌, length, slice_index, MatchResult, Ok};
+ghost use Rattle.std.specs.Prelude.{◌≡◌, ◌+◌, ◌^◌, true, List, ℕ, [], ◌∷◌, length, slice_index, MatchResult, Ok};
 ghost use Rattle.std.specs.Option.{is_some};
 ghost use Rattle.sa_instr.specs.Program.{IsProgram};
 ghost use Rattle.sa_instr.specs.Operation.{operation_of};

@@ -22,10 +22,7 @@ fn can_interrupt(kernel: &Kernel<u64>, p: ProcNo, q: ProcNo) -> bool
     requires asks { AsksFor (kernel_of kernel.now) p }
     ensures { IsTrue result → MayInterruptOwn (kernel_of kernel.now) p q }
 {
-    q.0 != p.0
-        && q.0 < kernel.processors()
-        && asks(kernel, q)
-        && kernel.owner(q) == kernel.owner(p)
+    q.0 != p.0 && q.0 < kernel.processors() && asks(kernel, q) && kernel.owner(q) == kernel.owner(p)
 }
 
 // The context of a thread at work.

@@ -1,5 +1,5 @@
 // What follows the first word of a line.
-ghost use Rattle.std.specs.Prelude.{◌≡◌, ◌≤◌};
+ghost use Rattle.std.specs.Prelude.{◌≡◌};
 ghost use Rattle.sa_trace.specs.Pieces.{number_in, with_rest};
 ghost use Rattle.sa_debug.specs.script.Fields.{taken, space_in, proc_in, turns_in, thread_at, point_at};
 
