@@ -18,7 +18,7 @@ use Rattle.sa_package_model.specs.Stands.{fast_stands}
 use Rattle.sa_package_model.specs.Step.{fast_calls}
 use Rattle.sa_package_model.specs.declared.context.Context.{Context}
 use Rattle.sa_package_model.specs.declared.context.ContextState.{ContextState}
-use Rattle.sa_package_model.specs.declared.context.ContextState.TheVariants.{Code, Work, Hint, Return, Look, User}
+use Rattle.sa_package_model.specs.declared.context.ContextState.TheVariants.{Code}
 use Rattle.sa_package_model.specs.declared.package.Package.{Package}
 use Rattle.sa_laws.specs.Closing.{want_one}
 use Rattle.sa_laws.specs.Demand.{BeginsFreely, StepIsFreeIf}
@@ -41,28 +41,7 @@ use Rattle.sa_fast_laws.proofs.AllSteps.{step-legal}
 
 no_run : (r : Readings) (p : ProcNo) (x : Record) (xs : List Record) → is_step x ≡ false → RunsNext r p (x ∷ xs)
 no_run r p (records.Run s t) xs e = absurd cc
-no_run r p (records.Ins s t i) xs e = tt
-no_run r p (records.Out s t v) xs e = tt
-no_run r p (records.Stop s t a) xs e = tt
-no_run r p (records.Block s t a io) xs e = tt
-no_run r p (records.Unblock s t a) xs e = tt
-no_run r p (records.Cont s t) xs e = tt
-no_run r p (records.Back s t) xs e = tt
-no_run r p (records.Ready s t) xs e = tt
-no_run r p (records.Take s l t) xs e = tt
-no_run r p (records.Free s l t) xs e = tt
-no_run r p (records.Up s a) xs e = tt
-no_run r p (records.Told n) xs e = tt
-no_run r p (records.Move old new) xs e = tt
-no_run r p (records.Want s n) xs e = tt
-no_run r p (records.Aim q s) xs e = tt
-no_run r p (records.Line q) xs e = tt
-no_run r p (records.Fetch s) xs e = tt
-no_run r p (records.Fetched s) xs e = tt
-no_run r p (records.GiveBack a) xs e = tt
-no_run r p records.Idle xs e = tt
-no_run r p (records.Spin l) xs e = tt
-no_run r p records.Tick xs e = tt
+no_run r p _ xs e = tt
 
 pub fast-kernels : (w : WorkloadView) (r : Readings) (e : ℕ) (p : ProcNo) (own closing : List Record) → IsWorkload w → IsMoment r → AreKernels own
     → IsClosed own closing
@@ -135,8 +114,4 @@ fast-steps w s e r u cs p a life c seen i sees low some later within =
 -- A STOP: who is idle is read
 pub idle_is : (state : ContextState) → stands_idle state ≡ (not (stands_inside state) && is_none (carried_by state))
 idle_is (Code f) = refl
-idle_is (Work t) = refl
-idle_is (Hint t) = refl
-idle_is Return = refl
-idle_is (User t) = refl
-idle_is (Look looks) = refl
+idle_is _ = refl

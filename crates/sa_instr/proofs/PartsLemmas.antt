@@ -32,126 +32,63 @@ pub record Coded (A : Type 0) : Type 0 where
 
 register_back : (operand : Operand) → IsReading Kinds.Register (λ a. Register a) operand (register_in operand)
 register_back (Register a) = (refl, refl)
-register_back (Value a) = λ e. cc
-register_back (Place a) = λ e. cc
-register_back (Cell a) = λ e. cc
-register_back (Program a) = λ e. cc
-register_back (Mutex a) = λ e. cc
-register_back (Semaphore a) = λ e. cc
-register_back (Length a) = λ e. cc
-register_back (Page a) = λ e. cc
+register_back _ = λ e. cc
 
 abbrev register : Coded Reg
 register = record { kind = Kinds.Register; held = λ a. Register a; read = register_in; back = register_back; forth = λ a. refl }
 
 value_back : (operand : Operand) → IsReading Kinds.Value (λ a. Value a) operand (value_in operand)
-value_back (Register a) = λ e. cc
 value_back (Value a) = (refl, refl)
-value_back (Place a) = λ e. cc
-value_back (Cell a) = λ e. cc
-value_back (Program a) = λ e. cc
-value_back (Mutex a) = λ e. cc
-value_back (Semaphore a) = λ e. cc
-value_back (Length a) = λ e. cc
-value_back (Page a) = λ e. cc
+value_back _ = λ e. cc
 
 abbrev value : Coded ℕ
 value = record { kind = Kinds.Value; held = λ a. Value a; read = value_in; back = value_back; forth = λ a. refl }
 
 place_back : (operand : Operand) → IsReading Kinds.Place (λ a. Place a) operand (place_in operand)
-place_back (Register a) = λ e. cc
-place_back (Value a) = λ e. cc
 place_back (Place a) = (refl, refl)
-place_back (Cell a) = λ e. cc
-place_back (Program a) = λ e. cc
-place_back (Mutex a) = λ e. cc
-place_back (Semaphore a) = λ e. cc
-place_back (Length a) = λ e. cc
-place_back (Page a) = λ e. cc
+place_back _ = λ e. cc
 
 abbrev place : Coded ℕ
 place = record { kind = Kinds.Place; held = λ a. Place a; read = place_in; back = place_back; forth = λ a. refl }
 
 cell_back : (operand : Operand) → IsReading Kinds.Cell (λ a. Cell a) operand (cell_in operand)
-cell_back (Register a) = λ e. cc
-cell_back (Value a) = λ e. cc
-cell_back (Place a) = λ e. cc
 cell_back (Cell a) = (refl, refl)
-cell_back (Program a) = λ e. cc
-cell_back (Mutex a) = λ e. cc
-cell_back (Semaphore a) = λ e. cc
-cell_back (Length a) = λ e. cc
-cell_back (Page a) = λ e. cc
+cell_back _ = λ e. cc
 
 abbrev cell : Coded ℕ
 cell = record { kind = Kinds.Cell; held = λ a. Cell a; read = cell_in; back = cell_back; forth = λ a. refl }
 
 program_back : (operand : Operand) → IsReading Kinds.Program (λ a. Program a) operand (program_in operand)
-program_back (Register a) = λ e. cc
-program_back (Value a) = λ e. cc
-program_back (Place a) = λ e. cc
-program_back (Cell a) = λ e. cc
 program_back (Program a) = (refl, refl)
-program_back (Mutex a) = λ e. cc
-program_back (Semaphore a) = λ e. cc
-program_back (Length a) = λ e. cc
-program_back (Page a) = λ e. cc
+program_back _ = λ e. cc
 
 abbrev program : Coded ℕ
 program = record { kind = Kinds.Program; held = λ a. Program a; read = program_in; back = program_back; forth = λ a. refl }
 
 mutex_back : (operand : Operand) → IsReading Kinds.Mutex (λ a. Mutex a) operand (mutex_in operand)
-mutex_back (Register a) = λ e. cc
-mutex_back (Value a) = λ e. cc
-mutex_back (Place a) = λ e. cc
-mutex_back (Cell a) = λ e. cc
-mutex_back (Program a) = λ e. cc
 mutex_back (Mutex a) = (refl, refl)
-mutex_back (Semaphore a) = λ e. cc
-mutex_back (Length a) = λ e. cc
-mutex_back (Page a) = λ e. cc
+mutex_back _ = λ e. cc
 
 abbrev mutex : Coded ℕ
 mutex = record { kind = Kinds.Mutex; held = λ a. Mutex a; read = mutex_in; back = mutex_back; forth = λ a. refl }
 
 semaphore_back : (operand : Operand) → IsReading Kinds.Semaphore (λ a. Semaphore a) operand (semaphore_in operand)
-semaphore_back (Register a) = λ e. cc
-semaphore_back (Value a) = λ e. cc
-semaphore_back (Place a) = λ e. cc
-semaphore_back (Cell a) = λ e. cc
-semaphore_back (Program a) = λ e. cc
-semaphore_back (Mutex a) = λ e. cc
 semaphore_back (Semaphore a) = (refl, refl)
-semaphore_back (Length a) = λ e. cc
-semaphore_back (Page a) = λ e. cc
+semaphore_back _ = λ e. cc
 
 abbrev semaphore : Coded ℕ
 semaphore = record { kind = Kinds.Semaphore; held = λ a. Semaphore a; read = semaphore_in; back = semaphore_back; forth = λ a. refl }
 
 events_back : (operand : Operand) → IsReading Kinds.Length (λ a. Length a) operand (length_in operand)
-events_back (Register a) = λ e. cc
-events_back (Value a) = λ e. cc
-events_back (Place a) = λ e. cc
-events_back (Cell a) = λ e. cc
-events_back (Program a) = λ e. cc
-events_back (Mutex a) = λ e. cc
-events_back (Semaphore a) = λ e. cc
 events_back (Length a) = (refl, refl)
-events_back (Page a) = λ e. cc
+events_back _ = λ e. cc
 
 abbrev events : Coded ℕ
 events = record { kind = Kinds.Length; held = λ a. Length a; read = length_in; back = events_back; forth = λ a. refl }
 
 page_back : (operand : Operand) → IsReading Kinds.Page (λ a. Page a) operand (page_in operand)
-page_back (Register a) = λ e. cc
-page_back (Value a) = λ e. cc
-page_back (Place a) = λ e. cc
-page_back (Cell a) = λ e. cc
-page_back (Program a) = λ e. cc
-page_back (Mutex a) = λ e. cc
-page_back (Semaphore a) = λ e. cc
-page_back (Length a) = λ e. cc
 page_back (Page a) = (refl, refl)
+page_back _ = λ e. cc
 
 abbrev page : Coded ℕ
 page = record { kind = Kinds.Page; held = λ a. Page a; read = page_in; back = page_back; forth = λ a. refl }
@@ -222,22 +159,7 @@ making Operations.End o = bare-making Operations.End End refl o
 -- an instruction is what its operation and its operands make
 pub remade : (i : Instr) → instr_of (parts_of i).operation (parts_of i).operands ≡ Some i
 remade Compute = refl
-remade (Set a b) = refl
-remade (Add a b) = refl
-remade (Sub a b) = refl
-remade (Jnz a b) = refl
-remade (Load a b) = refl
-remade (Store a b) = refl
-remade (Out a) = refl
-remade (Fork a b) = refl
-remade (Join a) = refl
-remade (Lock a) = refl
-remade (Unlock a) = refl
-remade (Wait a) = refl
-remade (Signal a) = refl
-remade (Io a) = refl
-remade (Touch a) = refl
-remade End = refl
+remade _ = refl
 
 -- what is made has the operation and the operands that made it
 made-parts : (operation : Operation) (o : List Operand) (made : Option Instr) (i : Instr) → IsMaking (form_of operation).operands operation o made

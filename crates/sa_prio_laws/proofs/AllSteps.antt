@@ -89,33 +89,23 @@ module _ (set : Setting) (e : ℕ) (v : Prio) (w : WorkloadView) (r : Readings) 
     calm-case (Code f) fs wk i out = code-legal set e v cs w r p a life seen f fs wk i (code-faults set e v cs w r p a life seen f fs wk i)
     calm-case (Work t) fs wk i out = work-case t fs wk i
     calm-case (Hint t) [] None i out = hint-case t (owed v.base seen) refl i
-    calm-case (Hint t) (f ∷ fs) wk i out = absurd (let left = i.own.left in cc)
-    calm-case (Hint t) [] (Some n) i out = absurd (let left = i.own.left in cc)
     calm-case Return [] None i out = return-case (has_bulk seen) refl i
-    calm-case Return (f ∷ fs) wk i out = absurd (let left = i.own.left in cc)
-    calm-case Return [] (Some n) i out = absurd (let left = i.own.left in cc)
     calm-case (User t) [] None i out =
         instr-legal set e v cs w r p a life seen t i (inl (out refl)) (blocks-legal set e v cs w r p a life seen t i (inl (out refl)))
-    calm-case (User t) (f ∷ fs) wk i out = absurd (let left = i.own.left in cc)
-    calm-case (User t) [] (Some n) i out = absurd (let left = i.own.left in cc)
     calm-case (Look looks) [] None i out = look-legal set e v cs w r p a life seen looks i (inl (out refl))
-    calm-case (Look looks) (f ∷ fs) wk i out = absurd (let left = i.own.left in cc)
-    calm-case (Look looks) [] (Some n) i out = absurd (let left = i.own.left in cc)
+    calm-case _ _ _ i out = absurd (let left = i.own.left in cc)
 
     -- WITH THE MARK it is out, with nothing left to do
     marked-case : (state : ContextState) (fs : List Frame) (wk : Option ThreadNo) → is_out state ≡ true
         → IsPrioScene set e v cs w r p a life (record { base = record { state = state; sections = fs; work = wk }; urge = true }) seen
         → Legal cs (record { base = record { state = state; sections = fs; work = wk }; urge = true })
-    marked-case (Code f) fs wk out i = absurd cc
-    marked-case (Work t) fs wk out i = absurd cc
-    marked-case (Hint t) fs wk out i = absurd cc
-    marked-case Return fs wk out i = absurd cc
     marked-case (User t) [] None out i = urge-legal set e v w r p a life seen cs (User t) out refl i (again-legal (Some t))
     marked-case (User t) (f ∷ fs) wk out i = absurd (let left = i.own.left in cc)
     marked-case (User t) [] (Some n) out i = absurd (let left = i.own.left in cc)
     marked-case (Look looks) [] None out i = urge-legal set e v w r p a life seen cs (Look looks) out (i.fresh refl) i (again-legal None)
     marked-case (Look looks) (f ∷ fs) wk out i = absurd (let left = i.own.left in cc)
     marked-case (Look looks) [] (Some n) out i = absurd (let left = i.own.left in cc)
+    marked-case _ fs wk out i = absurd cc
 
     pub step-legal : (urge : Bool) (state : ContextState) (fs : List Frame) (wk : Option ThreadNo)
         → IsPrioScene set e v cs w r p a life (record { base = record { state = state; sections = fs; work = wk }; urge = urge }) seen

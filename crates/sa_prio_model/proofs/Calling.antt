@@ -18,7 +18,7 @@ use Rattle.sa_lists.specs.declared.ranks.Ranks.TheVariants.{Many}
 use Rattle.std.specs.Prelude.{slice_index_or}
 use Rattle.sa_package_model.specs.declared.context.Context.{Context}
 use Rattle.sa_package_model.specs.declared.context.ContextState.{ContextState}
-use Rattle.sa_package_model.specs.declared.context.ContextState.TheVariants.{Code, Work, Hint, Return, User, Look}
+use Rattle.sa_package_model.specs.declared.context.ContextState.TheVariants.{Code, User, Look}
 use Rattle.sa_package_model.specs.Conditions.{IsThread}
 use Rattle.sa_package_model.specs.Context.{fresh, carried_by, section_in, stands_inside, stands_between}
 use Rattle.sa_package_model.specs.Rules.{settled}
@@ -65,20 +65,13 @@ well-unmarked c = λ e. absurd cc
 
 -- a context that is out, or between routines, is in no section
 pub out-no-section : (state : ContextState) → is_out state ≡ true → section_in state ≡ None
-out-no-section (Code f) e = absurd cc
-out-no-section (Work t) e = absurd cc
-out-no-section (Hint t) e = absurd cc
-out-no-section Return e = absurd cc
 out-no-section (User t) e = refl
 out-no-section (Look looks) e = refl
+out-no-section _ e = absurd cc
 
 between-no-section : (state : ContextState) → stands_between state ≡ true → section_in state ≡ None
 between-no-section (Code f) e = absurd cc
-between-no-section (Work t) e = refl
-between-no-section (Hint t) e = refl
-between-no-section Return e = refl
-between-no-section (User t) e = refl
-between-no-section (Look looks) e = refl
+between-no-section _ e = refl
 
 module _ (s : Setting) (e : ℕ) (v : Prio) (cs : Contexts PrioContext) (h : IsPrioStanding s e v cs) where
   -- A FRESH CONTEXT

@@ -9,7 +9,7 @@ use Rattle.sa_base.specs.declared.number.ThreadNo.{ThreadNo}
 use Rattle.sa_base.specs.declared.context.Seen.{Seen}
 use Rattle.sa_base.specs.declared.record.Record.TheVariants.{Back}
 use Rattle.sa_abstract.specs.declared.answer.Step.{Step}
-use Rattle.sa_abstract.specs.declared.answer.Step.TheVariants.{Did, Block, More, Idle, GiveBack, InterruptOwn}
+use Rattle.sa_abstract.specs.declared.answer.Step.TheVariants.{Block}
 use Rattle.sa_abstract.specs.Setting.{Setting}
 use Rattle.sa_abstract.specs.Calls.{Contexts, Stepped}
 use Rattle.sa_abstract.specs.Keeps.{IsSeen, IsOwn, IsStepped}
@@ -17,7 +17,7 @@ use Rattle.sa_lemmas.specs.Function.{put}
 use Rattle.sa_lemmas.proofs.FunctionUpdates.{put-same, put-put, put-self}
 use Rattle.sa_package_model.specs.declared.context.Context.{Context}
 use Rattle.sa_package_model.specs.declared.context.ContextState.{ContextState}
-use Rattle.sa_package_model.specs.declared.context.ContextState.TheVariants.{Code, Work, Hint, Return, User, Look}
+use Rattle.sa_package_model.specs.declared.context.ContextState.TheVariants.{Hint, Return}
 use Rattle.sa_package_model.specs.Conditions.{IsThread}
 use Rattle.sa_package_model.specs.Context.{carried_by, section_in, has_bulk}
 use Rattle.sa_package_model.specs.Rules.{owed, settled}
@@ -46,12 +46,8 @@ came_is_out before after e = first (is_out after) (not (remains_out before after
 
 -- what is on the processor after a step is a thread of the space
 left_is_thread : (answer : Step) (state : ContextState) → IsThread (carried_by state) → IsThread (left_on answer state)
-left_is_thread Did state thread = thread
 left_is_thread (Block length page) state thread = tt
-left_is_thread (More n) state thread = thread
-left_is_thread Idle state thread = thread
-left_is_thread GiveBack state thread = thread
-left_is_thread (InterruptOwn q) state thread = thread
+left_is_thread _ state thread = thread
 
 module _ (s : Setting) (e : ℕ) (v : Prio) (cs : Contexts PrioContext) (h : IsPrioStanding s e v cs) (a : ℕ) (seen : Seen) (sees : IsSeen s seen)
     (after : e < seen.event) (within : seen.event ≤ MAX_EVENTS) where
@@ -158,12 +154,9 @@ module _ (s : Setting) (e : ℕ) (v : Prio) (cs : Contexts PrioContext) (h : IsP
     bulk_stands is false = subst (λ o. Still (settled v.base seen c o)) (ap carried_by is) (settled_again (ap section_in is))
 
     again_stands : (state : ContextState) → c.state ≡ state → Still (fast.resettled v.base seen c state)
-    again_stands (Code f) is = stands
-    again_stands (Work t) is = stands
     again_stands (Hint t) is = owed_stands t is (owed v.base seen)
     again_stands Return is = bulk_stands is (has_bulk seen)
-    again_stands (User t) is = stands
-    again_stands (Look looks) is = stands
+    again_stands _ is = stands
 
     pub resettled_stands : Still (resettled v seen c).base
     resettled_stands = again_stands c.state refl

@@ -4,7 +4,7 @@ use Rattle.std.specs.List.{list_all}
 use Rattle.std.proofs.lemmas.List.{get_or-set_same}
 use Rattle.sa_base.specs.declared.number.ThreadNo.{ThreadNo}
 use Rattle.sa_instr.specs.declared.instr.Instr.{Instr}
-use Rattle.sa_instr.specs.declared.instr.Instr.TheVariants.{Compute, Set, Add, Sub, Jnz, Load, Store, Out, Fork, Join, Lock, Unlock, Wait, Signal, Io, Touch, End}
+use Rattle.sa_instr.specs.declared.instr.Instr.TheVariants.{Compute, Set, Add, Sub, Jnz, Signal}
 use Rattle.sa_spaces.specs.Space.{SpaceView}
 use Rattle.sa_sync.specs.Sync.{Sync}
 use Rattle.sa_laws.specs.declared.place.Place.TheVariants as places
@@ -24,38 +24,12 @@ effect_is x t thread (Set reg n) is = refl
 effect_is x t thread (Add reg other) is = refl
 effect_is x t thread (Sub reg other) is = refl
 effect_is x t thread (Jnz reg place) is = refl
-effect_is x t thread (Load reg cell) is = absurd cc
-effect_is x t thread (Store reg cell) is = absurd cc
-effect_is x t thread (Out reg) is = absurd cc
-effect_is x t thread (Fork reg program) is = absurd cc
-effect_is x t thread (Join reg) is = absurd cc
-effect_is x t thread (Lock m) is = absurd cc
-effect_is x t thread (Unlock m) is = absurd cc
-effect_is x t thread (Wait k) is = absurd cc
-effect_is x t thread (Signal k) is = absurd cc
-effect_is x t thread (Io n) is = absurd cc
-effect_is x t thread (Touch page) is = absurd cc
-effect_is x t thread End is = absurd cc
+effect_is x t thread _ is = absurd cc
 
 -- it signals no semaphore
 has_room : (sync : Sync) (instr : Instr) → is_local instr ≡ true → IsFull sync instr → ⊥
 has_room sync (Signal k) is full = absurd cc
-has_room sync Compute is full = full
-has_room sync (Set reg n) is full = full
-has_room sync (Add reg other) is full = full
-has_room sync (Sub reg other) is full = full
-has_room sync (Jnz reg place) is full = full
-has_room sync (Load reg cell) is full = full
-has_room sync (Store reg cell) is full = full
-has_room sync (Out reg) is full = full
-has_room sync (Fork reg program) is full = full
-has_room sync (Join reg) is full = full
-has_room sync (Lock m) is full = full
-has_room sync (Unlock m) is full = full
-has_room sync (Wait k) is full = full
-has_room sync (Io n) is full = full
-has_room sync (Touch page) is full = full
-has_room sync End is full = full
+has_room sync _ is full = full
 
 -- a test that cannot tell a thread from the one in its place
 all-set : {A : Type 0} (test : A → Bool) (xs : List A) (i : ℕ) (y d : A) → test y ≡ test (get_or xs i d) → list_all test (set xs i y) ≡ list_all test xs

@@ -25,41 +25,11 @@ use Rattle.sa_replay.specs.Needs.{IsTouchedIn, IsMissedIn, IsFaultingIn, CanInsW
 -- among the pages that are read, a page is resident
 touched : (r : Readings) (s : SpaceNo) (instr : Instr) → IsTouchedIn (slice_index r.pages s.0) instr ≡ IsTouched r s instr
 touched r s (instrs.Touch page) = refl
-touched r s instrs.Compute = refl
-touched r s (instrs.Set reg n) = refl
-touched r s (instrs.Add reg other) = refl
-touched r s (instrs.Sub reg other) = refl
-touched r s (instrs.Jnz reg place) = refl
-touched r s (instrs.Load reg cell) = refl
-touched r s (instrs.Store reg cell) = refl
-touched r s (instrs.Out reg) = refl
-touched r s (instrs.Fork reg program) = refl
-touched r s (instrs.Join reg) = refl
-touched r s (instrs.Lock mutex) = refl
-touched r s (instrs.Unlock mutex) = refl
-touched r s (instrs.Wait semaphore) = refl
-touched r s (instrs.Signal semaphore) = refl
-touched r s (instrs.Io length) = refl
-touched r s instrs.End = refl
+touched r s _ = refl
 
 missed : (r : Readings) (s : SpaceNo) (instr : Instr) → IsMissedIn (slice_index r.pages s.0) instr ≡ IsMissed r s instr
 missed r s (instrs.Touch page) = refl
-missed r s instrs.Compute = refl
-missed r s (instrs.Set reg n) = refl
-missed r s (instrs.Add reg other) = refl
-missed r s (instrs.Sub reg other) = refl
-missed r s (instrs.Jnz reg place) = refl
-missed r s (instrs.Load reg cell) = refl
-missed r s (instrs.Store reg cell) = refl
-missed r s (instrs.Out reg) = refl
-missed r s (instrs.Fork reg program) = refl
-missed r s (instrs.Join reg) = refl
-missed r s (instrs.Lock mutex) = refl
-missed r s (instrs.Unlock mutex) = refl
-missed r s (instrs.Wait semaphore) = refl
-missed r s (instrs.Signal semaphore) = refl
-missed r s (instrs.Io length) = refl
-missed r s instrs.End = refl
+missed r s _ = refl
 
 -- a fact that is the same type
 along : (A B : Type 0) → A ≡ B → A → B
@@ -89,28 +59,7 @@ module _ (w : WorkloadView) (p : ProcNo) (r : Readings) where
   behind : (s : SpaceNo) (t : Option ThreadNo) (last : Option Record) → length_before w r.state s t last ≡ length_behind w r s t last
   behind s t None = refl
   behind s t (Some (records.Ins of u i)) = refl
-  behind s t (Some (records.Out of u value)) = refl
-  behind s t (Some (records.Run of u)) = refl
-  behind s t (Some (records.Stop of u act)) = refl
-  behind s t (Some (records.Block of u act io)) = refl
-  behind s t (Some (records.Unblock of u act)) = refl
-  behind s t (Some (records.Cont of u)) = refl
-  behind s t (Some (records.Back of u)) = refl
-  behind s t (Some (records.Ready of u)) = refl
-  behind s t (Some (records.Take of l u)) = refl
-  behind s t (Some (records.Free of l u)) = refl
-  behind s t (Some (records.Up of act)) = refl
-  behind s t (Some (records.Told note)) = refl
-  behind s t (Some (records.Move old new)) = refl
-  behind s t (Some (records.Want of n)) = refl
-  behind s t (Some (records.Aim q of)) = refl
-  behind s t (Some (records.Line q)) = refl
-  behind s t (Some (records.Fetch of)) = refl
-  behind s t (Some (records.Fetched of)) = refl
-  behind s t (Some (records.GiveBack act)) = refl
-  behind s t (Some records.Idle) = refl
-  behind s t (Some (records.Spin l)) = refl
-  behind s t (Some records.Tick) = refl
+  behind s t _ = refl
 
   module _ (s : SpaceNo) (t : Option ThreadNo) (a : ActNo) (beyond : Beyond) (last : beyond.last ≡ r.last) (pages : beyond.pages ≡ slice_index r.pages s.0)
       (life : beyond.life ≡ option_map seen_of (life_of r a)) where
@@ -192,32 +141,13 @@ module _ (w : WorkloadView) (p : ProcNo) (r : Readings) where
   pub needs : (beyond : Beyond) (x : Record) → Sees r x beyond → NeedsWith w p r.state beyond x ↔ Needs w p r x
   needs beyond (records.Ins s t i) sees = subst (λ n. CanInsWith w p r.state s t i n ↔ CanIns w p r s t i) (sym sees) (ins_needs s t i)
   needs beyond (records.Out s t value) sees = out_needs s t value beyond.last sees
-  needs beyond (records.Run s t) sees = (λ h. h, λ h. h)
-  needs beyond (records.Stop s t act) sees = (λ h. h, λ h. h)
   needs beyond (records.Block s t act io) sees = block_needs s t act beyond sees.0 sees.1 sees.2
   needs beyond (records.Unblock s t act) sees = unblock_needs s t act beyond sees.0 sees.1
-  needs beyond (records.Cont s t) sees = (λ h. h, λ h. h)
-  needs beyond (records.Back s t) sees = (λ h. h, λ h. h)
-  needs beyond (records.Ready s t) sees = (λ h. h, λ h. h)
-  needs beyond (records.Take s l t) sees = (λ h. h, λ h. h)
-  needs beyond (records.Free s l t) sees = (λ h. h, λ h. h)
-  needs beyond (records.Up s act) sees = (λ h. h, λ h. h)
-  needs beyond (records.Told note) sees = (λ h. h, λ h. h)
-  needs beyond (records.Move old new) sees = (λ h. h, λ h. h)
-  needs beyond (records.Want s n) sees = (λ h. h, λ h. h)
-  needs beyond (records.Aim q s) sees = (λ h. h, λ h. h)
-  needs beyond (records.Line q) sees = (λ h. h, λ h. h)
-  needs beyond (records.Fetch s) sees = (λ h. h, λ h. h)
-  needs beyond (records.Fetched s) sees = (λ h. h, λ h. h)
-  needs beyond (records.GiveBack act) sees = (λ h. h, λ h. h)
-  needs beyond records.Idle sees = (λ h. h, λ h. h)
-  needs beyond (records.Spin l) sees = (λ h. h, λ h. h)
-  needs beyond records.Tick sees = (λ h. h, λ h. h)
+  needs beyond _ sees = (λ h. h, λ h. h)
 
 -- a record whose needs are met can be done
 pub can-change : (w : WorkloadView) (p : ProcNo) (r : Readings) (x : Record) → Needs w p r x → CanChange w p r.state x
 can-change w p r (records.Ins s t i) met = record { runs = met.runs; within = subst (λ n. n < program_len w r.state s t) (sym met.pc) met.within }
-can-change w p r (records.Out s t value) met = tt
 can-change w p r (records.Run s t) met = met
 can-change w p r (records.Stop s t a) met = met.1
 can-change w p r (records.Block s t a io) met = met.runs
@@ -225,17 +155,4 @@ can-change w p r (records.Unblock s t a) met = met.blocked
 can-change w p r (records.Cont s t) met = met
 can-change w p r (records.Back s t) met = met.1
 can-change w p r (records.Ready s t) met = met.1
-can-change w p r (records.Take s l t) met = tt
-can-change w p r (records.Free s l t) met = tt
-can-change w p r (records.Up s a) met = tt
-can-change w p r (records.Told note) met = tt
-can-change w p r (records.Move old new) met = tt
-can-change w p r (records.Want s n) met = tt
-can-change w p r (records.Aim q s) met = tt
-can-change w p r (records.Line q) met = tt
-can-change w p r (records.Fetch s) met = tt
-can-change w p r (records.Fetched s) met = tt
-can-change w p r (records.GiveBack a) met = tt
-can-change w p r records.Idle met = tt
-can-change w p r (records.Spin l) met = tt
-can-change w p r records.Tick met = tt
+can-change w p r _ met = tt

@@ -6,7 +6,7 @@ use Rattle.sa_base.specs.declared.number.ProcNo.{ProcNo}
 use Rattle.sa_base.specs.declared.number.ThreadNo.{ThreadNo}
 use Rattle.sa_base.specs.declared.limits.TheConstants.{MAX_THREADS}
 use Rattle.sa_instr.specs.declared.instr.Instr.{Instr}
-use Rattle.sa_instr.specs.declared.instr.Instr.TheVariants.{Compute, Set, Add, Sub, Jnz, Load, Store, Out, Fork, Join, Lock, Unlock, Wait, Signal, Io, Touch, End}
+use Rattle.sa_instr.specs.declared.instr.Instr.TheVariants.{Jnz, Store, Out, Fork, Join, Lock, Unlock, Wait, Signal, Io, Touch, End}
 use Rattle.sa_instr.specs.declared.instr.Reg.{Reg}
 use Rattle.sa_instr.specs.Instr.{NamesDeclared}
 use Rattle.sa_instr.specs.Regs.{reg_value}
@@ -97,12 +97,7 @@ ends x t thread inside =
 -- each instruction
 module _ (def : SpaceView) (x : SpaceState) (t : ThreadNo) (thread : Thread) where
   pub shape : (instr : Instr) → CanDo def x t thread instr → IsShaped x t thread.place (effect_of x t thread instr).space
-  shape Compute can = own x t thread.place _ (inl refl)
-  shape (Set reg n) can = own x t thread.place _ (inl refl)
-  shape (Add reg other) can = own x t thread.place _ (inl refl)
-  shape (Sub reg other) can = own x t thread.place _ (inl refl)
   shape (Jnz reg place) can = own x t thread.place _ (inl refl)
-  shape (Load reg cell) can = own x t thread.place _ (inl refl)
   shape (Store reg cell) can =
       alone x t thread.place (next thread) (stored x.sync cell (reg_value thread.regs reg)) (inl refl) (λ u waits. inl waits)
       (record { mutexes = refl; semaphores = refl; joiners = refl; done = refl; cells = length-set x.sync.cells cell (reg_value thread.regs reg) })
@@ -128,6 +123,7 @@ module _ (def : SpaceView) (x : SpaceState) (t : ThreadNo) (thread : Thread) whe
   shape (Io length) can = own x t thread.place (next thread) (inl refl)
   shape (Touch page) can = own x t thread.place (next thread) (inl refl)
   shape End can = ends x t thread (omega (arith, can.made, can.few, can.joiners))
+  shape _ can = own x t thread.place _ (inl refl)
 
 -- who does not run
 pub at_rest : (place : Place) (p : ProcNo) → is_running place ≡ false → place ≡ places.Running p → ⊥

@@ -49,31 +49,7 @@ kind_of word = find (has_word word) KINDS
 found : (kind : Kind) → kind_of (form_of kind).word ≡ Some kind
 unfolding kind_of
 found Ins = refl
-found Out = refl
-found Run = refl
-found Stop = refl
-found Block = refl
-found Unblock = refl
-found Cont = refl
-found Back = refl
-found Ready = refl
-found Take = refl
-found Free = refl
-found Up = refl
-found ToldAdd = refl
-found ToldPreempted = refl
-found ToldBlocked = refl
-found ToldUnblocked = refl
-found Move = refl
-found Want = refl
-found Aim = refl
-found Line = refl
-found Fetch = refl
-found Fetched = refl
-found GiveBack = refl
-found Idle = refl
-found Spin = refl
-found Tick = refl
+found _ = refl
 
 pub words-differ : (a b : Kind) → (form_of a).word ≡ (form_of b).word → a ≡ b
 words-differ a b same = same_Some a b (sym (found a) ∙ ap kind_of same ∙ found b)

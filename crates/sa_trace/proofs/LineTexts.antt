@@ -9,7 +9,7 @@ use Rattle.std.proofs.lemmas.List.Folds.{list_all-append}
 use Rattle.std.proofs.lemmas.List.Sums.{list_all-from_AllPass, AllPass-from_list_all}
 use Rattle.sa_trace.specs.declared.field.Field.{Field}
 use Rattle.sa_trace.specs.declared.kind.Kind.{Kind}
-use Rattle.sa_trace.specs.declared.kind.Kind.TheVariants.{Ins, Out, Run, Stop, Block, Unblock, Cont, Back, Ready, Take, Free, Up, ToldAdd, ToldPreempted, ToldBlocked, ToldUnblocked, Move, Want, Aim, Line, Fetch, Fetched, GiveBack, Idle, Spin, Tick}
+use Rattle.sa_trace.specs.declared.kind.Kind.TheVariants.{Ins}
 use Rattle.sa_base.specs.declared.record.End.{End}
 use Rattle.sa_base.specs.declared.record.End.TheVariants.{AllDone, Stuck, Budget}
 use Rattle.sa_base.specs.declared.record.Item.{Item}
@@ -74,60 +74,12 @@ fine-fields (f ∷ fields) (Some n ∷ vs) h =
 
 words-printed : (kind : Kind) → list_all is_printed (word_pieces kind) ≡ true
 words-printed Ins = refl
-words-printed Out = refl
-words-printed Run = refl
-words-printed Stop = refl
-words-printed Block = refl
-words-printed Unblock = refl
-words-printed Cont = refl
-words-printed Back = refl
-words-printed Ready = refl
-words-printed Take = refl
-words-printed Free = refl
-words-printed Up = refl
-words-printed ToldAdd = refl
-words-printed ToldPreempted = refl
-words-printed ToldBlocked = refl
-words-printed ToldUnblocked = refl
-words-printed Move = refl
-words-printed Want = refl
-words-printed Aim = refl
-words-printed Line = refl
-words-printed Fetch = refl
-words-printed Fetched = refl
-words-printed GiveBack = refl
-words-printed Idle = refl
-words-printed Spin = refl
-words-printed Tick = refl
+words-printed _ = refl
 
 -- with a space before each, the pieces of a kind's word are the word
 words-spaced : (kind : Kind) → flat_map (λ w. 32 ∷ w) (word_pieces kind) ≡ 32 ∷ (form_of kind).word
 words-spaced Ins = refl
-words-spaced Out = refl
-words-spaced Run = refl
-words-spaced Stop = refl
-words-spaced Block = refl
-words-spaced Unblock = refl
-words-spaced Cont = refl
-words-spaced Back = refl
-words-spaced Ready = refl
-words-spaced Take = refl
-words-spaced Free = refl
-words-spaced Up = refl
-words-spaced ToldAdd = refl
-words-spaced ToldPreempted = refl
-words-spaced ToldBlocked = refl
-words-spaced ToldUnblocked = refl
-words-spaced Move = refl
-words-spaced Want = refl
-words-spaced Aim = refl
-words-spaced Line = refl
-words-spaced Fetch = refl
-words-spaced Fetched = refl
-words-spaced GiveBack = refl
-words-spaced Idle = refl
-words-spaced Spin = refl
-words-spaced Tick = refl
+words-spaced _ = refl
 
 fine-words : (kind : Kind) → AreFine (word_pieces kind)
 fine-words kind = record { printed = words-printed kind; spaceless = (pieces_of-are_pieces (form_of kind).word).apart }

@@ -149,8 +149,7 @@ end_of-ok w end h =
 
 end_of-word : (end : End) → end_of (end_word end) ≡ Ok end
 end_of-word AllDone = refl
-end_of-word Stuck = refl
-end_of-word Budget = refl
+end_of-word _ = refl
 
 unless-ok : (o : Option Cause) (a said : Said) → unless o a ≡ Ok said → (o ≡ None) × (a ≡ said)
 unless-ok None a said h = (refl, same_Ok a said h)

@@ -14,7 +14,7 @@ use Rattle.sa_base.specs.Cause.{bad_at}
 use Rattle.sa_text.specs.LineText.{LineText, line_texts}
 use Rattle.sa_trace.specs.declared.kind.TheConstants.{RECORD_KINDS}
 use Rattle.sa_trace.specs.declared.kind.Kind.{Kind}
-use Rattle.sa_trace.specs.declared.kind.Kind.TheVariants.{Ins, Out, Run, Stop, Block, Unblock, Cont, Back, Ready, Take, Free, Up, ToldAdd, ToldPreempted, ToldBlocked, ToldUnblocked, Move, Want, Aim, Line, Fetch, Fetched, GiveBack, Idle, Spin, Tick}
+use Rattle.sa_trace.specs.declared.kind.Kind.TheVariants.{Ins}
 use Rattle.sa_trace.specs.declared.line.Said.{Said}
 use Rattle.sa_trace.specs.declared.line.Said.TheVariants.{Next, Last}
 use Rattle.sa_trace.specs.declared.so_far.SoFar.{SoFar}
@@ -32,31 +32,7 @@ use Rattle.sa_trace.proofs.FirstBad.{all-of}
 -- each kind's number is one of those that are counted
 numbered : (kind : Kind) → (1 ≤ (form_of kind).number) × ((form_of kind).number ≤ RECORD_KINDS)
 numbered Ins = (omega arith, omega arith)
-numbered Out = (omega arith, omega arith)
-numbered Run = (omega arith, omega arith)
-numbered Stop = (omega arith, omega arith)
-numbered Block = (omega arith, omega arith)
-numbered Unblock = (omega arith, omega arith)
-numbered Cont = (omega arith, omega arith)
-numbered Back = (omega arith, omega arith)
-numbered Ready = (omega arith, omega arith)
-numbered Take = (omega arith, omega arith)
-numbered Free = (omega arith, omega arith)
-numbered Up = (omega arith, omega arith)
-numbered ToldAdd = (omega arith, omega arith)
-numbered ToldPreempted = (omega arith, omega arith)
-numbered ToldBlocked = (omega arith, omega arith)
-numbered ToldUnblocked = (omega arith, omega arith)
-numbered Move = (omega arith, omega arith)
-numbered Want = (omega arith, omega arith)
-numbered Aim = (omega arith, omega arith)
-numbered Line = (omega arith, omega arith)
-numbered Fetch = (omega arith, omega arith)
-numbered Fetched = (omega arith, omega arith)
-numbered GiveBack = (omega arith, omega arith)
-numbered Idle = (omega arith, omega arith)
-numbered Spin = (omega arith, omega arith)
-numbered Tick = (omega arith, omega arith)
+numbered _ = (omega arith, omega arith)
 
 -- the count of a kind is at the place below its number
 count-at : (items : List Item) (k : ℕ) → k < RECORD_KINDS → get_or (counts_of items) k 0 ≡ count_of_kind items (k + 1)

@@ -6,7 +6,7 @@ use Rattle.std.proofs.lemmas.Bool.{leb-true, le-leb, and_parts, false_from_ne_tr
 use Rattle.std.proofs.lemmas.Slice.Eq.{bytes_eq-Decides}
 use Rattle.std.proofs.lemmas.List.Elements.{All-nil, All-cons, All-head, All-tail}
 use Rattle.sa_trace.specs.declared.field.Field.{Field}
-use Rattle.sa_trace.specs.declared.field.Field.TheVariants.{Space, OptionalSpace, Thread, OptionalThread, Processor, Activation, Io, Place, Value, Demand}
+use Rattle.sa_trace.specs.declared.field.Field.TheVariants.{Space}
 use Rattle.sa_base.specs.declared.refusal.Cause.{Cause}
 use Rattle.sa_base.specs.declared.refusal.Cause.TheVariants.{BadNumber, OutOfRange}
 use Rattle.sa_trace.specs.Field.{range_of, FitsField, AllFit}
@@ -88,15 +88,7 @@ cond-and_false false x y = refl
 
 pub greatest-small : (field : Field) → (range_of field).greatest < 2 ^ 64
 greatest-small Space = omega arith
-greatest-small OptionalSpace = omega arith
-greatest-small Thread = omega arith
-greatest-small OptionalThread = omega arith
-greatest-small Processor = omega arith
-greatest-small Activation = omega arith
-greatest-small Io = omega arith
-greatest-small Place = omega arith
-greatest-small Value = omega arith
-greatest-small Demand = omega arith
+greatest-small _ = omega arith
 
 -- a decimal text is no dash
 no_dash : (n : ℕ) → n < 2 ^ 64 → bytes_eq (decimal n) (codes "-") ≡ false

@@ -6,7 +6,7 @@ use Rattle.std.proofs.lemmas.Bool.{false≢true}
 use Rattle.std.proofs.lemmas.Slice.Eq.{bytes_eq-Decides}
 use Rattle.std.proofs.lemmas.List.Elements.{All-head}
 use Rattle.sa_trace.specs.declared.kind.Kind.{Kind}
-use Rattle.sa_trace.specs.declared.kind.Kind.TheVariants.{Ins, Out, Run, Stop, Block, Unblock, Cont, Back, Ready, Take, Free, Up, ToldAdd, ToldPreempted, ToldBlocked, ToldUnblocked, Move, Want, Aim, Line, Fetch, Fetched, GiveBack, Idle, Spin, Tick}
+use Rattle.sa_trace.specs.declared.kind.Kind.TheVariants.{Ins, ToldAdd, ToldPreempted, ToldBlocked, ToldUnblocked}
 use Rattle.sa_trace.specs.declared.kind.TheConstants.{KINDS}
 use Rattle.sa_base.specs.declared.record.Record.{Record}
 use Rattle.sa_base.specs.declared.refusal.Cause.TheVariants.{OutOfRange}
@@ -30,32 +30,11 @@ note_word note v h = ap (λ w. codes "told" ∷ w ∷ []) ((bytes_eq-Decides not
 
 -- the kind of a notice has two pieces
 note-pieces : (kind : Kind) (v : List ℕ) → has_note v kind ≡ true → word_pieces kind ≡ codes "told" ∷ v ∷ []
-note-pieces Ins v h = absurd (false≢true h)
-note-pieces Out v h = absurd (false≢true h)
-note-pieces Run v h = absurd (false≢true h)
-note-pieces Stop v h = absurd (false≢true h)
-note-pieces Block v h = absurd (false≢true h)
-note-pieces Unblock v h = absurd (false≢true h)
-note-pieces Cont v h = absurd (false≢true h)
-note-pieces Back v h = absurd (false≢true h)
-note-pieces Ready v h = absurd (false≢true h)
-note-pieces Take v h = absurd (false≢true h)
-note-pieces Free v h = absurd (false≢true h)
-note-pieces Up v h = absurd (false≢true h)
 note-pieces ToldAdd v h = note_word (codes "add") v h
 note-pieces ToldPreempted v h = note_word (codes "preempted") v h
 note-pieces ToldBlocked v h = note_word (codes "blocked") v h
 note-pieces ToldUnblocked v h = note_word (codes "unblocked") v h
-note-pieces Move v h = absurd (false≢true h)
-note-pieces Want v h = absurd (false≢true h)
-note-pieces Aim v h = absurd (false≢true h)
-note-pieces Line v h = absurd (false≢true h)
-note-pieces Fetch v h = absurd (false≢true h)
-note-pieces Fetched v h = absurd (false≢true h)
-note-pieces GiveBack v h = absurd (false≢true h)
-note-pieces Idle v h = absurd (false≢true h)
-note-pieces Spin v h = absurd (false≢true h)
-note-pieces Tick v h = absurd (false≢true h)
+note-pieces _ v h = absurd (false≢true h)
 
 known-ok : (o : Option Kind) (rest : List (List ℕ)) (found : Kind × List (List ℕ)) → known o rest ≡ Ok found → (o ≡ Some found.0) × (rest ≡ found.1)
 known-ok None rest found h = absurd cc
@@ -93,31 +72,7 @@ kind_at-ok (w ∷ v ∷ rest) found lacks h =
 -- the pieces of each kind are read as the kind
 pub kind_at-pieces : (kind : Kind) (rest : List (List ℕ)) → kind_at (word_pieces kind ++ rest) ≡ Ok (kind, rest)
 kind_at-pieces Ins rest = refl
-kind_at-pieces Out rest = refl
-kind_at-pieces Run rest = refl
-kind_at-pieces Stop rest = refl
-kind_at-pieces Block rest = refl
-kind_at-pieces Unblock rest = refl
-kind_at-pieces Cont rest = refl
-kind_at-pieces Back rest = refl
-kind_at-pieces Ready rest = refl
-kind_at-pieces Take rest = refl
-kind_at-pieces Free rest = refl
-kind_at-pieces Up rest = refl
-kind_at-pieces ToldAdd rest = refl
-kind_at-pieces ToldPreempted rest = refl
-kind_at-pieces ToldBlocked rest = refl
-kind_at-pieces ToldUnblocked rest = refl
-kind_at-pieces Move rest = refl
-kind_at-pieces Want rest = refl
-kind_at-pieces Aim rest = refl
-kind_at-pieces Line rest = refl
-kind_at-pieces Fetch rest = refl
-kind_at-pieces Fetched rest = refl
-kind_at-pieces GiveBack rest = refl
-kind_at-pieces Idle rest = refl
-kind_at-pieces Spin rest = refl
-kind_at-pieces Tick rest = refl
+kind_at-pieces _ rest = refl
 
 -- a record in pieces: its kind's word, and its fields
 abbrev pub record_pieces : Record → List (List ℕ)

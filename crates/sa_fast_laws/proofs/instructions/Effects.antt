@@ -8,7 +8,7 @@ use Rattle.sa_base.specs.declared.limits.TheConstants.{MAX_THREADS}
 use Rattle.sa_base.specs.declared.number.ThreadNo.{ThreadNo}
 use Rattle.sa_instr.specs.Regs.{reg_value}
 use Rattle.sa_instr.specs.declared.instr.Instr.{Instr}
-use Rattle.sa_instr.specs.declared.instr.Instr.TheVariants.{Compute, Set, Add, Sub, Jnz, Load, Store, Out, Fork, Join, Lock, Unlock, Wait, Signal, Io, Touch, End}
+use Rattle.sa_instr.specs.declared.instr.Instr.TheVariants.{Load, Store, Out, Fork, Join, Lock, Unlock, Wait, Signal, Io, Touch, End}
 use Rattle.sa_instr.specs.declared.instr.Reg.{Reg}
 use Rattle.sa_lists.specs.ReadyView.{next_made}
 use Rattle.sa_sync.specs.Calls.{Change, locked, unlocked, waited, signalled, joined as joined_by, finished, stored}
@@ -167,16 +167,6 @@ module _ (x : Shared) (ys : List Thread) (w : Option ThreadNo) (t : ThreadNo) (b
 
   pub effect-fits : (fetch pages : ℕ) (i : Instr) → x.state.lists.threads ≡ MAX_THREADS → length x.threads ≡ MAX_THREADS → IsThere pages i
       → FitsEffect x w (outcome_of fetch pages x w t b i) (effect_of y t z i)
-  effect-fits fetch pages Compute most all can =
-      record { space = goes _ _ (record { program = refl; pc = refl; regs = refl; place = sits }); works = refl }
-  effect-fits fetch pages (Set reg n) most all can =
-      record { space = goes _ _ (record { program = refl; pc = refl; regs = refl; place = sits }); works = refl }
-  effect-fits fetch pages (Add reg other) most all can =
-      record { space = goes _ _ (record { program = refl; pc = refl; regs = refl; place = sits }); works = refl }
-  effect-fits fetch pages (Sub reg other) most all can =
-      record { space = goes _ _ (record { program = refl; pc = refl; regs = refl; place = sits }); works = refl }
-  effect-fits fetch pages (Jnz reg target) most all can =
-      record { space = goes _ _ (record { program = refl; pc = refl; regs = refl; place = sits }); works = refl }
   effect-fits fetch pages (Load reg cell) most all can = record { space = goes _ _ (value-fits reg (cell_at x.sync cell)); works = refl }
   effect-fits fetch pages (Store reg cell) most all can =
       record { space = set-fits (stored x.sync cell (reg_value b.regs reg)) _ _ next-fits; works = refl }
@@ -203,6 +193,8 @@ module _ (x : Shared) (ys : List Thread) (w : Option ThreadNo) (t : ThreadNo) (b
         record { made = all_now.made; threads = all_now.threads; sync = all_now.sync };
     works = ap (added_all (with_name x.works w)) (numbers_back (joiners_at x.sync t.0));
   }
+  effect-fits fetch pages _ most all can =
+      record { space = goes _ _ (record { program = refl; pc = refl; regs = refl; place = sits }); works = refl }
 
   -- WHAT CHANGES is the thread alone, but for a new one after all that were made
   abbrev pub AnswerIs : Ran → KeptPlace → Place → Type 0
@@ -285,14 +277,7 @@ module _ (x : Shared) (ys : List Thread) (w : Option ThreadNo) (t : ThreadNo) (b
   pub effect-changes : (fetch pages : ℕ) (i : Instr) → x.state.lists.threads ≡ MAX_THREADS → length x.threads ≡ MAX_THREADS
       → is_loaded (block_at x.threads (length ys)).place ≡ false → IsThere pages i
       → Changes (outcome_of fetch pages x w t b i) (effect_of y t z i)
-  effect-changes fetch pages Compute most all un can = one-changes x.sync x.works w Goes [] _ _ (refl, refl)
-  effect-changes fetch pages (Set reg n) most all un can = one-changes x.sync x.works w Goes [] _ _ (refl, refl)
-  effect-changes fetch pages (Add reg other) most all un can = one-changes x.sync x.works w Goes [] _ _ (refl, refl)
-  effect-changes fetch pages (Sub reg other) most all un can = one-changes x.sync x.works w Goes [] _ _ (refl, refl)
-  effect-changes fetch pages (Jnz reg target) most all un can = one-changes x.sync x.works w Goes [] _ _ (refl, refl)
-  effect-changes fetch pages (Load reg cell) most all un can = one-changes x.sync x.works w Goes [] _ _ (refl, refl)
   effect-changes fetch pages (Store reg cell) most all un can = one-changes _ x.works w Goes [] _ _ (refl, refl)
-  effect-changes fetch pages (Out reg) most all un can = one-changes x.sync x.works w Goes [] _ _ (refl, refl)
   effect-changes fetch pages (Fork reg program) most all un can = forks-changes most all un reg program
   effect-changes fetch pages (Join reg) most all un can =
       let other = reg_value b.regs reg in
@@ -309,3 +294,4 @@ module _ (x : Shared) (ys : List Thread) (w : Option ThreadNo) (t : ThreadNo) (b
       (one-changes x.sync x.works w Goes [] _ _ (refl, refl))
   effect-changes fetch pages End most all un can =
       one-changes _ _ _ Leaves _ (moved_to b fast.Done) (record z { place = place.Done }) (refl, refl, refl)
+  effect-changes fetch pages _ most all un can = one-changes x.sync x.works w Goes [] _ _ (refl, refl)

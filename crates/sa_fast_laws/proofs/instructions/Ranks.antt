@@ -2,7 +2,7 @@
 use Rattle.std.proofs.Common.{◌≡◌, ℕ, Bool, true, false, [], Option, Some, None}
 use Rattle.sa_base.specs.declared.number.ThreadNo.{ThreadNo}
 use Rattle.sa_instr.specs.declared.instr.Instr.{Instr}
-use Rattle.sa_instr.specs.declared.instr.Instr.TheVariants.{Compute, Set, Add, Sub, Jnz, Load, Store, Out, Fork, Join, Lock, Unlock, Wait, Signal, Io, Touch, End}
+use Rattle.sa_instr.specs.declared.instr.Instr.TheVariants.{Fork, Join, Lock, Unlock, Wait, Signal, Touch}
 use Rattle.sa_instr.specs.declared.instr.Reg.{Reg}
 use Rattle.sa_lists.proofs.Changes.{no_rank}
 use Rattle.sa_lists.specs.ReadyView.{next_made}
@@ -16,8 +16,7 @@ use Rattle.sa_fast.specs.declared.threads.Block.{Block}
 told-ranks : (x : Shared) (w : Option ThreadNo) (t : ThreadNo) (b : Block) (a : SyncAnswer) → x.state.lists.ranks ≡ []
     → (told_by x w t b a).shared.state.lists.ranks ≡ []
 told-ranks x w t b answer.Goes none = none
-told-ranks x w t b answer.Waits none = none
-told-ranks x w t b (answer.Wakes u) none = none
+told-ranks x w t b _ none = none
 
 touched-ranks : (x : Shared) (w : Option ThreadNo) (t : ThreadNo) (b : Block) (fetch page : ℕ) (there : Bool) → x.state.lists.ranks ≡ []
     → (touched x w t b fetch page there).shared.state.lists.ranks ≡ []
@@ -31,20 +30,11 @@ forked-ranks x w t b reg program (Some n) none = no_rank x.state.lists n program
 
 pub ranks-stay : (fetch pages : ℕ) (x : Shared) (w : Option ThreadNo) (t : ThreadNo) (b : Block) (k : Instr) → x.state.lists.ranks ≡ []
     → (outcome_of fetch pages x w t b k).shared.state.lists.ranks ≡ []
-ranks-stay fetch pages x w t b Compute none = none
-ranks-stay fetch pages x w t b (Set reg n) none = none
-ranks-stay fetch pages x w t b (Add reg other) none = none
-ranks-stay fetch pages x w t b (Sub reg other) none = none
-ranks-stay fetch pages x w t b (Jnz reg target) none = none
-ranks-stay fetch pages x w t b (Load reg cell) none = none
-ranks-stay fetch pages x w t b (Store reg cell) none = none
-ranks-stay fetch pages x w t b (Out reg) none = none
 ranks-stay fetch pages x w t b (Fork reg program) none = forked-ranks x w t b reg program (next_made x.state.lists) none
 ranks-stay fetch pages x w t b (Join reg) none = told-ranks _ w t _ _ none
 ranks-stay fetch pages x w t b (Lock m) none = told-ranks _ w t _ _ none
 ranks-stay fetch pages x w t b (Unlock m) none = told-ranks _ w t _ _ none
 ranks-stay fetch pages x w t b (Wait k) none = told-ranks _ w t _ _ none
 ranks-stay fetch pages x w t b (Signal k) none = told-ranks _ w t _ _ none
-ranks-stay fetch pages x w t b (Io n) none = none
 ranks-stay fetch pages x w t b (Touch page) none = touched-ranks x w t b fetch page (is_resident pages page) none
-ranks-stay fetch pages x w t b End none = none
+ranks-stay fetch pages x w t b _ none = none

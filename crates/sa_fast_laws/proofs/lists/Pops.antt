@@ -63,13 +63,8 @@ one_is true e = refl
 one_is false e = absurd (omega arith)
 
 ready_is : (p : KeptPlace) → is_ready p ≡ true → p ≡ kept.Ready
-ready_is kept.Unmade e = absurd cc
 ready_is kept.Ready e = refl
-ready_is kept.Running e = absurd cc
-ready_is kept.Waiting e = absurd cc
-ready_is kept.Blocked e = absurd cc
-ready_is kept.Carried e = absurd cc
-ready_is kept.Done e = absurd cc
+ready_is _ e = absurd cc
 
 -- A THREAD OF A READY LIST is Ready, and in nobody's hand
 module _ (set : Setting) (e : ℕ) (u : Package) (cs : Contexts Context) (h : IsStanding set e u cs) (s : SpaceNo) (r : Readings) (k : Holds s r u cs)

@@ -109,10 +109,6 @@ is_returned _ = false
 ended-alike : (p : KeptPlace) (x : Place) → is_unmade p ≡ false → SitsIn p x → (is_carried p ≡ true → (g : Stage) × (y : ProcNo) × (x ≡ place_of g y))
     → is_ended p ≡ is_done x
 ended-alike kept.Unmade x made sits carried = absurd cc
-ended-alike kept.Ready x made sits carried = sym (ap is_done sits)
-ended-alike kept.Waiting x made sits carried = sym (ap is_done sits)
-ended-alike kept.Carried x made sits carried = sym (ap is_done sits)
-ended-alike kept.Done x made sits carried = sym (ap is_done sits)
 ended-alike kept.Running x made sits carried = let its = carried refl in sym (ap is_done its.2 ∙ by its.0 its.1) where
   by : (g : Stage) (y : ProcNo) → is_done (place_of g y) ≡ false
   by Runs y = refl
@@ -125,15 +121,12 @@ ended-alike kept.Blocked x made sits carried = let its = carried refl in sym (ap
   by InBlock y = refl
   by Stopped y = refl
   by Returned y = refl
+ended-alike _ x made sits carried = sym (ap is_done sits)
 
 rests-alike : (p : KeptPlace) (x : Place) → is_unmade p ≡ false → SitsIn p x
     → (is_carried p ≡ true → (g : Stage) × (y : ProcNo) × (x ≡ place_of g y) × (p ≡ kept_of g) × (is_returned g ≡ false))
     → is_active p ≡ not (is_at_rest x)
 rests-alike kept.Unmade x made sits carried = absurd cc
-rests-alike kept.Ready x made sits carried = sym (ap (λ y. not (is_at_rest y)) sits)
-rests-alike kept.Waiting x made sits carried = sym (ap (λ y. not (is_at_rest y)) sits)
-rests-alike kept.Carried x made sits carried = sym (ap (λ y. not (is_at_rest y)) sits)
-rests-alike kept.Done x made sits carried = sym (ap (λ y. not (is_at_rest y)) sits)
 rests-alike kept.Running x made sits carried = let its = carried refl in by its.0 its.1 its.3 its.4 ∙ sym (ap (λ y. not (is_at_rest y)) its.2) where
   by : (g : Stage) (y : ProcNo) → kept.Running ≡ kept_of g → is_returned g ≡ false → true ≡ not (is_at_rest (place_of g y))
   by Runs y is back = refl
@@ -146,22 +139,17 @@ rests-alike kept.Blocked x made sits carried = let its = carried refl in by its.
   by InBlock y is back = refl
   by Stopped y is back = absurd (let no_such = ap is_active is in cc)
   by Returned y is back = absurd cc
+rests-alike _ x made sits carried = sym (ap (λ y. not (is_at_rest y)) sits)
 
 unmade-is : (p : KeptPlace) → is_unmade p ≡ true → p ≡ kept.Unmade
 unmade-is kept.Unmade is = refl
-unmade-is kept.Ready is = absurd cc
-unmade-is kept.Running is = absurd cc
-unmade-is kept.Waiting is = absurd cc
-unmade-is kept.Blocked is = absurd cc
-unmade-is kept.Carried is = absurd cc
-unmade-is kept.Done is = absurd cc
+unmade-is _ is = absurd cc
 
 -- a stage is of a return only where that is untold
 returned-only : (stopped returned runs : Bool) → is_returned (stage_by stopped returned runs) ≡ true → returned ≡ true
-returned-only true returned runs is = absurd cc
 returned-only false true runs is = refl
 returned-only false false true is = absurd cc
-returned-only false false false is = absurd cc
+returned-only _ _ _ is = absurd cc
 
 module _ (s : Setting) (e : ℕ) (r : Readings) (u : Package) (cs : Contexts Context) (h : IsStanding s e u cs) (k : Holds s.space r u cs) where
   blocks-below : length (space_at r.state s.space).threads ≤ length u.shared.threads

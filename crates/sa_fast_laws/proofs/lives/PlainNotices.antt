@@ -95,10 +95,8 @@ module _ (s : SpaceNo) (r q : Readings) (m : Note) (u : Package) (cs : Contexts 
         k.runs y x l (sym (ap (λ ps. slice_index_or ps y.0 None) i.running) ∙ at) (sym (less-lives x) ∙ its) of in (old.0, old.1, less-stage x l.proc ∙ old.2);
   } where
     untold_is : (y : Note) → untold_thread q y ≡ untold_thread r y
-    untold_is (Add z) = refl
     untold_is (Preempted b) = ap stopped_thread (less-lives b)
-    untold_is (Blocked z) = refl
-    untold_is (Unblocked z) = refl
+    untold_is _ = refl
 
   pub less-rests : {C : Type 0} (look : C → View) (ds : Contexts C) (n : ActNo) → RestBut look s r n ds → RestBut look s q n ds
   less-rests look ds n rest = others-rest look s r q n ds ds (λ x ne. refl) (λ x ne. less-lives x) (λ x y ne. less-stage x y) rest
@@ -117,22 +115,16 @@ module _ (w : WorkloadView) (s : SpaceNo) (r : Readings) (p : ProcNo) (number : 
     backs = backs;
   } where
     none : (y : Note) → is_other_note (Add z) y ≡ false → untold_thread r y ≡ 0
-    none (Add x) e = refl
     none (Preempted b) e = absurd cc
-    none (Blocked b) e = refl
-    none (Unblocked b) e = refl
+    none _ e = refl
 
     stops : (x : ActNo) (y : Note) → same_note (Preempted x) y ≡ true → is_other_note (Add z) y ≡ true
     stops x (Add y) e = absurd cc
-    stops x (Preempted b) e = refl
-    stops x (Blocked b) e = refl
-    stops x (Unblocked b) e = refl
+    stops x _ e = refl
 
     backs : (x : ActNo) (y : Note) → same_note (Unblocked x) y ≡ true → is_other_note (Add z) y ≡ true
     backs x (Add y) e = absurd cc
-    backs x (Preempted b) e = refl
-    backs x (Blocked b) e = refl
-    backs x (Unblocked b) e = refl
+    backs x _ e = refl
 
   pub blocked-less : (z : ActNo) → IsLess s r (after_record w number p r (records.Told (Blocked z))) (Blocked z)
   blocked-less z = record {
@@ -146,19 +138,13 @@ module _ (w : WorkloadView) (s : SpaceNo) (r : Readings) (p : ProcNo) (number : 
     backs = backs;
   } where
     none : (y : Note) → is_other_note (Blocked z) y ≡ false → untold_thread r y ≡ 0
-    none (Add x) e = refl
     none (Preempted b) e = absurd cc
-    none (Blocked b) e = refl
-    none (Unblocked b) e = refl
+    none _ e = refl
 
     stops : (x : ActNo) (y : Note) → same_note (Preempted x) y ≡ true → is_other_note (Blocked z) y ≡ true
-    stops x (Add y) e = refl
-    stops x (Preempted b) e = refl
     stops x (Blocked b) e = absurd cc
-    stops x (Unblocked b) e = refl
+    stops x _ e = refl
 
     backs : (x : ActNo) (y : Note) → same_note (Unblocked x) y ≡ true → is_other_note (Blocked z) y ≡ true
-    backs x (Add y) e = refl
-    backs x (Preempted b) e = refl
     backs x (Blocked b) e = absurd cc
-    backs x (Unblocked b) e = refl
+    backs x _ e = refl

@@ -10,7 +10,7 @@ use Rattle.sa_base.specs.declared.number.ProcNo.{ProcNo}
 use Rattle.sa_base.specs.declared.number.SpaceNo.{SpaceNo}
 use Rattle.sa_base.specs.declared.number.ThreadNo.{ThreadNo}
 use Rattle.sa_base.specs.declared.record.Note.{Note}
-use Rattle.sa_base.specs.declared.record.Note.TheVariants.{Add, Preempted, Blocked, Unblocked}
+use Rattle.sa_base.specs.declared.record.Note.TheVariants.{Preempted, Unblocked}
 use Rattle.sa_base.specs.declared.record.Record.TheVariants.{Told}
 use Rattle.sa_lemmas.proofs.FunctionUpdates.{put-same, put-other}
 use Rattle.sa_lemmas.specs.Function.{put}
@@ -247,14 +247,9 @@ module _ (set : Setting) (e : ℕ) (u : Package) (cs : Contexts Context) (h : Is
 
   -- the load: a stop that is told no longer counts
   told_value : (kd : Bool) → kd ≡ kind → (m : Note) → tells (note_of kd b) m ≡ true → untold_thread r m ≡ untold_thread r (note_of kd b)
-  told_value true same (Add x) is_it = absurd cc
   told_value true same (Preempted x) is_it = ap (λ n. stopped_thread (r.lives n)) (eqb-true x.0 b.0 is_it)
-  told_value true same (Blocked x) is_it = absurd cc
-  told_value true same (Unblocked x) is_it = absurd cc
-  told_value false same (Add x) is_it = absurd cc
-  told_value false same (Preempted x) is_it = absurd cc
-  told_value false same (Blocked x) is_it = absurd cc
   told_value false same (Unblocked x) is_it = refl
+  told_value _ same _ is_it = absurd cc
 
   note_value : (kd : Bool) → kd ≡ kind → untold_thread r (note_of kd b) ≡ loaded_if u.shared.threads (carried_by d.state)
   note_value kd same = by kd same (carried_by d.state) refl where

@@ -17,7 +17,7 @@ use Rattle.sa_package_model.specs.Hands.{threads_in, threads_of}
 use Rattle.sa_package_model.specs.Rules.{thread_alone}
 use Rattle.sa_package_model.specs.declared.context.Context.{Context}
 use Rattle.sa_package_model.specs.declared.context.ContextState.{ContextState}
-use Rattle.sa_package_model.specs.declared.context.ContextState.TheVariants.{Code, Work, Hint, Return, User, Look}
+use Rattle.sa_package_model.specs.declared.context.ContextState.TheVariants.{Code}
 use Rattle.sa_laws.specs.Life.{same_thread}
 use Rattle.sa_laws.specs.Readings.{counts}
 use Rattle.sa_laws.specs.State.{SpaceState}
@@ -37,11 +37,7 @@ split_by : (works : List (List ℕ)) (state : ContextState) (fs : List Frame) (n
     → threads_in (before_all (section_in state) fs) t + one_of (thread_alone (section_in state) (carried_by state)) t + n
     ≡ pushed_in (section_in state) t + threads_in fs t + n + one_of (carried_by state) t
 split_by works (Code f) fs n t = split_at works f fs (copy_at f.pc) n t
-split_by works (Work o) fs n t = omega arith
-split_by works (Hint o) fs n t = omega arith
-split_by works Return fs n t = omega arith
-split_by works (User o) fs n t = omega arith
-split_by works (Look looks) fs n t = omega arith
+split_by works _ fs n t = omega arith
 
 pub split : (works : List (List ℕ)) (c : Context) (t : ℕ) → threads_of works (Some c) t ≡ beside works (view c) t + carried (view c) t
 split works c t = split_by works c.state c.sections (count_in t (work_of works c.work)) t

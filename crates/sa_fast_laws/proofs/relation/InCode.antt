@@ -15,7 +15,7 @@ use Rattle.sa_package_model.specs.Context.{carried_by, section_in, at_copy, befo
 use Rattle.sa_package_model.specs.Hands.{threads_in, threads_of}
 use Rattle.sa_package_model.specs.declared.context.Context.{Context}
 use Rattle.sa_package_model.specs.declared.context.ContextState.{ContextState}
-use Rattle.sa_package_model.specs.declared.context.ContextState.TheVariants.{Code, Work, Hint, Return, User, Look}
+use Rattle.sa_package_model.specs.declared.context.ContextState.TheVariants.{Code}
 use Rattle.sa_laws.specs.Life.{Lock}
 use Rattle.sa_fast_laws.specs.Life.{stopped_in, carried, lock_of, locks_from, pushed_in}
 use Rattle.sa_fast_laws.specs.View.{view}
@@ -90,11 +90,7 @@ before_at f fs (Some k) t = omega arith
 before_by : (state : ContextState) (fs : List Frame) (t : ℕ)
     → stopped_in (before_all (section_in state) fs) t ≤ one_of (carried_by state) t + stopped_in fs t
 before_by (Code f) fs t = before_at f fs (copy_at f.pc) t
-before_by (Work o) fs t = omega arith
-before_by (Hint o) fs t = omega arith
-before_by Return fs t = omega arith
-before_by (User o) fs t = omega arith
-before_by (Look looks) fs t = omega arith
+before_by _ fs t = omega arith
 
 pub before-less : (c : Context) (t : ℕ) → stopped_in (before_all (section_in c.state) c.sections) t ≤ carried (view c) t + stopped_in c.sections t
 before-less c t = before_by c.state c.sections t

@@ -123,32 +123,24 @@ module _ (set : Setting) (e : ℕ) (u : Package) (cs : Contexts Context) (h : Is
 -- what settling makes of the state
 pub settled-table : (t : Option ThreadNo) (left owes bulk : Bool)
     → (left || owes || (is_none t && bulk)) ≡ stands_inside (settled_to t left owes bulk)
-settled-table t true owes bulk = refl
-settled-table t false true bulk = refl
 settled-table (Some n) false false bulk = refl
 settled-table None false false true = refl
-settled-table None false false false = refl
+settled-table _ _ _ _ = refl
 
 pub settled-copy : (t : Option ThreadNo) (left owes bulk : Bool) → in_copy (settled_to t left owes bulk) ≡ false
-settled-copy t true owes bulk = refl
-settled-copy t false true bulk = refl
 settled-copy (Some n) false false bulk = refl
 settled-copy None false false true = refl
-settled-copy None false false false = refl
+settled-copy _ _ _ _ = refl
 
 pub settled-left : (t : Option ThreadNo) (left owes bulk : Bool) → left ≡ left_at (settled_to t left owes bulk) left
-settled-left t true owes bulk = refl
-settled-left t false true bulk = refl
 settled-left (Some n) false false bulk = refl
 settled-left None false false true = refl
-settled-left None false false false = refl
+settled-left _ _ _ _ = refl
 
 pub settled-looks : (t : Option ThreadNo) (left owes bulk : Bool) → looks_of (settled_to t left owes bulk) ≡ 0
-settled-looks t true owes bulk = refl
-settled-looks t false true bulk = refl
 settled-looks (Some n) false false bulk = refl
 settled-looks None false false true = refl
-settled-looks None false false false = refl
+settled-looks _ _ _ _ = refl
 
 -- AN EVENT THAT SETTLES: the life is in exactly where its context is inside
 module _ (set : Setting) (e : ℕ) (u : Package) (cs : Contexts Context) (h : IsStanding set e u cs) (s : SpaceNo) (r : Readings) (k : Holds s r u cs)

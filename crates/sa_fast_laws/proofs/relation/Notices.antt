@@ -128,14 +128,9 @@ abbrev pub tells : Note → Note → Bool
 tells n m = same_note m n
 
 pub of-wider : (kind : Bool) (a : ActNo) (m : Note) → tells (note_of kind a) m ≡ true → is_of a m ≡ true
-of-wider true a (Add q) is = absurd cc
 of-wider true a (Preempted b) is = ap (λ c. c || false) (eq-eqb a.0 b.0 (sym (eqb-is b.0 a.0 is)))
-of-wider true a (Blocked b) is = absurd cc
-of-wider true a (Unblocked b) is = absurd cc
-of-wider false a (Add q) is = absurd cc
-of-wider false a (Preempted b) is = absurd cc
-of-wider false a (Blocked b) is = absurd cc
 of-wider false a (Unblocked b) is = eq-eqb a.0 b.0 (sym (eqb-is b.0 a.0 is))
+of-wider _ a _ is = absurd cc
 
 -- what is of another life stays
 pub other-passes : (kind : Bool) (b : ActNo) (of : Bool) (x : ActNo) → x.0 ≢ b.0 → (m : Note) → same_note (note_of of x) m ≡ true
@@ -150,12 +145,9 @@ other-passes kind b of x ne (Blocked y) is = absurd (no of is) where
   no false is = cc
 other-passes true b true x ne (Preempted y) is = ap not (ne_eqb y.0 b.0 (λ e. ne (eqb-is x.0 y.0 is ∙ e)))
 other-passes true b false x ne (Preempted y) is = absurd cc
-other-passes false b true x ne (Preempted y) is = refl
-other-passes false b false x ne (Preempted y) is = refl
-other-passes true b true x ne (Unblocked y) is = refl
-other-passes true b false x ne (Unblocked y) is = refl
 other-passes false b true x ne (Unblocked y) is = absurd cc
 other-passes false b false x ne (Unblocked y) is = ap not (ne_eqb y.0 b.0 (λ e. ne (eqb-is x.0 y.0 is ∙ e)))
+other-passes _ b _ x ne _ is = refl
 
 pub any-count : {A : Type 0} (p : A → Bool) (xs : List A) → list_any p xs ≡ true → 1 ≤ count_by p xs
 any-count p [] is = absurd cc
@@ -165,10 +157,8 @@ any-count p (x ∷ xs) is = elim (p x) as (λ b. p x ≡ b → 1 ≤ count_by p 
 ] refl
 
 stop-passes : (b : ActNo) (m : Note) → same_note (Preempted b) m ≡ true → is_other_note (Unblocked b) m ≡ true
-stop-passes b (Add q) is = absurd cc
 stop-passes b (Preempted y) is = refl
-stop-passes b (Blocked y) is = absurd cc
-stop-passes b (Unblocked y) is = absurd cc
+stop-passes b _ is = absurd cc
 
 -- one notice was told: none of its life is left
 module _ (kind : Bool) (b : ActNo) (ns : List Note) (there : Contains ns (note_of kind b)) (single : count_by (is_of b) ns ≤ 1) where

@@ -29,7 +29,7 @@ use Rattle.sa_laws.specs.declared.place.Place.{Place}
 use Rattle.sa_laws.specs.declared.place.Place.TheVariants as place
 use Rattle.sa_fast_laws.proofs.relation.ThreadsBeside.{life-here}
 use Rattle.sa_fast_laws.specs.FastFits.{Holds, SitsIn}
-use Rattle.sa_fast_laws.specs.Stage.{kept_of, Stage, stage_by, stage_of, is_act, place_of, Runs, InBlock, Stopped, Returned}
+use Rattle.sa_fast_laws.specs.Stage.{kept_of, Stage, stage_by, stage_of, is_act, place_of, Runs}
 
 abbrev place_running : Place → Option ProcNo
 place_running (place.Running p) = Some p
@@ -37,15 +37,11 @@ place_running _ = None
 
 runs_in : (g : Stage) (q p : ProcNo) → place_of g q ≡ place.Running p → (g ≡ Runs) × (q ≡ p)
 runs_in Runs q p e = (refl, same_Some q p (ap place_running e))
-runs_in InBlock q p e = absurd (let no_such = ap place_running e in cc)
-runs_in Stopped q p e = absurd (let no_such = ap place_running e in cc)
-runs_in Returned q p e = absurd (let no_such = ap place_running e in cc)
+runs_in _ q p e = absurd (let no_such = ap place_running e in cc)
 
 acts_there : (x y z : Bool) → stage_by x y z ≡ Runs → z ≡ true
-acts_there true y z e = absurd cc
-acts_there false true z e = absurd cc
 acts_there false false true e = refl
-acts_there false false false e = absurd cc
+acts_there _ _ _ e = absurd cc
 
 is_that : (a : ActNo) (o : Option ActNo) → is_act a o ≡ true → o ≡ Some a
 is_that a None e = absurd cc
@@ -54,12 +50,9 @@ is_that a (Some b) e = ap (λ n. Some (record { 0 = n })) (eqb-true b.0 a.0 e)
 -- a thread that runs in the history is one that some context carries
 sits_carried : (p : KeptPlace) (q : ProcNo) → is_unmade p ≡ false → SitsIn p (place.Running q) → is_carried p ≡ true
 sits_carried fast.Unmade q made e = absurd cc
-sits_carried fast.Ready q made e = absurd (let no_such = ap place_running e in cc)
 sits_carried fast.Running q made e = refl
-sits_carried fast.Waiting q made e = absurd (let no_such = ap place_running e in cc)
 sits_carried fast.Blocked q made e = refl
-sits_carried fast.Carried q made e = absurd (let no_such = ap place_running e in cc)
-sits_carried fast.Done q made e = absurd (let no_such = ap place_running e in cc)
+sits_carried _ q made e = absurd (let no_such = ap place_running e in cc)
 
 -- the context that carries a thread, with its life
 pub record IsCarrier (s : SpaceNo) (r : Readings) (u : Package) (cs : Contexts Context) (t : ThreadNo) : Type 0 where

@@ -28,11 +28,9 @@ use Rattle.sa_fast_laws.specs.Stage.{stage_of, is_gone}
 use Rattle.sa_fast_laws.specs.View.{view, at_yield, is_lone}
 
 pub settled-yield : (t : Option ThreadNo) (left owes bulk : Bool) → at_yield (settled_to t left owes bulk) ≡ false
-settled-yield t true owes bulk = refl
-settled-yield t false true bulk = refl
 settled-yield (Some n) false false bulk = refl
 settled-yield None false false true = refl
-settled-yield None false false false = refl
+settled-yield _ _ _ _ = refl
 
 pub settled-lone : (t : Option ThreadNo) (fs : List Frame) (w : Option ThreadNo) (owes bulk : Bool) → (has_some fs ≡ true → t ≡ None)
     → is_lone (settled_to t (has_some fs || is_some w) owes bulk) fs ≡ true

@@ -40,13 +40,9 @@ use Rattle.sa_fast_laws.specs.View.{view, in_copy}
 -- a place that is none of these is one of the other two
 left_places : (p : KeptPlace) → is_ready p ≡ false → is_carried p ≡ false → is_done p ≡ false → is_unmade p ≡ false
     → (p ≡ kept.Waiting) ⊎ (p ≡ kept.Carried)
-left_places kept.Unmade a b c d = absurd cc
-left_places kept.Ready a b c d = absurd cc
-left_places kept.Running a b c d = absurd cc
 left_places kept.Waiting a b c d = inl refl
-left_places kept.Blocked a b c d = absurd cc
 left_places kept.Carried a b c d = inr refl
-left_places kept.Done a b c d = absurd cc
+left_places _ a b c d = absurd cc
 
 no_one : (b : Bool) → one_where b ≡ 0 → b ≡ false
 no_one true e = absurd (omega arith)

@@ -435,15 +435,12 @@ module _ (set : Setting) (e : ℕ) (u : Package) (cs : Contexts Context) (w : Wo
       → micro_at u.shared.state f (is_page_resident seen.pages PACKAGE_PAGE) (list_in f) o ≡ stays u.shared.state f micros.Spun
       (records.Spin (list_in f) ∷ [])
       → ⊥
-  locked_not None at is = at
-  locked_not (Some ops.TakePush) at is = at
   locked_not (Some ops.Push) at is = pushed_not (is_page_resident seen.pages PACKAGE_PAGE) f.pushed is where
     pushed_not : (b : Bool) (o : Option ThreadNo)
         → pushed u.shared.state f b (list_in f) o ≡ stays u.shared.state f micros.Spun (records.Spin (list_in f) ∷ []) → ⊥
     pushed_not false o is = let no_such = ap (λ (y : Micro). y.done) is in cc
     pushed_not true None is = let no_such = ap (λ (y : Micro). y.done) is in cc
     pushed_not true (Some t) is = let no_such = ap (λ (y : Micro). y.done) is in cc
-  locked_not (Some ops.TakePop) at is = at
   locked_not (Some ops.Pop) at is =
       popped_not (is_page_resident seen.pages PACKAGE_PAGE) (chosen u.shared.state.lists (takes_first u.shared.state.lists f.own) (list_in f).0) is where
         popped_not : (b : Bool) (o : Option ℕ)
@@ -452,8 +449,8 @@ module _ (set : Setting) (e : ℕ) (u : Package) (cs : Contexts Context) (w : Wo
         popped_not true None is = let no_such = ap (λ (y : Micro). y.done) is in cc
         popped_not true (Some t) is = let no_such = ap (λ (y : Micro). y.done) is in cc
   locked_not (Some ops.Free) at is = let no_such = ap (λ (y : Micro). y.done) is in cc
-  locked_not (Some ops.Leave) at is = at
   locked_not (Some ops.Yield) at is = let no_such = ap (λ (y : Micro). y.done) is in cc
+  locked_not _ at is = at
 
   pub code-cases : (Goal : Type 0) → CodeCases Goal → Goal
   code-cases Goal cases = micro-outcome (λ m. micro u.shared.state f seen.pages ≡ m → Goal) u.shared.state f seen.pages

@@ -8,7 +8,7 @@ use Rattle.sa_base.specs.declared.number.ProcNo.{ProcNo}
 use Rattle.sa_base.specs.declared.number.ThreadNo.{ThreadNo}
 use Rattle.sa_base.specs.declared.record.Record.TheVariants as records
 use Rattle.sa_instr.specs.declared.instr.Instr.{Instr}
-use Rattle.sa_instr.specs.declared.instr.Instr.TheVariants.{Compute, Set, Add, Sub, Jnz, Load, Store, Out, Fork, Join, Lock, Unlock, Wait, Signal, Io, Touch, End}
+use Rattle.sa_instr.specs.declared.instr.Instr.TheVariants.{Fork, Join, Lock, Unlock, Wait, Signal, Io, Touch}
 use Rattle.sa_instr.specs.declared.instr.Reg.{Reg}
 use Rattle.sa_spaces.specs.Workload.{WorkloadView}
 use Rattle.sa_sync.specs.declared.answer.SyncAnswer.{SyncAnswer}
@@ -67,14 +67,11 @@ module _ (set : Setting) (e : ℕ) (u : Package) (cs : Contexts Context) (w : Wo
     faulted : (o : Option Op) → StandsAt f o
         → micro_at u.shared.state f (is_page_resident seen.pages PACKAGE_PAGE) (list_in f) o ≡ stays u.shared.state f micros.Faulted []
         → (o ≡ Some ops.Push) ⊎ (o ≡ Some ops.Pop)
-    faulted None at same = absurd at
-    faulted (Some ops.TakePush) at same = absurd at
     faulted (Some ops.Push) at same = inl refl
-    faulted (Some ops.TakePop) at same = absurd at
     faulted (Some ops.Pop) at same = inr refl
     faulted (Some ops.Free) at same = absurd (let no_such = ap (λ (y : Micro). y.done) same in cc)
-    faulted (Some ops.Leave) at same = absurd at
     faulted (Some ops.Yield) at same = absurd (let no_such = ap (λ (y : Micro). y.done) same in cc)
+    faulted _ at same = absurd at
 
     pub record IsBeforeEffect : Type 0 where
       pub place : ℕ
@@ -184,8 +181,7 @@ module _ (set : Setting) (e : ℕ) (u : Package) (cs : Contexts Context) (w : Wo
     told_not : (sync : Shared) (c : Block) (y : SyncAnswer) (length : ℕ) (page : Option ℕ)
         → (told_by sync None t c y).answer ≡ rans.Blocks length page → ⊥
     told_not sync c answer.Goes length page e = cc
-    told_not sync c answer.Waits length page e = cc
-    told_not sync c (answer.Wakes z) length page e = cc
+    told_not sync c _ length page e = cc
 
     forked_not : (reg : Reg) (program : ℕ) (y : Option ℕ) (length : ℕ) (page : Option ℕ)
         → (forked u.shared None t b reg program y).answer ≡ rans.Blocks length page → ⊥
@@ -199,14 +195,6 @@ module _ (set : Setting) (e : ℕ) (u : Package) (cs : Contexts Context) (w : Wo
 
     pub blocked_so : (k : Instr) (length : ℕ) (page : Option ℕ) → (outcome_of u.fetch seen.pages u.shared None t b k).answer ≡ rans.Blocks length page
         → Blocked page k
-    blocked_so Compute length page e = absurd cc
-    blocked_so (Set reg m) length page e = absurd cc
-    blocked_so (Add reg other) length page e = absurd cc
-    blocked_so (Sub reg other) length page e = absurd cc
-    blocked_so (Jnz reg target) length page e = absurd cc
-    blocked_so (Load reg cell) length page e = absurd cc
-    blocked_so (Store reg cell) length page e = absurd cc
-    blocked_so (Out reg) length page e = absurd cc
     blocked_so (Fork reg program) length page e = absurd (forked_not reg program _ length page e)
     blocked_so (Join reg) length page e = absurd (told_not _ _ _ length page e)
     blocked_so (Lock m) length page e = absurd (told_not _ _ _ length page e)
@@ -215,4 +203,4 @@ module _ (set : Setting) (e : ℕ) (u : Package) (cs : Contexts Context) (w : Wo
     blocked_so (Signal k) length page e = absurd (told_not _ _ _ length page e)
     blocked_so (Io m) length page e = inr (m, refl)
     blocked_so (Touch m) length page e = touched_so m (is_page_resident seen.pages m) refl length page e
-    blocked_so End length page e = absurd cc
+    blocked_so _ length page e = absurd cc

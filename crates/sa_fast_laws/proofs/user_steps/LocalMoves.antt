@@ -19,7 +19,7 @@ use Rattle.sa_lemmas.specs.Function.{put}
 use Rattle.sa_instr.specs.Local.{pc_after, regs_after, local_answer}
 use Rattle.sa_instr.specs.declared.answer.Local.TheVariants.{Went}
 use Rattle.sa_instr.specs.declared.instr.Instr.{Instr}
-use Rattle.sa_instr.specs.declared.instr.Instr.TheVariants.{Compute, Set, Add, Sub, Jnz, Load, Store, Out, Fork, Join, Lock, Unlock, Wait, Signal, Io, Touch, End}
+use Rattle.sa_instr.specs.declared.instr.Instr.TheVariants.{Compute, Set, Add, Sub, Jnz}
 use Rattle.sa_spaces.specs.Workload.{WorkloadView}
 use Rattle.sa_devices.proofs.SoundLemmas.{length-evicted}
 use Rattle.sa_fast.specs.Instruction.{instr_of, outcome_of, says_of, with_thread, run}
@@ -64,18 +64,7 @@ effect-is x t z (Set reg n) went = refl
 effect-is x t z (Add reg other) went = refl
 effect-is x t z (Sub reg other) went = refl
 effect-is x t z (Jnz reg target) went = refl
-effect-is x t z (Load reg cell) went = absurd cc
-effect-is x t z (Store reg cell) went = absurd cc
-effect-is x t z (Out reg) went = absurd cc
-effect-is x t z (Fork reg program) went = absurd cc
-effect-is x t z (Join reg) went = absurd cc
-effect-is x t z (Lock m) went = absurd cc
-effect-is x t z (Unlock m) went = absurd cc
-effect-is x t z (Wait k) went = absurd cc
-effect-is x t z (Signal k) went = absurd cc
-effect-is x t z (Io n) went = absurd cc
-effect-is x t z (Touch page) went = absurd cc
-effect-is x t z End went = absurd cc
+effect-is x t z _ went = absurd cc
 
 module _ (u : Package) (seen : Seen) (t : ThreadNo) where
   abbrev b : Block
@@ -105,18 +94,7 @@ module _ (u : Package) (seen : Seen) (t : ThreadNo) where
   local-step (Add reg other) went = record { step = refl; goes = refl }
   local-step (Sub reg other) went = record { step = refl; goes = refl }
   local-step (Jnz reg target) went = record { step = refl; goes = refl }
-  local-step (Load reg cell) went = absurd cc
-  local-step (Store reg cell) went = absurd cc
-  local-step (Out reg) went = absurd cc
-  local-step (Fork reg program) went = absurd cc
-  local-step (Join reg) went = absurd cc
-  local-step (Lock m) went = absurd cc
-  local-step (Unlock m) went = absurd cc
-  local-step (Wait k) went = absurd cc
-  local-step (Signal k) went = absurd cc
-  local-step (Io n) went = absurd cc
-  local-step (Touch page) went = absurd cc
-  local-step End went = absurd cc
+  local-step _ went = absurd cc
 
 -- the lives but one
 with-life-there : (f : Life → Life) (o : Option ActNo) (a : ActNo) (lives : ℕ → Option Life) (y : ℕ) → o ≡ Some a → y ≢ a.0

@@ -143,14 +143,7 @@ module _ (set : Setting) (e : ℕ) (u : Package) (w : WorkloadView) (r : Reading
     step-cases cs (Code f) fs wk i = cases.code cs f fs wk i
     step-cases cs (Work t) fs wk i = work-case cs t fs wk i
     step-cases cs (Hint t) [] None i = hint-case cs t (owed u seen) refl i
-    step-cases cs (Hint t) (f ∷ fs) wk i = absurd (let left = i.own.left in cc)
-    step-cases cs (Hint t) [] (Some n) i = absurd (let left = i.own.left in cc)
     step-cases cs Return [] None i = return-case cs (has_bulk seen) refl i
-    step-cases cs Return (f ∷ fs) wk i = absurd (let left = i.own.left in cc)
-    step-cases cs Return [] (Some n) i = absurd (let left = i.own.left in cc)
     step-cases cs (User t) [] None i = cases.instr cs t i
-    step-cases cs (User t) (f ∷ fs) wk i = absurd (let left = i.own.left in cc)
-    step-cases cs (User t) [] (Some n) i = absurd (let left = i.own.left in cc)
     step-cases cs (Look looks) [] None i = cases.look cs looks i
-    step-cases cs (Look looks) (f ∷ fs) wk i = absurd (let left = i.own.left in cc)
-    step-cases cs (Look looks) [] (Some n) i = absurd (let left = i.own.left in cc)
+    step-cases cs _ _ _ i = absurd (let left = i.own.left in cc)

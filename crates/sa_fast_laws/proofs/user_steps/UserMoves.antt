@@ -100,22 +100,11 @@ module _ (fetch pages : ℕ) (x : Shared) (w : Option ThreadNo) (s : SpaceNo) (t
 
   pub plain : (j : Instr) → IsCalm (outcome_of fetch pages x w t b j).answer → IsPlain s t b pages j
   plain Compute calm = record { there = none_touched Compute refl; says = refl; table = refl }
-  plain (Set reg n) calm = record { there = none_touched (Set reg n) refl; says = refl; table = refl }
-  plain (Add reg other) calm = record { there = none_touched (Add reg other) refl; says = refl; table = refl }
-  plain (Sub reg other) calm = record { there = none_touched (Sub reg other) refl; says = refl; table = refl }
-  plain (Jnz reg target) calm = record { there = none_touched (Jnz reg target) refl; says = refl; table = refl }
-  plain (Load reg cell) calm = record { there = none_touched (Load reg cell) refl; says = refl; table = refl }
-  plain (Store reg cell) calm = record { there = none_touched (Store reg cell) refl; says = refl; table = refl }
   plain (Out reg) calm = record { there = none_touched (Out reg) refl; says = refl; table = tt }
-  plain (Fork reg program) calm = record { there = none_touched (Fork reg program) refl; says = refl; table = refl }
-  plain (Join reg) calm = record { there = none_touched (Join reg) refl; says = refl; table = refl }
-  plain (Lock m) calm = record { there = none_touched (Lock m) refl; says = refl; table = refl }
-  plain (Unlock m) calm = record { there = none_touched (Unlock m) refl; says = refl; table = refl }
-  plain (Wait k) calm = record { there = none_touched (Wait k) refl; says = refl; table = refl }
-  plain (Signal k) calm = record { there = none_touched (Signal k) refl; says = refl; table = refl }
   plain (Io n) calm = absurd calm
   plain (Touch page) calm = touched_plain page (is_page_resident pages page) refl calm
   plain End calm = record { there = none_touched End refl; says = refl; table = refl }
+  plain j calm = record { there = none_touched j refl; says = refl; table = refl }
 
 -- an `out` after it changes nothing of the life
 pub outs-held : (s : SpaceNo) (r q : Readings) (u v : Package) (a : ActNo) (c new : Context) (w : WorkloadView) (n : ℕ) (p : ProcNo) (t : ThreadNo)
@@ -313,13 +302,6 @@ module _ (set : Setting) (e : ℕ) (u : Package) (cs : Contexts Context) (w : Wo
           ins-is set e u cs i.stands s r0 k0 a t i.on.mine w n p life i.on.runs i.on.is i.on.space known def seen.pages can state out no_copy ends_so
 
       out_needs : (k : Instr) → j ≡ k → AreSteps w n p q (outs set.space t (out_of b k))
-      out_needs Compute is = tt
-      out_needs (Set reg m) is = tt
-      out_needs (Add reg other) is = tt
-      out_needs (Sub reg other) is = tt
-      out_needs (Jnz reg target) is = tt
-      out_needs (Load reg cell) is = tt
-      out_needs (Store reg cell) is = tt
       out_needs (Out reg) is =
           let made_too : t.0 < o.shared.state.lists.made =
           subst (λ k. t.0 < (outcome_of u.fetch seen.pages u.shared None t b k).shared.state.lists.made) (sym is) t_made in
@@ -342,15 +324,7 @@ module _ (set : Setting) (e : ℕ) (u : Package) (cs : Contexts Context) (w : Wo
             ),
             tt,
           )
-      out_needs (Fork reg program) is = tt
-      out_needs (Join reg) is = tt
-      out_needs (Lock m) is = tt
-      out_needs (Unlock m) is = tt
-      out_needs (Wait k) is = tt
-      out_needs (Signal k) is = tt
-      out_needs (Io m) is = tt
-      out_needs (Touch page) is = tt
-      out_needs End is = tt
+      out_needs _ is = tt
 
       user-move : ((ev : Event) (last : Readings) (now : Life) → last.state ≡ q.state
           → IsBehind set seen.event with_ins (put cs a.0 (Some new)) a new now seen (after_records w n p r0 (x ∷ outs set.space t (out_of b j))) last

@@ -21,28 +21,7 @@ use Rattle.sa_ranks.specs.Rules.{prio_threads}
 
 no-run : (r : Readings) (x : Record) (xs : List Record) → is_step x ≡ false → RunsGreatest r (x ∷ xs)
 no-run r (records.Run s t) xs e = absurd cc
-no-run r (records.Ins s t i) xs e = tt
-no-run r (records.Out s t v) xs e = tt
-no-run r (records.Stop s t a) xs e = tt
-no-run r (records.Block s t a io) xs e = tt
-no-run r (records.Unblock s t a) xs e = tt
-no-run r (records.Cont s t) xs e = tt
-no-run r (records.Back s t) xs e = tt
-no-run r (records.Ready s t) xs e = tt
-no-run r (records.Take s l t) xs e = tt
-no-run r (records.Free s l t) xs e = tt
-no-run r (records.Up s a) xs e = tt
-no-run r (records.Told n) xs e = tt
-no-run r (records.Move old new) xs e = tt
-no-run r (records.Want s n) xs e = tt
-no-run r (records.Aim q s) xs e = tt
-no-run r (records.Line q) xs e = tt
-no-run r (records.Fetch s) xs e = tt
-no-run r (records.Fetched s) xs e = tt
-no-run r (records.GiveBack a) xs e = tt
-no-run r records.Idle xs e = tt
-no-run r (records.Spin l) xs e = tt
-no-run r records.Tick xs e = tt
+no-run r _ xs e = tt
 
 pub prio-kernels : (w : WorkloadView) (r : Readings) (e : ℕ) (p : ProcNo) (own closing : List Record) → IsWorkload w → IsMoment r → AreKernels own
     → IsClosed own closing

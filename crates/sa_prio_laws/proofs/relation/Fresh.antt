@@ -5,7 +5,7 @@ use Rattle.sa_base.specs.declared.record.Record.{Record}
 use Rattle.sa_base.specs.declared.record.Record.TheVariants as records
 use Rattle.sa_package_model.specs.Context.{stands_inside}
 use Rattle.sa_package_model.specs.declared.context.ContextState.{ContextState}
-use Rattle.sa_package_model.specs.declared.context.ContextState.TheVariants.{Code, Work, Hint, Return, User, Look}
+use Rattle.sa_package_model.specs.declared.context.ContextState.TheVariants.{Look}
 use Rattle.sa_laws.specs.History.{settles, scans_after}
 use Rattle.sa_laws.specs.Readings.{Readings}
 use Rattle.sa_fast_laws.specs.View.{looks_of}
@@ -28,27 +28,7 @@ settles-scans r last (records.Want s m) n e = by _ e where
   by : (b : Bool) → not b ≡ true → (if b then n else 0) ≡ 0
   by true ends = absurd cc
   by false ends = refl
-settles-scans r last (records.Ins s t i) n e = refl
-settles-scans r last (records.Out s t v) n e = refl
-settles-scans r last (records.Stop s t a) n e = refl
-settles-scans r last (records.Block s t a io) n e = refl
-settles-scans r last (records.Unblock s t a) n e = refl
-settles-scans r last (records.Run s t) n e = refl
-settles-scans r last (records.Cont s t) n e = refl
-settles-scans r last (records.Back s t) n e = refl
-settles-scans r last (records.Ready s t) n e = refl
-settles-scans r last (records.Take s l t) n e = refl
-settles-scans r last (records.Free s l t) n e = refl
-settles-scans r last (records.Up s a) n e = refl
-settles-scans r last (records.Told m) n e = refl
-settles-scans r last (records.Move old new) n e = refl
-settles-scans r last (records.Aim q s) n e = refl
-settles-scans r last (records.Line q) n e = refl
-settles-scans r last (records.Fetch s) n e = refl
-settles-scans r last (records.Fetched s) n e = refl
-settles-scans r last (records.GiveBack a) n e = refl
-settles-scans r last (records.Spin l) n e = refl
-settles-scans r last records.Tick n e = refl
+settles-scans r last _ n e = refl
 
 -- what came out is out
 pub came-outside : (before after : ContextState) → came_out before after ≡ true → stands_inside after ≡ false
@@ -59,12 +39,8 @@ came-outside before after e = by (stands_inside after) (remains_out before after
 
 -- inside the package a context does not look
 pub inside-looks : (state : ContextState) → stands_inside state ≡ true → looks_of state ≡ 0
-inside-looks (Code f) e = refl
-inside-looks (Work t) e = refl
-inside-looks (Hint t) e = refl
-inside-looks Return e = refl
-inside-looks (User t) e = refl
 inside-looks (Look looks) e = absurd cc
+inside-looks _ e = refl
 
 -- an answer gives the mark only where its record settles the life
 pub mark-settles : (inside flag pair urge : Bool) → (inside || (flag && pair)) ≡ (inside || urge) → urge ≡ true → (inside ≡ true) ⊎ (flag ≡ true)

@@ -25,7 +25,7 @@ use Rattle.sa_laws.specs.declared.place.Place.{Place}
 use Rattle.sa_laws.specs.declared.place.Place.TheVariants as place
 use Rattle.sa_fast_laws.proofs.relation.Runners.{carrier-of, made-kept}
 use Rattle.sa_fast_laws.specs.FastFits.{Holds, SitsIn, number_in}
-use Rattle.sa_fast_laws.specs.Stage.{Stage, Runs, InBlock, Stopped, Returned, place_of}
+use Rattle.sa_fast_laws.specs.Stage.{Stage, Runs, place_of}
 use Rattle.sa_fast_laws.proofs.lists.Pops.{listed_made, listed_place}
 use Rattle.sa_ranks.specs.Pairs.{is_ready, outranks, is_outranked}
 use Rattle.sa_prio_model.specs.Prio.{rank_of, first_rank}
@@ -41,19 +41,15 @@ one-list (xs ∷ ys ∷ ls) t one = absurd (omega arith)
 -- where a thread is Ready in the history, the package keeps it so
 stage-unready : (g : Stage) (y : ProcNo) → is_ready (place_of g y) ≡ false
 stage-unready Runs y = refl
-stage-unready InBlock y = refl
-stage-unready Stopped y = refl
-stage-unready Returned y = refl
+stage-unready _ y = refl
 
 ready-kept : (p : KeptPlace) (x : Place) → is_unmade p ≡ false → SitsIn p x → (is_carried p ≡ true → is_ready x ≡ false) → is_ready x ≡ true
     → is_kept_ready p ≡ true
 ready-kept kept.Unmade x made sits carried is = absurd cc
 ready-kept kept.Ready x made sits carried is = refl
 ready-kept kept.Running x made sits carried is = absurd (let no = carried refl in cc)
-ready-kept kept.Waiting x made sits carried is = absurd (let no = sym (ap is_ready sits) ∙ is in cc)
 ready-kept kept.Blocked x made sits carried is = absurd (let no = carried refl in cc)
-ready-kept kept.Carried x made sits carried is = absurd (let no = sym (ap is_ready sits) ∙ is in cc)
-ready-kept kept.Done x made sits carried is = absurd (let no = sym (ap is_ready sits) ∙ is in cc)
+ready-kept _ x made sits carried is = absurd (let no = sym (ap is_ready sits) ∙ is in cc)
 
 -- a search through threads
 any-at : (p : Thread → Bool) (xs : List Thread) (i : ℕ) (d : Thread) → i < length xs → p (slice_index_or xs i d) ≡ true → list_any p xs ≡ true

@@ -23,7 +23,7 @@ use Rattle.sa_abstract.specs.Setting.{Setting}
 use Rattle.sa_package_model.specs.Context.{stands_inside}
 use Rattle.sa_package_model.specs.declared.context.Context.{Context}
 use Rattle.sa_package_model.specs.declared.context.ContextState.{ContextState}
-use Rattle.sa_package_model.specs.declared.context.ContextState.TheVariants.{Code, Work, Hint, Return, User, Look}
+use Rattle.sa_package_model.specs.declared.context.ContextState.TheVariants.{Code, User, Look}
 use Rattle.sa_laws.specs.Life.{Life}
 use Rattle.sa_laws.specs.Locks.{is_back, back_is_due}
 use Rattle.sa_laws.specs.Readings.{Readings, Listed, ready_of}
@@ -65,10 +65,7 @@ keeps-with w r p life x keeps back = record {
 pub from-code : (f : Frame) (state : ContextState) → stands_inside state ≡ false → true ≡ came_out (Code f) state
 from-code f (User t) out = refl
 from-code f (Look looks) out = refl
-from-code f (Code g) out = absurd cc
-from-code f (Work t) out = absurd cc
-from-code f (Hint t) out = absurd cc
-from-code f Return out = absurd cc
+from-code f _ out = absurd cc
 
 module _ (set : Setting) (e : ℕ) (v : Prio) (cs : Contexts PrioContext) (w : WorkloadView) (r : Readings) (p : ProcNo) (a : ActNo) (life : Life)
     (seen : Seen) (f : Frame) (fs : List Frame) (wk : Option ThreadNo)

@@ -50,18 +50,12 @@ use Rattle.sa_prio_laws.proofs.steps.Scenes.{IsPrioScene, outranked-same, seen-p
 pub out-copy : (state : ContextState) → is_out state ≡ true → in_copy state ≡ false
 out-copy (states.User t) e = refl
 out-copy (states.Look looks) e = refl
-out-copy (states.Code f) e = absurd cc
-out-copy (states.Work t) e = absurd cc
-out-copy (states.Hint t) e = absurd cc
-out-copy states.Return e = absurd cc
+out-copy _ e = absurd cc
 
 pub out-yield : (state : ContextState) → is_out state ≡ true → at_yield state ≡ false
 out-yield (states.User t) e = refl
 out-yield (states.Look looks) e = refl
-out-yield (states.Code f) e = absurd cc
-out-yield (states.Work t) e = absurd cc
-out-yield (states.Hint t) e = absurd cc
-out-yield states.Return e = absurd cc
+out-yield _ e = absurd cc
 
 module _ (set : Setting) (e : ℕ) (v : Prio) (cs : Contexts PrioContext) (w : WorkloadView) (r : Readings) (p : ProcNo) (a : ActNo) (life : Life)
     (state : ContextState) (out : is_out state ≡ true) (seen : Seen)

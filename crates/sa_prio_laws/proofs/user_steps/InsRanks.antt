@@ -7,7 +7,7 @@ use Rattle.std.proofs.lemmas.Option.{same_Some, none-some}
 use Rattle.sa_base.specs.declared.number.SpaceNo.{SpaceNo}
 use Rattle.sa_base.specs.declared.number.ThreadNo.{ThreadNo}
 use Rattle.sa_instr.specs.declared.instr.Instr.{Instr}
-use Rattle.sa_instr.specs.declared.instr.Instr.TheVariants.{Compute, Set, Add, Sub, Jnz, Load, Store, Out, Fork, Join, Lock, Unlock, Wait, Signal, Io, Touch, End}
+use Rattle.sa_instr.specs.declared.instr.Instr.TheVariants.{Fork, Join, Lock, Unlock, Wait, Signal, Touch}
 use Rattle.sa_instr.specs.declared.instr.Reg.{Reg}
 use Rattle.sa_links.specs.Lists.{list_at, count_in, count_in_all}
 use Rattle.sa_lists.specs.ReadyView.{ReadyView, rank_of, next_made, with_rank}
@@ -79,8 +79,7 @@ module _ (fetch pages : ℕ) (x : Shared) (w : Option ThreadNo) (t : ThreadNo) (
 
   told : (sync : Sync) (c : Block) → c.program ≡ b.program → (a : SyncAnswer) → KeepRanks x (told_by (with_sync x sync) w t c a).shared
   told sync c program answer.Goes = placed _ _ program refl refl
-  told sync c program answer.Waits = placed _ _ program refl refl
-  told sync c program (answer.Wakes u) = placed _ _ program refl refl
+  told sync c program _ = placed _ _ program refl refl
 
   touches : (page : ℕ) (there : Bool) → KeepRanks x (touched x w t b fetch page there).shared
   touches page true = placed _ _ refl refl refl
@@ -118,23 +117,14 @@ module _ (fetch pages : ℕ) (x : Shared) (w : Option ThreadNo) (t : ThreadNo) (
       }
 
   pub keeps-ranks : (k : Instr) → KeepRanks x (outcome_of fetch pages x w t b k).shared
-  keeps-ranks Compute = placed _ _ refl refl refl
-  keeps-ranks (Set reg n) = placed _ _ refl refl refl
-  keeps-ranks (Add reg other) = placed _ _ refl refl refl
-  keeps-ranks (Sub reg other) = placed _ _ refl refl refl
-  keeps-ranks (Jnz reg target) = placed _ _ refl refl refl
-  keeps-ranks (Load reg cell) = placed _ _ refl refl refl
-  keeps-ranks (Store reg cell) = placed _ _ refl refl refl
-  keeps-ranks (Out reg) = placed _ _ refl refl refl
   keeps-ranks (Fork reg program) = forks reg program (next_made x.state.lists) refl
   keeps-ranks (Join reg) = told _ _ refl _
   keeps-ranks (Lock m) = told _ _ refl _
   keeps-ranks (Unlock m) = told _ _ refl _
   keeps-ranks (Wait k) = told _ _ refl _
   keeps-ranks (Signal k) = told _ _ refl _
-  keeps-ranks (Io n) = placed _ _ refl refl refl
   keeps-ranks (Touch page) = touches page (is_resident pages page)
-  keeps-ranks End = placed _ _ refl refl refl
+  keeps-ranks _ = placed _ _ refl refl refl
 
 -- THE READY LIST after an instruction that leaves the lists as they are
 pub ins-ranked : (set : Setting) (e : ℕ) (u : Package) (bs : Contexts Context) → IsStanding set e u bs → (s : SpaceNo) (r : Readings) → Holds s r u bs

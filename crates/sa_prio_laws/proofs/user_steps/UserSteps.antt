@@ -58,10 +58,8 @@ goes-out t (Some first) out = absurd cc
 -- once its thread has left it comes to a look, where nothing else is left
 leaves-out : (t : ThreadNo) (left owes bulk : Bool) → stands_inside (settled_to None left owes bulk) ≡ false
     → true ≡ came_out (User t) (settled_to None left owes bulk)
-leaves-out t true owes bulk out = absurd cc
-leaves-out t false true bulk out = absurd cc
-leaves-out t false false true out = absurd cc
 leaves-out t false false false out = refl
+leaves-out t _ _ _ out = absurd cc
 
 module _ (set : Setting) (e : ℕ) (v : Prio) (cs : Contexts PrioContext) (w : WorkloadView) (r : Readings) (p : ProcNo) (a : ActNo) (life : Life)
     (seen : Seen) (t : ThreadNo)
