@@ -14,6 +14,7 @@ pub use context::{Seen, Stopped};
 pub use limits::{
     BULK_RETURN, DEFAULT_BUDGET, DEFAULT_BURST, FIRST_THREAD_PAGE, MAX_BURST, MAX_EVENTS,
     MAX_PROCESSORS, MAX_SPACES, MAX_THREADS, PACKAGE_PAGE, PAGES, UPCALL_PAGE,
+    run_limits_are_these,
 };
 pub use number::{ActNo, IoNo, ProcNo, SpaceNo, ThreadNo};
 pub use record::{End, Item, Note, Record};

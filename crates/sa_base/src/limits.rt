@@ -1,4 +1,5 @@
 // What a run may have at most.
+ghost use Rattle.std.specs.Prelude.{◌≡◌};
 
 /// The most processors of a machine; there is at least 1.
 pub const MAX_PROCESSORS: u16 = 16;
@@ -35,3 +36,19 @@ pub const DEFAULT_BURST: u16 = 16;
 
 /// The taken activations of a space at which they are given back in bulk (SOSP 1991, section 4.3).
 pub const BULK_RETURN: u32 = 8;
+
+/// The limits of runs, by number. It does nothing.
+pub fn run_limits_are_these()
+    ensures max_processors { MAX_PROCESSORS ≡ 16 }
+    ensures max_spaces { MAX_SPACES ≡ 16 }
+    ensures max_threads { MAX_THREADS ≡ 512 }
+    ensures pages { PAGES ≡ 16 }
+    ensures upcall_page { UPCALL_PAGE ≡ 0 }
+    ensures package_page { PACKAGE_PAGE ≡ 1 }
+    ensures first_thread_page { FIRST_THREAD_PAGE ≡ 2 }
+    ensures max_events { MAX_EVENTS ≡ 1000000 }
+    ensures default_budget { DEFAULT_BUDGET ≡ 100000 }
+    ensures max_burst { MAX_BURST ≡ 64 }
+    ensures default_burst { DEFAULT_BURST ≡ 16 }
+    ensures bulk_return { BULK_RETURN ≡ 8 }
+{}

@@ -24,3 +24,8 @@ pub(crate) fn read_explore(words: &[String]) -> Option<Command>
         give: settings.give,
     })
 }
+
+/// The number of states where none is given. It does nothing.
+pub fn default_states_are_these()
+    ensures { DEFAULT_STATES ≡ 1000000 }
+{}

@@ -1,4 +1,4 @@
-ghost use Rattle.std.specs.Prelude.{◌≡◌, map, string_bytes};
+ghost use Rattle.std.specs.Prelude.{◌≡◌, false, map, string_bytes};
 ghost use Rattle.sa_command.specs.Commands.{with_schedule, with_budget, with_burst, with_package, with_states, with_give, with_option, settings_of, set_by};
 
 use crate::command::{GiveWord, PackageWord, ScheduleWord};
@@ -26,6 +26,18 @@ pub(crate) const NO_OPTIONS: Options = Options {
     states: false,
     give: false,
 };
+
+// A command takes no option that it does not name. It does nothing.
+pub(crate) fn no_options_are_taken()
+    ensures { NO_OPTIONS ≡ record {
+      schedule = false;
+      budget = false;
+      burst = false;
+      user_level = false;
+      states = false;
+      give = false;
+    } }
+{}
 
 // What the options of a command set.
 #[derive(Clone, Copy)]

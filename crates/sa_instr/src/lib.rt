@@ -19,7 +19,7 @@ pub use instr::{Instr, Reg};
 pub use limits::{
     LAST_PAGE, MAX_CELLS, MAX_EVICTIONS, MAX_FETCH, MAX_INSTRUCTIONS, MAX_IO_LENGTH, MAX_MUTEXES,
     MAX_PATIENCE, MAX_PRIORITY, MAX_PROGRAMS, MAX_SEMAPHORES, MAX_SLICE, MAX_START, MAX_TURNS,
-    REGISTERS,
+    REGISTERS, workload_limits_are_these,
 };
 pub use operand::{Operand, OperandKind};
 pub use operation::{OPERATIONS, Operation, OperationForm};

@@ -1,4 +1,5 @@
 // What a workload may declare, and how long things may take.
+ghost use Rattle.std.specs.Prelude.{◌≡◌};
 
 use sa_base::PAGES;
 
@@ -46,3 +47,22 @@ pub const LAST_PAGE: u16 = PAGES - 1;
 
 /// How many registers a thread has.
 pub const REGISTERS: usize = 8;
+
+/// The limits of workloads, by number. It does nothing.
+pub fn workload_limits_are_these()
+    ensures max_priority { MAX_PRIORITY ≡ 7 }
+    ensures max_mutexes { MAX_MUTEXES ≡ 64 }
+    ensures max_semaphores { MAX_SEMAPHORES ≡ 64 }
+    ensures max_cells { MAX_CELLS ≡ 64 }
+    ensures max_start { MAX_START ≡ 1000000 }
+    ensures max_programs { MAX_PROGRAMS ≡ 256 }
+    ensures max_instructions { MAX_INSTRUCTIONS ≡ 4096 }
+    ensures max_io_length { MAX_IO_LENGTH ≡ 1000000 }
+    ensures max_fetch { MAX_FETCH ≡ 1000 }
+    ensures max_evictions { MAX_EVICTIONS ≡ 4096 }
+    ensures max_turns { MAX_TURNS ≡ 65536 }
+    ensures max_slice { MAX_SLICE ≡ 1000000 }
+    ensures max_patience { MAX_PATIENCE ≡ 1000 }
+    ensures last_page { LAST_PAGE ≡ 15 }
+    ensures registers { REGISTERS ≡ 8 }
+{}

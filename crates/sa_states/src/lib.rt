@@ -3,6 +3,7 @@
 #![tactic(auto)]
 
 mod first;
+mod limits;
 mod links;
 mod marks;
 mod store;
@@ -10,6 +11,7 @@ mod unmarked;
 mod whole;
 
 pub use first::found;
+pub use limits::state_limits_are_these;
 pub use links::schedule;
 pub use store::Store;
 pub use unmarked::endless;
