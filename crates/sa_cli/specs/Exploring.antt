@@ -13,7 +13,7 @@ use Rattle.sa_explore_model.specs.declared.answer.Found.{Found}
 use Rattle.sa_explore_model.specs.declared.answer.Explored.{Explored}
 use Rattle.sa_explore_run.specs.declared.answer.Wait.{Wait}
 use Rattle.sa_explore_run.specs.Text.{explored_text}
-use Rattle.sa_explore_run.specs.GivenText.{workload_text}
+use Rattle.sa_explore_run.specs.GivenText.{workload_text, IsReady}
 use Rattle.sa_explore_run.specs.Answer.{IsAnswer}
 use Rattle.sa_command.specs.declared.command.PackageWord.{PackageWord}
 use Rattle.sa_command.specs.declared.command.PackageWord.TheVariants.{Fast, Prio}
@@ -43,6 +43,11 @@ abbrev pub told_text : Option GiveWord → WorkloadView → Explored → List Wa
 told_text None w x waits = explored_text x waits
 told_text (Some word) w x waits = workload_text w (found_by word x)
 
+-- what `--give` writes is ready: nothing, or a text that can be read again
+abbrev pub IsReadyText : Option GiveWord → WorkloadView → Explored → List ℕ → Type 0
+IsReadyText None w x text = ⊤
+IsReadyText (Some word) w x text = IsReady w (found_by word x) text
+
 -- what is said of the workload: a stuck run before all, then whether something is left open
 abbrev pub is_part : Extent → Bool
 is_part All = false
@@ -60,6 +65,7 @@ pub record GaveExplored (states : ℕ) (user_level : PackageWord) (give : Option
   pub waits : List Wait
   pub finds : Finds user_level workload states explored waits
   pub text : bytes ≡ told_text give workload explored waits
+  pub ready : IsReadyText give workload explored bytes
   pub finding : said ≡ finding_of explored
 
 -- the text went to the sink in this way

@@ -8,7 +8,7 @@ ghost use Rattle.sa_explore_run.specs.Answer.{AreWithin};
 ghost use Rattle.sa_cli.specs.declared.limits.TheConstants.{INPUT_LIMIT};
 ghost use Rattle.sa_cli.specs.Refusals.{NothingRead};
 ghost use Rattle.sa_cli.specs.Streams.{UsesStreams, streams, world_by};
-ghost use Rattle.sa_cli.specs.Exploring.{Finds, found_by, told_text, finding_of, GaveExplored, ExploreAnswers};
+ghost use Rattle.sa_cli.specs.Exploring.{Finds, found_by, told_text, IsReadyText, finding_of, GaveExplored, ExploreAnswers};
 
 use crate::outcome::{Finding, Status};
 use crate::reading::read_workload;
@@ -112,8 +112,10 @@ fn told_text(
     answer: &Answer,
 ) -> Result<Vec<u8>, AllocError>
     requires { AreWithin workload.now answer.now.explored }
-    ensures { IfOk result (λ text. text.items
+    ensures text { IfOk result (λ text. text.items
         ≡ told_text give workload.now answer.now.explored answer.now.waits.items) }
+    ensures ready { IfOk result (λ text.
+        IsReadyText give workload.now answer.now.explored text.items) }
 {
     match give {
         None => explored_text(alloc, &answer.explored, &answer.waits),

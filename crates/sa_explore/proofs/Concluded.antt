@@ -1,7 +1,8 @@
 -- What a search that stopped answers.
 use Rattle.std.proofs.Common.{◌≡◌, ℕ, ◌+◌, ◌≤◌, ◌⊎◌, inl, inr, Bool, Option, None, List, [], length, refl, sym, ap, subst, ◌∙◌, arith}
+use Rattle.std.proofs.lemmas.Option.{slice_get_within}
+use Rattle.sa_lemmas.proofs.ListReads.{read-at}
 use Rattle.sa_base.specs.declared.number.ProcNo.{ProcNo}
-use Rattle.sa_base.specs.declared.limits.TheConstants.{MAX_EVENTS}
 use Rattle.sa_spaces.specs.Space.{SpaceView}
 use Rattle.sa_spaces.specs.Workload.{WorkloadView, IsWorkload}
 use Rattle.sa_abstract.specs.Calls.{Calls}
@@ -15,14 +16,14 @@ use Rattle.sa_explore_model.specs.declared.answer.Found.{Found}
 use Rattle.sa_explore_model.specs.declared.answer.Explored.{Explored}
 use Rattle.sa_explore_model.specs.Answer.{AreEndless}
 use Rattle.sa_explore_model.specs.Search.{way_to, IsSearch, IsStopped}
-use Rattle.sa_explore_model.proofs.Answered.{sound-of, least-of, complete-of, counted-of, depth-of}
+use Rattle.sa_explore_model.proofs.Answered.{way-least, sound-of, least-of, complete-of, counted-of, depth-of}
 use Rattle.sa_explore_model.proofs.Endless.{endless-of}
 use Rattle.sa_states.specs.Answers.{Answers}
 use Rattle.sa_explore_runs.specs.Runs.{end, IsOpenTurn, IsBegun, IsWay}
 use Rattle.sa_explore_runs.proofs.Turns.{no-budget}
 use Rattle.sa_explore_runs.proofs.Systems.{OfSome, runs-are-searched}
-use Rattle.sa_explore.specs.Explored.{IsBeyond, IsExplored}
-use Rattle.sa_explore.specs.Doing.{states_of, HasDone, IsFull, HasStopped, IsEndlessBy}
+use Rattle.sa_explore.specs.Explored.{IsBeyond, IsFar, IsExplored}
+use Rattle.sa_explore.specs.Doing.{states_of, HasDone, IsFull, HasMostEvents, HasStopped, IsEndlessBy}
 use Rattle.sa_explore.specs.declared.search.Scope.{Scope}
 use Rattle.sa_explore.specs.declared.search.Search.{Search}
 
@@ -43,7 +44,7 @@ module _ {U C D : Type 0} (f : Calls U C) (plain : Option SpaceView → C → D)
     pub done : Done at next
     pub first : extent ≡ All → (next ≡ 0) × (at ≡ length (states_of search))
     pub spent : extent ≡ Part
-        → IsFull f plain code scope done ⊎ (length scope.begun.items + length (way_to (states_of search) at) ≡ MAX_EVENTS)
+        → IsFull f plain code scope done ⊎ HasMostEvents f plain code scope search at
 
   pub over-of : (extent : Extent) (at : ℕ) → HasStopped f plain code scope extent search at → IsOver extent at
   over-of All at stopped = record {
@@ -80,13 +81,32 @@ module _ {U C D : Type 0} (f : Calls U C) (plain : Option SpaceView → C → D)
     depth-part All part so = absurd cc
     depth-part Part part so = so.1
 
-    spent-of : x.extent ≡ Part → ((x.states ≡ scope.most) × IsBeyond f plain w begun over.done.searching.kept x.depth)
-        ⊎ (length begun + x.depth ≡ MAX_EVENTS)
+    -- a state to which the most events lead
+    far-of : x.depth ≡ length (way_to (states_of search) at) → HasMostEvents f plain code scope search at → IsFar f plain w begun x.depth
+    far-of depth far =
+        let s = far.goes in
+        let within = slice_get_within (states_of search) at s.0 s.1 in
+        let same = over.done.searching.search.size in
+        let m = read-at over.done.searching.kept at (omega arith) in
+        record {
+          turns = way_to (states_of search) at;
+          machine = m.0;
+          way = over.done.searching.search.reached at m.0 m.1;
+          long = sym depth;
+          goes = sym (over.done.searching.search.ends at m.0 s.0 m.1 s.1) ∙ s.2;
+          least = λ qs n way looks. subst (λ (k : ℕ). k ≤ length qs) (sym depth)
+              (way-least (outlook plain) (end f) (IsWay f w begun) (IsOpenTurn f) w.processors Of
+              (runs-are-searched f plain IsMade laws stands keep w ok begun) (no-budget f) (states_of search) over.done.searching.kept search.nexts.items
+              at over.next over.done.searching.search over.some begun (with_endless x found) stopped is.done is.stuck is.size at m.0 m.1 qs n way looks);
+          most = ap (λ (k : ℕ). length begun + k) depth ∙ far.most;
+        }
+
+    spent-of : x.extent ≡ Part → ((x.states ≡ scope.most) × IsBeyond f plain w begun over.done.searching.kept x.depth) ⊎ IsFar f plain w begun x.depth
     spent-of part =
         let depth : x.depth ≡ length (way_to (states_of search) at) = depth-part x.extent part stopped in
         elim (over.spent (sym is.extent_is ∙ part)) [
           | inl full ↦ inl (is.size ∙ full.room, subst (λ (n : ℕ). IsBeyond f plain w begun over.done.searching.kept n) (sym depth) full.beyond)
-          | inr most ↦ inr (ap (λ (n : ℕ). length begun + n) depth ∙ most)
+          | inr far ↦ inr (far-of depth far)
         ]
 
     abbrev marks-by : (e : Extent) → IsEndlessBy e scope search found → List Bool

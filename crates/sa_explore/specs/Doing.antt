@@ -40,13 +40,18 @@ module _ {U C D : Type 0} (f : Calls U C) (plain : Option SpaceView → C → D)
     pub room : length (states_of search) ≡ scope.most
     pub beyond : IsBeyond f plain scope.workload scope.begun.items done.searching.kept (length (way_to (states_of search) at))
 
+  -- runs go on at a state to which the most events lead
+  pub record HasMostEvents (search : Search) (at : ℕ) : Type 0 where
+    pub goes : RunsGoOn search at
+    pub most : length scope.begun.items + length (way_to (states_of search) at) ≡ MAX_EVENTS
+
   -- the next turn cannot be made, since the run there has had the most events, or where it leads to cannot be kept
   pub record IsSpent (search : Search) (at : ℕ) : Type 0 where
     pub next : ℕ
     pub some : next < scope.workload.processors
     pub done : HasDone search at next
     pub within : at < length (states_of search)
-    pub spent : IsFull done ⊎ (length scope.begun.items + length (way_to (states_of search) at) ≡ MAX_EVENTS)
+    pub spent : IsFull done ⊎ HasMostEvents search at
 
   -- the turn of processor `next` from state `at` was made, which is there as before; or it is the one that cannot be made
   pub record HasMade (old search : Search) (at next : ℕ) : Type 0 where

@@ -23,6 +23,16 @@ module _ {U C D : Type 0} (f : Calls U C) (plain : Option SpaceView → C → D)
     pub long : length turns ≡ depth + 1
     pub new : IsKept (outlook plain) kept machine → ⊥
 
+  -- so many turns lead to a machine at which runs go on, no fewer lead to its outlook, and with the turns begun they are the most events
+  pub record IsFar (begun : List ProcNo) (depth : ℕ) : Type 0 where
+    pub turns : List ProcNo
+    pub machine : Machine U C
+    pub way : IsWay f w begun turns machine
+    pub long : length turns ≡ depth
+    pub goes : end f machine ≡ None
+    pub least : (qs : List ProcNo) (n : Machine U C) → IsWay f w begun qs n → outlook plain n ≡ outlook plain machine → depth ≤ length qs
+    pub most : length begun + depth ≡ MAX_EVENTS
+
   pub record IsExplored (most : ℕ) (x : Explored) : Type 0 where
     pub begun : List ProcNo
     pub begins : IsBegun f w begun
@@ -31,13 +41,13 @@ module _ {U C D : Type 0} (f : Calls U C) (plain : Option SpaceView → C → D)
     pub least : (e : End) (found : Found) → found_of x e ≡ Some found → IsLeast (outlook plain) (end f) (IsWay f w begun) begun e found.schedule.items
     -- complete: no run that was looked at ends in another way
     pub complete : IsComplete (outlook plain) (end f) (IsWay f w begun) x
-    -- one machine is kept for each outlook
+    -- one machine is kept for each outlook, of all outlooks the first
     pub kept : List (Machine U C)
     pub counted : IsCounted (outlook plain) (end f) (IsWay f w begun) x kept
     pub few : x.states ≤ most
     pub depth : x.extent ≡ All → IsDepth (outlook plain) (end f) (IsWay f w begun) x.depth
-    -- not all were looked at only where the states were spent before those of the next turn, or where a run came to the most events
-    pub spent : x.extent ≡ Part → ((x.states ≡ most) × IsBeyond begun kept x.depth) ⊎ (length begun + x.depth ≡ MAX_EVENTS)
+    -- not all were looked at only if the states were spent before those of the next turn, or if a run that goes on had the most events
+    pub spent : x.extent ≡ Part → ((x.states ≡ most) × IsBeyond begun kept x.depth) ⊎ IsFar begun x.depth
     -- of which states no order of turns ever ends is said where all were looked at
     pub marks : List Bool
     pub endless : x.extent ≡ All → AreEndless (outlook plain) (end f) (IsWay f w begun) (IsOpenTurn f) begun kept marks x.endless

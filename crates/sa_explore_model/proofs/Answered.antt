@@ -1,5 +1,5 @@
 -- What a search has done when it stops is what it answers for.
-use Rattle.std.proofs.Common.{◌≡◌, ℕ, suc, ◌+◌, ◌-◌, ◌≤◌, ◌⊎◌, inl, inr, if◌then◌else◌, Option, Some, None, IsSome, List, [], ◌∷◌, ◌++◌, length, slice_get, count_by, refl, sym, ap, subst, ◌∙◌, arith, length-append}
+use Rattle.std.proofs.Common.{◌≡◌, ℕ, suc, ◌+◌, ◌-◌, ◌<◌, ◌≤◌, ◌⊎◌, inl, inr, if◌then◌else◌, Option, Some, None, IsSome, List, [], ◌∷◌, ◌++◌, length, slice_get, count_by, refl, sym, ap, subst, ◌∙◌, arith, length-append}
 use Rattle.std.proofs.lemmas.Option.{slice_get_within}
 use Rattle.std.proofs.lemmas.List.Sums.{sum_by-cons}
 use Rattle.sa_lemmas.proofs.ListReads.{read-at}
@@ -87,6 +87,25 @@ module _ {M O : Type 0} (look : M → O) (end : M → Option End) (Way : List Pr
       let of_k = of-kept look end Way Turn processors Of laws states kept nexts at next search few seen.place seen.machine seen.is in
       (s.0, s.1, s.2 ∙ laws.ends seen.machine m of_k (laws.of-way turns m way) seen.looks ∙ over)
 
+  -- a state comes before all that was not done
+  kept-first : (k : ℕ) (m : M) → slice_get kept k ≡ Some m → (turns : List ProcNo) → Behind turns → ComesFirst (way_to states k) turns
+  kept-first k m is turns behind =
+      first-trans (way_to states k) (way_to states at ++ proc_of next ∷ []) turns
+      (target-first look end Way Turn processors Of laws states kept nexts at next search few k at (proc_of next) behind.0
+      (within-kept look end Way Turn processors Of laws states kept nexts at next search few k m is)
+      (λ s some is_s. before-more s.before s.proc.0 at next (search.made k s some is_s)))
+      behind.1
+
+  -- no turns that lead to the outlook of a state are fewer than those of its way
+  pub way-least : (k : ℕ) (m : M) → slice_get kept k ≡ Some m → (turns : List ProcNo) (n : M) → Way turns n → look n ≡ look m
+      → length (way_to states k) ≤ length turns
+  way-least k m is turns n way looks =
+      elim (all-seen turns n way) [
+        | inl seen ↦ (let place = search.different seen.place k seen.machine m seen.is is (seen.looks ∙ looks) in
+            subst (λ (i : ℕ). length (way_to states i) ≤ length turns) place (length-first _ _ seen.first))
+        | inr behind ↦ length-first _ _ (kept-first k m is turns behind)
+      ]
+
   -- SOUND
   pub sound-of : (e : End) (found : Found) → found_of x e ≡ Some found → LeadsToEnd look end Way begun e found.schedule.items
   sound-of e found is =
@@ -114,27 +133,50 @@ module _ {M O : Type 0} (look : M → O) (end : M → Option End) (Way : List Pr
             let there = slice_get_within states seen.place s.0 s.1 in
             first-trans (way_to states first.place) (way_to states seen.place) turns
             (ways-first states search.linked search.rise first.place seen.place (first.first seen.place s.0 s.1 s.2) there) seen.first)
-        | inr behind ↦ first-trans (way_to states first.place) (way_to states at ++ proc_of next ∷ []) turns
-            (target-first look end Way Turn processors Of laws states kept nexts at next search few first.place at (proc_of next) behind.0 within
-            (λ s some is_s. before-more s.before s.proc.0 at next (search.made first.place s some is_s)))
-            behind.1
+        | inr behind ↦ (let same = search.size in
+            let n = read-at kept first.place (omega arith) in
+            kept-first first.place n.0 n.1 turns behind)
       ]))
 
   -- COMPLETE
-  pub complete-of : IsComplete look end Way x
-  complete-of turns m e way looked over = go (found_of x e) (found-in e)
+  told : (k : ℕ) (m : M) (e : End) → slice_get kept k ≡ Some m → end m ≡ Some e → IsSome (found_of x e)
+  told k m e is over = go (found_of x e) (found-in e)
     where
       go : (o : Option Found) → IsFoundIn states begun e o → IsSome o
-      go None none =
-          let seen = seen-looked turns m way looked in
-          let s = seen-end turns m e way seen over in
-          absurd (none seen.place s.0 s.1 s.2)
+      go None none = let s = end-of k m is in absurd (none k s.0 s.1 (s.2 ∙ over))
       go (Some found) some = refl
 
+  pub complete-of : IsComplete look end Way x
+  complete-of turns m e way looked over =
+      let seen = seen-looked turns m way looked in
+      let of_seen = of-kept look end Way Turn processors Of laws states kept nexts at next search few seen.place seen.machine seen.is in
+      told seen.place seen.machine e seen.is (laws.ends seen.machine m of_seen (laws.of-way turns m way) seen.looks ∙ over)
+
   -- COUNTS
+  short : (o : Extent) (depth : ℕ) → IsStopped o depth states at → (k : ℕ) → k < length states → length (way_to states k) ≤ depth + 1
+  short All depth over k within =
+      let long = length-first _ _ (ways-first states search.linked search.rise k (length states - 1) (omega arith) (omega arith)) in
+      let is = over.1 in
+      omega arith
+  short Part depth over k within =
+      let long = length-first _ _ (target-first look end Way Turn processors Of laws states kept nexts at next search few k at (proc_of next) over.0 within
+      (λ s some is_s. before-more s.before s.proc.0 at next (search.made k s some is_s))) in
+      let more = length-append (way_to states at) (proc_of next ∷ []) in
+      let is = over.1 in
+      omega arith
+
   pub counted-of : IsCounted look end Way x kept
   counted-of = record {
-    reached = λ k m is. record { turns = way_to states k; way = search.reached k m is };
+    near = λ k m is. record {
+      turns = way_to states k;
+      way = search.reached k m is;
+      few = short x.extent x.depth stopped k (within-kept look end Way Turn processors Of laws states kept nexts at next search few k m is);
+    };
+    first = λ k m is turns n way new. (elim (all-seen turns n way) [
+      | inl seen ↦ absurd (new (record { place = seen.place; machine = seen.machine; is = seen.is; looks = seen.looks }))
+      | inr behind ↦ record { early = way_to states k; way = search.reached k m is; first = kept-first k m is turns behind }
+    ]);
+    told = told;
     different = search.different;
     every = λ turns m way looked. (let seen = seen-looked turns m way looked in
         record { place = seen.place; machine = seen.machine; is = seen.is; looks = seen.looks });

@@ -1,6 +1,6 @@
 -- What a search answers, over any system of machines: `Way qs m` says that the turns `qs` lead to the machine m, none after an end;
 -- `look m` is what decides how m goes on; `end m` is how runs end at m.
-use Rattle.std.specs.Prelude.{◌≡◌, ℕ, zero, suc, ◌≤◌, ◌⊎◌, Bool, true, false, List, ◌++◌, length, count_by, not, Option, Some, None, IsSome, slice_get}
+use Rattle.std.specs.Prelude.{◌≡◌, ℕ, zero, suc, ◌+◌, ◌≤◌, ◌⊎◌, Bool, true, false, List, ◌++◌, length, count_by, not, Option, Some, None, IsSome, slice_get}
 use Rattle.sa_base.specs.declared.number.ProcNo.{ProcNo}
 use Rattle.sa_base.specs.declared.record.End.{End}
 use Rattle.sa_base.specs.declared.record.End.TheVariants.{AllDone, Stuck, Budget}
@@ -43,6 +43,18 @@ module _ {M O : Type 0} (look : M → O) (end : M → Option End) (Way : List Pr
     pub turns : List ProcNo
     pub way : Way turns m
 
+  -- no more than that many turns lead to a machine
+  pub record IsNear (most : ℕ) (m : M) : Type 0 where
+    pub turns : List ProcNo
+    pub way : Way turns m
+    pub few : length turns ≤ most
+
+  -- some turns that lead to a machine do not come after these ones
+  pub record IsEarly (turns : List ProcNo) (m : M) : Type 0 where
+    pub early : List ProcNo
+    pub way : Way early m
+    pub first : ComesFirst early turns
+
   -- SOUND. A schedule, after the turns `begun`, leads to a machine with this end.
   pub record LeadsToEnd (begun : List ProcNo) (e : End) (schedule : List ProcNo) : Type 0 where
     pub turns : List ProcNo
@@ -59,12 +71,16 @@ module _ {M O : Type 0} (look : M → O) (end : M → Option End) (Way : List Pr
   abbrev pub IsComplete : Explored → Type 0
   IsComplete x = (turns : List ProcNo) (m : M) (e : End) → Way turns m → IsLookedAt x (length turns) → end m ≡ Some e → IsSome (found_of x e)
 
-  -- COUNTS. One machine is kept for each outlook.
+  -- COUNTS. One machine is kept for each outlook: of all outlooks the first, in order of the least turns that lead to them. Each end of
+  -- a machine that is kept was found.
   pub record IsCounted (x : Explored) (kept : List M) : Type 0 where
-    pub reached : (i : ℕ) (m : M) → slice_get kept i ≡ Some m → IsReached m
+    pub near : (i : ℕ) (m : M) → slice_get kept i ≡ Some m → IsNear (x.depth + 1) m
+    pub first : (i : ℕ) (m : M) → slice_get kept i ≡ Some m → (turns : List ProcNo) (n : M) → Way turns n → (IsKept look kept n → ⊥)
+        → IsEarly turns m
     pub different : AreDifferent look kept
     pub every : (turns : List ProcNo) (m : M) → Way turns m → IsLookedAt x (length turns) → IsKept look kept m
     pub states : x.states ≡ length kept
+    pub told : (i : ℕ) (m : M) (e : End) → slice_get kept i ≡ Some m → end m ≡ Some e → IsSome (found_of x e)
     pub ends : (e : End) (found : Found) → found_of x e ≡ Some found → found.states ≡ count_by (λ m. is_end e (end m)) kept
 
   -- the depth: no outlook is farther, and some machine has one that is not nearer

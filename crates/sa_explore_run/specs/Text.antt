@@ -58,14 +58,14 @@ abbrev pub found_if : List ℕ → Option Found → List ℕ
 found_if word None = []
 found_if word (Some found) = found_text word found
 
--- a thread that waits: its space, its number, the place of its next instruction, and what it waits for
+-- a thread that waits: its space, its number, the place of the instruction in which it waits, and what it waits for
 abbrev pub awaited_text : Awaited → List ℕ
 awaited_text (Mutex mutex holder) = line (codes " mutex") (mutex ∷ holder.0 ∷ [])
 awaited_text (Semaphore semaphore) = line (codes " sem") (semaphore ∷ [])
 awaited_text (Thread thread) = line (codes " thread") (thread.0 ∷ [])
 
 abbrev pub wait_text : Wait → List ℕ
-wait_text wait = words (codes "waits") (wait.space.0 ∷ wait.thread.0 ∷ wait.pc ∷ []) ++ awaited_text wait.awaits
+wait_text wait = words (codes "waits") (wait.space.0 ∷ wait.thread.0 ∷ wait.place ∷ []) ++ awaited_text wait.awaits
 
 -- the whole text, where these threads wait at the end of the schedule to a stuck end
 abbrev pub explored_text : Explored → List Wait → List ℕ

@@ -17,7 +17,7 @@ pub enum Awaited {
 pub struct Wait {
     pub space: SpaceNo,
     pub thread: ThreadNo,
-    /// The place of its next instruction, from 0.
-    pub pc: u16,
+    /// The place of the `lock`, `wait` or `join` in which it waits, from 0.
+    pub place: u16,
     pub awaits: Awaited,
 }

@@ -75,7 +75,7 @@ fn push_wait(out: &mut Vec<u8>, wait: &Wait) -> Result<(), AllocError>
     let numbers = [
         u64::from(wait.space.0),
         u64::from(wait.thread.0),
-        u64::from(wait.pc),
+        u64::from(wait.place),
     ];
     push_words(out, b"waits", &numbers)?;
     push_awaited(out, wait.awaits)

@@ -50,11 +50,11 @@ fn push_thread(
     match awaited(alloc, replay.sync(s), t)? {
         None => Ok(()),
         Some(awaits) => {
-            let pc = replay.thread(s, t).pc();
+            let place = replay.thread(s, t).pc().saturating_sub(1);
             waits.push(Wait {
                 space: s,
                 thread: t,
-                pc,
+                place,
                 awaits,
             })?;
             Ok(())

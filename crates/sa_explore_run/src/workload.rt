@@ -1,18 +1,19 @@
 // A workload with a schedule as its turn lines.
-ghost use Rattle.std.specs.Prelude.{◌≡◌, ◌≤◌, ◌<◌, length, All, IfOk, IfSome};
+ghost use Rattle.std.specs.Prelude.{◌≡◌, ◌≤◌, ◌<◌, ◌⊎◌, [], length, All, IfOk, IfSome};
 ghost use Rattle.std.specs.Option.{option_copied};
 ghost use Rattle.sa_instr.specs.declared.limits.TheConstants.{MAX_TURNS};
-ghost use Rattle.sa_explore_run.specs.GivenText.{with_turns, turned_text, workload_text};
+ghost use Rattle.sa_explore_run.specs.GivenText.{with_turns, turned_text, workload_text, IsReadable, IsReady};
 
 use sa_base::ProcNo;
 use sa_explore_model::Found;
 use sa_instr::MAX_TURNS;
 use sa_spaces::{SpaceDef, Workload};
 use sa_workload::print;
+use sa_workload_lines::MAX_TEXT;
 use std::alloc::{AllocError, Global};
 
-/// The text of the workload with the schedule that was found as its turn lines: nothing where none was found, or one of more than 65,536
-/// turns. Fails only where memory runs out.
+/// The text of the workload with the schedule that was found as its turn lines, which can be read again: nothing if none was found, if it has
+/// more than 65,536 turns, or if the text would pass 1,048,576 bytes. Fails only if memory runs out.
 pub fn workload_text(
     alloc: Global,
     workload: &Workload,
@@ -20,7 +21,8 @@ pub fn workload_text(
 ) -> Result<Vec<u8>, AllocError>
     requires { IfSome (option_copied found)
         (λ found. All (λ p. p.0 < workload.now.processors) found.schedule.items) }
-    ensures { IfOk result (λ text. text.items ≡ workload_text workload.now (option_copied found.entry)) }
+    ensures text { IfOk result (λ text. text.items ≡ workload_text workload.now (option_copied found.entry)) }
+    ensures ready { IfOk result (λ text. IsReady workload.now (option_copied found.entry) text.items) }
 {
     match found {
         None => Ok(Vec::new(alloc)),
@@ -28,16 +30,23 @@ pub fn workload_text(
     }
 }
 
-// The text of the workload with these turns, which are of its processors; nothing where they are more than a workload may have.
+// The text of the workload with these turns, which are of its processors; nothing if they are more than a workload may have, or the text is
+// longer.
 fn turned_text(alloc: Global, workload: &Workload, turns: &[ProcNo]) -> Result<Vec<u8>, AllocError>
     requires { All (λ p. p.0 < workload.now.processors) turns.now }
-    ensures { IfOk result (λ text. text.items ≡ turned_text workload.now turns.now) }
+    ensures text { IfOk result (λ text. text.items ≡ turned_text workload.now turns.now) }
+    ensures ready { IfOk result (λ text. (text.items ≡ []) ⊎ IsReadable text.items (with_turns workload.now turns.now)) }
 {
     if turns.len() > MAX_TURNS {
         return Ok(Vec::new(alloc));
     }
     let turned = with_turns(alloc, workload, turns)?;
-    print(alloc, &turned)
+    turned.ranges();
+    let text = print(alloc, &turned)?;
+    if text.len() > MAX_TEXT {
+        return Ok(Vec::new(alloc));
+    }
+    Ok(text)
 }
 
 // The workload with these turns, which are few enough and of its processors.

@@ -104,5 +104,9 @@ module _ (w : WorkloadView) (valid : IsWorkload w) (order : Order) (n : ℕ) (fe
         subst (λ xs. RunsTo w order budget xs e events lost) (sym shows)
         (subst (λ k. RunsTo w order budget b.items e k lost) (sym count) (subst (λ ns. RunsTo w order budget b.items e n ns) (sym losses) (ended e ends)))
 
-    pub so-far-as : (items : List Item) → items ≡ b.items → RunsSoFar w order budget items
-    so-far-as items shows = record { events = n; run = subst (λ xs. IsVpRun w order budget xs n) (sym shows) so-far }
+    pub so-far-as : (items : List Item) → end_of budget b ≡ None → items ≡ b.items → RunsSoFar w order budget items
+    so-far-as items goes shows = record {
+      events = n;
+      run = subst (λ xs. IsVpRun w order budget xs n) (sym shows) so-far;
+      unended = ends-at budget n None (omega arith) (ap (end_of budget) (sym is) ∙ goes);
+    }

@@ -30,10 +30,11 @@ pub record IsVpRun (w : WorkloadView) (order : Order) (budget : ℕ) (items : Li
   pub within : events ≤ budget
   pub not_ended : (k : ℕ) → k < events → EndsAt w order budget k None
 
--- the run of the workload comes so far
+-- the run of the workload comes so far, and has not ended
 pub record RunsSoFar (w : WorkloadView) (order : Order) (budget : ℕ) (items : List Item) : Type 0 where
   pub events : ℕ
   pub run : IsVpRun w order budget items events
+  pub unended : EndsAt w order budget events None
 
 -- the run of the workload ends so, after that many events; these are its items, and what each space has lost
 pub record RunsTo (w : WorkloadView) (order : Order) (budget : ℕ) (items : List Item) (end : End) (events : ℕ) (lost : List ℕ) : Type 0 where

@@ -94,4 +94,5 @@ returns-in_default-turn-clause-err c =
     let n = v.board.number - 1 in
     inr (so-far-as w c.ranges-2.ensures (order_of c.args.kind) n (omega (arith, inv.within, c.requires.few)) inv.among c.args.budget v.board inv.board
     (omega (arith, inv.within)) inv.not_ended
-    _ (c.into_trace.ensures ∙ ap (λ (u : VpView). u.board.items) c.in_default-turn.ensures.err.1))
+    _ (ap (λ b. end_of b v.board) (sym inv.budget) ∙ sym c.end.ensures ∙ c.in_default-end.is)
+    (c.into_trace.ensures ∙ ap (λ (u : VpView). u.board.items) c.in_default-turn.ensures.err.1))

@@ -1,15 +1,31 @@
-use Rattle.std.proofs.Common.{◌≡◌, ◌≢◌, ◌+◌, ◌<◌, ◌≤◌, ◌++◌, None, Some, List, length, get_or, slice_get, inr, sym, ap, ◌∙◌, subst, arith, length-append}
+use Rattle.std.proofs.Common.{◌≡◌, ◌≢◌, ℕ, ◌+◌, ◌<◌, ◌≤◌, ◌++◌, false, None, Some, List, length, get_or, slice_get, inr, sym, ap, ◌∙◌, subst, arith, length-append}
 use Rattle.std.proofs.lemmas.Option.{slice_get-get_or}
+use Rattle.std.specs.Option.{is_some}
 use Rattle.sa_base.specs.declared.number.ProcNo.{ProcNo}
 use Rattle.sa_base.specs.declared.limits.TheConstants.{MAX_EVENTS}
 use Rattle.sa_keys.specs.Key.{key_of}
 use Rattle.sa_explore_model.specs.declared.answer.State.{State}
 use Rattle.sa_explore_model.specs.Search.{way_to}
 use Rattle.sa_states.specs.Store.{store_of}
-use Rattle.sa_explore.specs.Doing.{states_of, turns_to}
+use Rattle.sa_explore.specs.Doing.{states_of, turns_to, RunsGoOn}
+use Rattle.sa_explore.specs.declared.search.Search.{Search}
 use Rattle.sa_explore.proofs.Replays.{none-of}
 use Rattle.sa_explore.proofs.Doings.{way-few}
 use Rattle.sa_explore.proofs.search.Search.expand.Goals as goal
+
+-- any state
+no_state : State
+no_state = record { before = 0; proc = record { 0 = 0 }; end = None }
+
+-- runs go on at a state that has no end
+runs-go-on : (search : Search) (at : ℕ) (xs : List State) → xs ≡ states_of search → at < length (states_of search)
+    → is_some (get_or xs at no_state).end ≡ false → RunsGoOn search at
+runs-go-on search at xs same within goes =
+    let there : at < length xs = subst (λ (ys : List State). at < length ys) (sym same) within in (
+      get_or xs at no_state,
+      subst (λ (ys : List State). slice_get ys at ≡ Some (get_or xs at no_state)) same (slice_get-get_or xs at no_state there),
+      none-of (get_or xs at no_state).end goes,
+    )
 
 pub returns-then-len-eq-MAX_EVENTS-clause-made : goal.returns-then-len-eq-MAX_EVENTS-clause-made
 returns-then-len-eq-MAX_EVENTS-clause-made g c =
@@ -25,20 +41,17 @@ returns-then-len-eq-MAX_EVENTS-clause-made g c =
       some = (let some = c.ranges-2.ensures.some_processor in omega (arith, some));
       done = c.requires.done;
       within = c.requires.within;
-      spent = inr (sym size ∙ sym c.in_ok-turns.turns.ok.0 ∙ sym c.len.ensures ∙ c.if-len-eq-MAX_EVENTS.true);
+      spent = inr (record {
+        goes = runs-go-on c.args.self.now c.args.at c.states-states.result.now c.states-states.ensures c.requires.within
+            (sym c.is_some.ensures ∙ c.if-is_some.false);
+        most = sym size ∙ sym c.in_ok-turns.turns.ok.0 ∙ sym c.len.ensures ∙ c.if-len-eq-MAX_EVENTS.true;
+      });
     }
 
 pub turn_each-requires-clause-goes : goal.turn_each-requires-clause-goes
 turn_each-requires-clause-goes g c = λ lt lives.
-    let xs = c.states-states.result.now in
-    let at = c.args.at in
-    let d : State = record { before = 0; proc = record { 0 = 0 }; end = None } in
-    let within : at < length xs = subst (λ (ys : List State). at < length ys) (sym c.states-states.ensures) c.requires.within in
-    let is : slice_get xs at ≡ Some (get_or xs at d) = slice_get-get_or xs at d within in (
-      get_or xs at d,
-      subst (λ (ys : List State). slice_get ys at ≡ Some (get_or xs at d)) c.states-states.ensures is,
-      none-of (get_or xs at d).end (sym c.is_some.ensures ∙ c.if-is_some.false),
-    )
+    runs-go-on c.args.self.now c.args.at c.states-states.result.now c.states-states.ensures c.requires.within
+    (sym c.is_some.ensures ∙ c.if-is_some.false)
 
 pub turn_each-requires-clause-few : goal.turn_each-requires-clause-few
 turn_each-requires-clause-few g c =
