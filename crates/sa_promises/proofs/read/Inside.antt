@@ -9,7 +9,7 @@ use Rattle.sa_base.specs.declared.number.SpaceNo.{SpaceNo}
 use Rattle.sa_base.specs.declared.number.ActNo.{ActNo}
 use Rattle.sa_base.specs.declared.limits.TheConstants.{BULK_RETURN}
 use Rattle.sa_base.specs.declared.record.Record.{Record}
-use Rattle.sa_base.specs.declared.record.Record.TheVariants.{Ins, Block, Want, Idle}
+use Rattle.sa_base.specs.declared.record.Record.TheVariants.{Ins, Want}
 use Rattle.sa_base.specs.declared.record.Item.{Item}
 use Rattle.sa_spaces.specs.Workload.{WorkloadView}
 use Rattle.sa_laws.specs.Event.{Event}
@@ -110,9 +110,7 @@ pub settles-same : (w : WorkloadView) (past now : List Item) (before after : Rea
     → ((s : SpaceNo) (n : ℕ) → first ≡ Want s n → demand_of before s ≡ last_want past s) → settles before after first ≡ settles_by w past now first
 settles-same w past now before after (Ins s t i) state wants = ap (λ (k : State). not (is_running_or_blocked (thread_at k s t).place)) state
 settles-same w past now before after (Want s n) state wants = ap (λ d. not (nat_lt n d)) (wants s n refl)
-settles-same w past now before after Idle state wants = refl
-settles-same w past now before after (Block s t a io) state wants = refl
-settles-same w past now before after x state wants = refl
+settles-same w past now before after _ state wants = refl
 
 -- a life for which the test is asked
 pub set-said : (w : WorkloadView) (now : List Item) (settled : Bool) (n : Option ActNo) (f : Life → Life) (lives : ℕ → Option Life) (has : ℕ → Bool)
