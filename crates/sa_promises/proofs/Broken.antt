@@ -20,36 +20,34 @@ use Rattle.sa_promises.specs.Examples.{smallest_run, blocking, stops_at, told_do
 use Rattle.sa_promises.proofs.Plain.{before-demand, before-locks, before-turns}
 use Rattle.sa_promises.proofs.Calm.{prompt-calm, no-wants, one-share}
 use Rattle.sa_promises.proofs.Right.{◌&◌, are-right, first-right, breaks-then}
-use Rattle.sa_promises.proofs.Smallest.{v, few, right4, before-instruction}
-use Rattle.sa_promises.proofs.Steps.{is-calm, nothing-owed, unbound, in-demand, in-turn}
+use Rattle.sa_promises.proofs.Smallest.{before, smallest_programs, few, right4, before-instruction}
+use Rattle.sa_promises.proofs.Seen.{is-calm}
+use Rattle.sa_promises.proofs.OwnRules.{nothing-owed, unbound, in-demand, in-turn}
 use Rattle.sa_promises.proofs.Unlocked.{none-locked}
-
-abbrev one : List (List Instr)
-one = (End ∷ []) ∷ []
 
 -- before the event at n of the smallest run
 abbrev r : Package → ℕ → Readings
-r which n = v which one n
+r which n = before which smallest_programs n
 
 abbrev after : Package → ℕ → List Record → Readings
 after which n records = after_event (rules_of which).inside smallest (r which n) (at n records)
 
 pub breaks-Numbered : (which : Package) → FirstBreak (rules_of which) smallest other_opening (stops_at 0) 0 Numbered
-breaks-Numbered which = breaks-then 0 (Want s0 2 ∷ []) (before-instruction which one)
+breaks-Numbered which = breaks-then 0 (Want s0 2 ∷ []) (before-instruction which smallest_programs)
     (record { earlier = tt; broken = λ h. let e = ap (λ (x : Event). slice_get x.records 0) (h.opening refl) in differs e })
   where
     differs : Some (Want s0 2) ≡ Some (Want s0 1) → ⊥
     differs e = cc
 
 pub breaks-Stepwise : (which : Package) → FirstBreak (rules_of which) smallest other_place (stops_at 5) 5 Stepwise
-breaks-Stepwise which = breaks-then 5 (Ins s0 t0 1 ∷ []) (before-instruction which one) (record {
+breaks-Stepwise which = breaks-then 5 (Ins s0 t0 1 ∷ []) (before-instruction which smallest_programs) (record {
   earlier = record { number = refl; proc = omega arith; some = λ no. cc; opening = λ no. absurd (omega arith) } & tt;
   broken = λ h. let place = h.steps.0.pc in omega (arith, place);
 })
 
 pub breaks-ToldOnce : (which : Package) → FirstBreak (rules_of which) smallest told_of_nothing (stops_at 1) 1 ToldOnce
 breaks-ToldOnce which =
-    breaks-then 1 (Move None (Some s0) ∷ Up s0 (act 0) ∷ Told (Add p0) ∷ Told (Preempted (act 7)) ∷ []) (before-instruction which one) (record {
+    breaks-then 1 (Move None (Some s0) ∷ Up s0 (act 0) ∷ Told (Add p0) ∷ Told (Preempted (act 7)) ∷ []) (before-instruction which smallest_programs) (record {
       earlier =
           record { number = refl; proc = omega arith; some = λ no. cc; opening = λ no. absurd (omega arith) }
           & record { steps = ((refl, refl), (tt, (tt, (tt, tt)))) }
@@ -66,7 +64,7 @@ low zero raised = cc
 low (suc k) raised = cc
 
 pub breaks-ToldInTime : (which : Package) → FirstBreak (rules_of which) smallest stopped_untold (stops_at 5) 5 ToldInTime
-breaks-ToldInTime which = breaks-then 5 (Stop s0 (Some t0) (act 0) ∷ []) (before-instruction which one) (record {
+breaks-ToldInTime which = breaks-then 5 (Stop s0 (Some t0) (act 0) ∷ []) (before-instruction which smallest_programs) (record {
   earlier =
       record { number = refl; proc = omega arith; some = λ no. cc; opening = λ no. absurd (omega arith) }
       & record { steps = ((refl, refl), tt) }
@@ -80,7 +78,7 @@ breaks-ToldInTime which = breaks-then 5 (Stop s0 (Some t0) (act 0) ∷ []) (befo
 })
 
 pub breaks-WhereOwned : (which : Package) → FirstBreak (rules_of which) smallest two_lives (stops_at 2) 2 WhereOwned
-breaks-WhereOwned which = breaks-then 2 (Up s0 (act 1) ∷ Told (Add p0) ∷ []) (before-instruction which one) (record {
+breaks-WhereOwned which = breaks-then 2 (Up s0 (act 1) ∷ Told (Add p0) ∷ []) (before-instruction which smallest_programs) (record {
   earlier =
       record { number = refl; proc = omega arith; some = λ no. cc; opening = λ no. absurd (omega arith) }
       & record { steps = (tt, (tt, tt)) }
@@ -91,7 +89,7 @@ breaks-WhereOwned which = breaks-then 2 (Up s0 (act 1) ∷ Told (Add p0) ∷ [])
 })
 
 pub breaks-AllTold : (which : Package) → FirstBreak (rules_of which) smallest not_told_added (stops_at 1) 1 AllTold
-breaks-AllTold which = breaks-then 1 (Move None (Some s0) ∷ Up s0 (act 0) ∷ []) (before-instruction which one) (record {
+breaks-AllTold which = breaks-then 1 (Move None (Some s0) ∷ Up s0 (act 0) ∷ []) (before-instruction which smallest_programs) (record {
   earlier =
       record { number = refl; proc = omega arith; some = λ no. cc; opening = λ no. absurd (omega arith) }
       & record { steps = ((refl, refl), (tt, tt)) }
@@ -119,7 +117,7 @@ breaks-UpcallGiven which = breaks-then 5 block (before-instruction which blocks)
         );
       }
       & record { told = (tt, (tt, (tt, ((0, omega arith, refl), tt)))) }
-      & record { prompt = prompt-calm (after_event (rules_of which).inside blocking (v which blocks 5) (at 5 block)) refl }
+      & record { prompt = prompt-calm (after_event (rules_of which).inside blocking (before which blocks 5) (at 5 block)) refl }
       & record { named = (tt, (record { act = refl; space = refl }, (refl, (tt, tt)))); owned = refl }
       & record { told = (tt, (tt, (record { fresh = refl; notes = refl; some = λ no. cc }, (tt, tt)))) }
       & tt;
@@ -127,7 +125,7 @@ breaks-UpcallGiven which = breaks-then 5 block (before-instruction which blocks)
 })
 
 pub breaks-InterruptNext : (which : Package) → FirstBreak (rules_of which) smallest interrupt_put_off (stops_at 1) 1 InterruptNext
-breaks-InterruptNext which = breaks-then 1 (Tick ∷ []) (before-instruction which one) (record {
+breaks-InterruptNext which = breaks-then 1 (Tick ∷ []) (before-instruction which smallest_programs) (record {
   earlier =
       record { number = refl; proc = omega arith; some = λ no. cc; opening = λ no. absurd (omega arith) }
       & record { steps = (tt, tt) }
@@ -141,7 +139,7 @@ breaks-InterruptNext which = breaks-then 1 (Tick ∷ []) (before-instruction whi
 })
 
 pub breaks-LineCause : (which : Package) → FirstBreak (rules_of which) smallest raised_for_nothing (stops_at 2) 2 LineCause
-breaks-LineCause which = breaks-then 2 (Take s0 p0 None ∷ Line p0 ∷ []) (before-instruction which one) (record {
+breaks-LineCause which = breaks-then 2 (Take s0 p0 None ∷ Line p0 ∷ []) (before-instruction which smallest_programs) (record {
   earlier =
       record { number = refl; proc = omega arith; some = λ no. cc; opening = λ no. absurd (omega arith) }
       & record { steps = (tt, (tt, tt)) }
@@ -156,7 +154,7 @@ breaks-LineCause which = breaks-then 2 (Take s0 p0 None ∷ Line p0 ∷ []) (bef
 })
 
 pub breaks-WantCause : (which : Package) → FirstBreak (rules_of which) smallest wanted_for_nothing (stops_at 2) 2 WantCause
-breaks-WantCause which = breaks-then 2 (Take s0 p0 None ∷ Want s0 1 ∷ []) (before-instruction which one) (record {
+breaks-WantCause which = breaks-then 2 (Take s0 p0 None ∷ Want s0 1 ∷ []) (before-instruction which smallest_programs) (record {
   earlier =
       record { number = refl; proc = omega arith; some = λ no. cc; opening = λ no. absurd (omega arith) }
       & record { steps = (tt, (tt, tt)) }
@@ -172,7 +170,7 @@ breaks-WantCause which = breaks-then 2 (Take s0 p0 None ∷ Want s0 1 ∷ []) (b
 })
 
 pub breaks-SharesCovered : (which : Package) → FirstBreak (rules_of which) smallest aimed_for_nothing (stops_at 2) 2 SharesCovered
-breaks-SharesCovered which = breaks-then 2 (Take s0 p0 None ∷ Aim p0 (Some s0) ∷ Line p0 ∷ []) (before-instruction which one) (record {
+breaks-SharesCovered which = breaks-then 2 (Take s0 p0 None ∷ Aim p0 (Some s0) ∷ Line p0 ∷ []) (before-instruction which smallest_programs) (record {
   earlier =
       record { number = refl; proc = omega arith; some = λ no. cc; opening = λ no. absurd (omega arith) }
       & record { steps = (tt, (tt, (tt, tt))) }
@@ -200,7 +198,7 @@ idles-with-lock Prio h = elim ((h.demand_announced.step (omega arith)).free refl
 ]
 
 pub breaks-DemandAnnounced : (which : Package) → FirstBreak (rules_of which) smallest idle_with_lock (stops_at 3) 3 DemandAnnounced
-breaks-DemandAnnounced which = breaks-then 3 (Idle ∷ []) (before-instruction which one) (record {
+breaks-DemandAnnounced which = breaks-then 3 (Idle ∷ []) (before-instruction which smallest_programs) (record {
   earlier = before-demand (rules_of which) smallest (r which 3) 3 p0 Idle (Some (stops_at 3)) refl (is-calm refl one-share (tt, tt));
   broken = idles-with-lock which;
 })
@@ -208,7 +206,7 @@ breaks-DemandAnnounced which = breaks-then 3 (Idle ∷ []) (before-instruction w
 -- the list is open
 unlocked : (which : Package) → IsLocked (event_begun smallest (at 2 (Idle ∷ [])) (r which 2)) s0 p0 → ⊥
 unlocked which =
-    none-locked {r = event_begun smallest (at 2 (Idle ∷ [])) (r which 2)} (record { few = few which one 2; zeroth = refl; first = refl })
+    none-locked {r = event_begun smallest (at 2 (Idle ∷ [])) (r which 2)} (record { few = few which smallest_programs 2; zeroth = refl; first = refl })
 
 idles-beside-thread : (which : Package) → Holds (rules_of which) smallest TurnsTaken (r which 2) (at 2 (Idle ∷ [])) None → ⊥
 idles-beside-thread Fast h = unlocked Fast ((h.turn (omega arith)).1.finds.none.locked p0 refl)
@@ -217,7 +215,7 @@ idles-beside-thread Prio h = unlocked Prio ((h.turn (omega arith)).1.finds.none 
 pub breaks-TurnsTaken : (which : Package) → FirstBreak (rules_of which) smallest idle_beside_thread (stops_at 2) 2 TurnsTaken
 breaks-TurnsTaken which =
     let allowed = nothing-owed smallest (r which 2) Idle (life_on (r which 2) p0) s0 [] None refl refl in
-    breaks-then 2 (Idle ∷ []) (before-instruction which one) (record {
+    breaks-then 2 (Idle ∷ []) (before-instruction which smallest_programs) (record {
       earlier = before-turns (rules_of which) smallest (r which 2) 2 p0 Idle (Some (stops_at 2)) refl (is-calm refl one-share (tt, tt))
           (in-demand which _ _ _ (λ _. allowed.free) (λ _. allowed.unurged));
       broken = idles-beside-thread which;
@@ -230,7 +228,7 @@ frees-unused Prio h = false≢true (h.step (omega arith)).0.keeps.used
 pub breaks-LocksKept : (which : Package) → FirstBreak (rules_of which) smallest freed_unused (stops_at 3) 3 LocksKept
 breaks-LocksKept which =
     let allowed = unbound smallest (r which 3) (Free s0 p0 None) (life_on (r which 3) p0) _ refl (λ life same. refl) in
-    breaks-then 3 (Free s0 p0 None ∷ []) (before-instruction which one) (record {
+    breaks-then 3 (Free s0 p0 None ∷ []) (before-instruction which smallest_programs) (record {
       earlier = before-locks (rules_of which) smallest (r which 3) 3 p0 (Free s0 p0 None) (Some (stops_at 3)) refl (is-calm refl one-share (tt, tt))
           (in-demand which _ _ _ (λ _. allowed.free) (λ _. allowed.unurged)) (in-turn which (λ _ _ _ _ _ step. step) refl);
       broken = frees-unused which;
@@ -239,7 +237,7 @@ breaks-LocksKept which =
 pub breaks-EndTold : (which : Package) → FirstBreak (rules_of which) smallest not_done told_done 4 EndTold
 breaks-EndTold which =
     let last = at 4 (Free s0 p0 (Some t0) ∷ []) in
-    break-behind (rules_of which) smallest (take 4 smallest_run) last told_done EndTold (are-right (first-right 4 (before-instruction which one))) (record {
-      earlier = laws-hold (rules_of which) smallest (r which 4) last (Some told_done) (right4 which one).lawful;
+    break-behind (rules_of which) smallest (take 4 smallest_run) last told_done EndTold (are-right (first-right 4 (before-instruction which smallest_programs))) (record {
+      earlier = laws-hold (rules_of which) smallest (r which 4) last (Some told_done) (right4 which smallest_programs).lawful;
       broken = λ h. let done = h.1 in cc;
     })

@@ -18,13 +18,13 @@ use Rattle.sa_promises.proofs.Unlocked.{AreFew, few-along}
 use Rattle.sa_promises.proofs.Smallest.{before-instruction, takes0}
 use Rattle.sa_promises.proofs.Steps.{up-to-order, frees, run-but-order, readies, takes_for_push, takes_for_pop, goes}
 
-abbrev v : Package → ℕ → Readings
-v which n = after_events (rules_of which).inside forking (opening_readings forking) (take n forking_run)
+abbrev before : Package → ℕ → Readings
+before which n = after_events (rules_of which).inside forking (opening_readings forking) (take n forking_run)
 
 abbrev Right : Package → ℕ → Event → Type 0
-Right which n e = IsRight (rules_of which) forking (v which n) e
+Right which n e = IsRight (rules_of which) forking (before which n) e
 
-few : (which : Package) (n : ℕ) → AreFew (v which n).lives
+few : (which : Package) (n : ℕ) → AreFew (before which n).lives
 few which n = few-along (rules_of which).inside forking (opening_readings forking) n forking_run refl (record { others = λ a high. refl })
 
 right5 : (which : Package) → Right which 5 (at 5 (Ins s0 t0 0 ∷ []))
@@ -58,7 +58,7 @@ right14 : (which : Package) → Right which 14 (at 14 (Take s0 p0 None ∷ []))
 right14 which =
     takes_for_pop which one-share refl refl refl refl (takes0 which (forking_program ∷ [])) (record { few = few which 14; zeroth = refl; first = refl }) refl
 
-run-right : (which : Package) → RightAlong (rules_of which) forking (v which 0) forking_run
+run-right : (which : Package) → RightAlong (rules_of which) forking (before which 0) forking_run
 run-right which =
     and-then (before-instruction which (forking_program ∷ []))
     (right5 which ► right6 which ► right7 which ► right8 which ► right9 which ► right10 which ► right11 which ► right12 which ► right13 which ► right14 which ► over)
@@ -67,7 +67,7 @@ apart21 : Some t2 ≡ Some t1 → ⊥
 apart21 e = let same = ap (λ (t : ThreadNo). t.0) (same_Some t2 t1 e) in omega (arith, same)
 
 -- by either order the newer one is next
-no-order : (which : Package) → Holds (rules_of which) forking OrderKept (v which 15) (at 15 (Run s0 t1 ∷ [])) None → ⊥
+no-order : (which : Package) → Holds (rules_of which) forking OrderKept (before which 15) (at 15 (Run s0 t1 ∷ [])) None → ⊥
 no-order Fast h = apart21 h.run
 no-order Prio h = apart21 h.run
 

@@ -9,7 +9,7 @@
 -- Calm: what holds at the moments of a run of one space where nothing is untold.
 -- Plain: what the kernel's rules ask of a step of one record in a calm moment.
 -- Right: runs that are right, and the event that breaks a rule first. Unlocked: who has which lock where few lives are.
--- Steps: an event of one record by either package's rules. RankedSteps: what is thread priorities' own.
+-- Seen, OwnRules, Steps: an event of one record by either package's rules. RankedSteps: what is thread priorities' own.
 -- Smallest, Broken, Forking: the smallest run is legal, and for each rule a history breaks it first; list order is broken in a run
 -- that forks two threads.
 -- Urging, Racing: thread priorities' own rules, on one processor and on two.
@@ -24,6 +24,8 @@ pub mod Calm
 pub mod Plain
 pub mod Right
 pub mod Unlocked
+pub mod Seen
+pub mod OwnRules
 pub mod Steps
 pub mod RankedSteps
 pub mod Smallest

@@ -23,7 +23,8 @@ use Rattle.sa_promises.proofs.Plain.{before-demand}
 use Rattle.sa_promises.proofs.Calm.{prompt-calm, no-wants, no-shares}
 use Rattle.sa_promises.proofs.Right.{IsRight, RightAlong, over, ◌►◌, lawfully, breaks-then}
 use Rattle.sa_promises.proofs.Unlocked.{AreFew, few-along}
-use Rattle.sa_promises.proofs.Steps.{is-calm, up-to-order, with-order, frees, run-but-order, readies, takes_for_push, takes_for_pop, goes}
+use Rattle.sa_promises.proofs.Seen.{is-calm}
+use Rattle.sa_promises.proofs.Steps.{up-to-order, with-order, frees, run-but-order, readies, takes_for_push, takes_for_pop, goes}
 use Rattle.sa_promises.proofs.RankedSteps.{gives_way, back-but-turns, before-line}
 
 apart10 : Some t1 ≡ Some t0 → ⊥
@@ -38,30 +39,30 @@ share2 : (k : ℕ) → slice_index (2 ∷ replicate 15 0) k ≤ 0 + (if 0 == k t
 share2 zero = omega arith
 share2 (suc k) = let e : slice_index (replicate 15 0) k ≡ 0 = no-shares 15 k in omega (arith, e)
 
-abbrev v0 : Readings
-v0 = opening_readings racing
+abbrev start : Readings
+start = opening_readings racing
 
-abbrev v : ℕ → Readings
-v n = after_events is_inside_or_urged racing v0 (take n racing_run)
+abbrev before : ℕ → Readings
+before n = after_events is_inside_or_urged racing start (take n racing_run)
 
 abbrev Right : ℕ → Event → Type 0
-Right n e = IsRight prio_threads racing (v n) e
+Right n e = IsRight prio_threads racing (before n) e
 
-few : (n : ℕ) → AreFew (v n).lives
-few n = few-along is_inside_or_urged racing v0 n racing_run refl (record { others = λ a high. refl })
+few : (n : ℕ) → AreFew (before n).lives
+few n = few-along is_inside_or_urged racing start n racing_run refl (record { others = λ a high. refl })
 
-lawful0 : IsLawful prio_threads racing (v 0) (at 0 (Want s0 1 ∷ Aim p0 (Some s0) ∷ Line p0 ∷ []))
+lawful0 : IsLawful prio_threads racing (before 0) (at 0 (Want s0 1 ∷ Aim p0 (Some s0) ∷ Line p0 ∷ []))
 lawful0 = record {
   numbered = record { number = refl; proc = omega arith; some = λ no. cc; opening = λ _. refl };
   stepwise = record { steps = (tt, (tt, (tt, tt))) };
   told_once = record { told = (tt, (tt, (tt, tt))) };
-  told_in_time = record { prompt = prompt-calm (v 1) refl };
+  told_in_time = record { prompt = prompt-calm (before 1) refl };
   where_owned = record { named = (tt, (tt, (tt, tt))); owned = refl };
   all_told = record { told = (tt, (tt, (tt, tt))) };
   upcall_given = record { blocks = (tt, (tt, (tt, tt))) };
   interrupt_next = record { interrupt = λ no. absurd (false≢true no); calm = λ no. absurd no };
   line_cause = record { heard = (tt, (record { line = λ _. refl }, (refl, tt))); first = tt; order = refl; due = refl };
-  want_cause = record { due = λ no. absurd (omega arith); none = no-wants (v 1) refl };
+  want_cause = record { due = λ no. absurd (omega arith); none = no-wants (before 1) refl };
   shares_covered = record { covered = share1; due = refl };
   demand_announced = record { demand_announced = record { step = λ no. absurd (omega arith) }; step = λ no. absurd (omega arith) };
   turns_taken = record { turn = λ no. absurd (omega arith); closing = λ no. absurd (omega arith) };
@@ -69,18 +70,18 @@ lawful0 = record {
   order_kept = record { run = tt };
 }
 
-lawful1 : IsLawful prio_threads racing (v 1) (at 1 (Move None (Some s0) ∷ Up s0 (act 0) ∷ Told (Add p0) ∷ []))
+lawful1 : IsLawful prio_threads racing (before 1) (at 1 (Move None (Some s0) ∷ Up s0 (act 0) ∷ Told (Add p0) ∷ []))
 lawful1 = record {
   numbered = record { number = refl; proc = omega arith; some = λ no. cc; opening = λ no. absurd (omega arith) };
   stepwise = record { steps = ((refl, refl), (tt, (tt, tt))) };
   told_once = record { told = (tt, (tt, (tt, tt))) };
-  told_in_time = record { prompt = prompt-calm (v 2) refl };
+  told_in_time = record { prompt = prompt-calm (before 2) refl };
   where_owned = record { named = (tt, (refl, (tt, tt))); owned = refl };
   all_told = record { told = (tt, (record { fresh = refl; notes = refl; some = λ no. cc }, (tt, tt))) };
   upcall_given = record { blocks = (tt, (tt, (tt, tt))) };
   interrupt_next = record { interrupt = λ _. (refl, refl, refl); calm = λ _. refl };
   line_cause = record { heard = (tt, (tt, (tt, tt))); first = tt; order = refl; due = refl };
-  want_cause = record { due = λ _. refl; none = no-wants (v 2) refl };
+  want_cause = record { due = λ _. refl; none = no-wants (before 2) refl };
   shares_covered = record { covered = share1; due = refl };
   demand_announced = record { demand_announced = record { step = λ _. tt }; step = λ _. tt };
   turns_taken = record { turn = λ _. tt; closing = λ _. tt };
@@ -88,18 +89,18 @@ lawful1 = record {
   order_kept = record { run = tt };
 }
 
-lawful9 : IsLawful prio_threads racing (v 9) (at 9 (Want s0 2 ∷ Aim p1 (Some s0) ∷ Line p1 ∷ []))
+lawful9 : IsLawful prio_threads racing (before 9) (at 9 (Want s0 2 ∷ Aim p1 (Some s0) ∷ Line p1 ∷ []))
 lawful9 = record {
   numbered = record { number = refl; proc = omega arith; some = λ no. cc; opening = λ no. absurd (omega arith) };
   stepwise = record { steps = (tt, (tt, (tt, tt))) };
   told_once = record { told = (tt, (tt, (tt, tt))) };
-  told_in_time = record { prompt = prompt-calm (v 10) refl };
+  told_in_time = record { prompt = prompt-calm (before 10) refl };
   where_owned = record { named = (tt, (tt, (tt, tt))); owned = refl };
   all_told = record { told = (tt, (tt, (tt, tt))) };
   upcall_given = record { blocks = (tt, (tt, (tt, tt))) };
   interrupt_next = record { interrupt = λ no. absurd (false≢true no); calm = λ no. absurd no };
   line_cause = record { heard = (tt, (record { line = λ _. refl }, (refl, tt))); first = tt; order = refl; due = refl };
-  want_cause = record { due = λ _. refl; none = no-wants (v 10) refl };
+  want_cause = record { due = λ _. refl; none = no-wants (before 10) refl };
   shares_covered = record { covered = share2; due = refl };
   demand_announced = record {
     demand_announced = record { step = λ _. record { free = λ no. absurd (false≢true no) } };
@@ -113,18 +114,18 @@ lawful9 = record {
   order_kept = record { run = tt };
 }
 
-lawful17 : IsLawful prio_threads racing (v 17) (at1 17 (Move None (Some s0) ∷ Up s0 (act 1) ∷ Told (Add p1) ∷ []))
+lawful17 : IsLawful prio_threads racing (before 17) (at1 17 (Move None (Some s0) ∷ Up s0 (act 1) ∷ Told (Add p1) ∷ []))
 lawful17 = record {
   numbered = record { number = refl; proc = omega arith; some = λ no. cc; opening = λ no. absurd (omega arith) };
   stepwise = record { steps = ((refl, refl), (tt, (tt, tt))) };
   told_once = record { told = (tt, (tt, (tt, tt))) };
-  told_in_time = record { prompt = prompt-calm (v 18) refl };
+  told_in_time = record { prompt = prompt-calm (before 18) refl };
   where_owned = record { named = (tt, (refl, (tt, tt))); owned = refl };
   all_told = record { told = (tt, (record { fresh = refl; notes = refl; some = λ no. cc }, (tt, tt))) };
   upcall_given = record { blocks = (tt, (tt, (tt, tt))) };
   interrupt_next = record { interrupt = λ _. (refl, refl, refl); calm = λ _. refl };
   line_cause = record { heard = (tt, (tt, (tt, tt))); first = tt; order = refl; due = refl };
-  want_cause = record { due = λ _. refl; none = no-wants (v 18) refl };
+  want_cause = record { due = λ _. refl; none = no-wants (before 18) refl };
   shares_covered = record { covered = share2; due = refl };
   demand_announced = record { demand_announced = record { step = λ _. tt }; step = λ _. tt };
   turns_taken = record { turn = λ _. tt; closing = λ _. tt };
@@ -210,7 +211,7 @@ right23 = readies Prio share2 refl refl ((refl, inr refl), tt) refl refl (record
 right24 : Right 24 (at 24 (Free s0 p0 (Some t1) ∷ []))
 right24 = frees Prio share2 refl refl refl
 
-race : RightAlong prio_threads racing v0 racing_run
+race : RightAlong prio_threads racing start racing_run
 race =
     right0 ► right1 ► right2 ► right3 ► right4 ► right5 ► right6 ► right7 ► right8 ► right9 ► right10 ► right11
     ► right12 ► right13 ► right14 ► right15 ► right16 ► right17 ► right18 ► right19 ► right20 ► right21 ► right22 ► right23
@@ -235,7 +236,7 @@ breaks-back_alone = breaks-then 21 (Back s0 (Some t1) ∷ []) race
 
 pub breaks-pair_unserved : FirstBreak prio_threads racing pair_unserved (stops_at 25) 25 DemandAnnounced
 breaks-pair_unserved = breaks-then 25 (Ins s0 t1 1 ∷ []) race (record {
-  earlier = before-demand prio_threads racing (v 25) 25 p0 (Ins s0 t1 1) (Some (stops_at 25)) refl
+  earlier = before-demand prio_threads racing (before 25) 25 p0 (Ins s0 t1 1) (Some (stops_at 25)) refl
       (is-calm refl share2 (record { owned = refl; runs = refl; pc = refl; within = omega arith; page = tt }, tt));
   broken = λ h. elim ((h.step (omega arith)).unurged refl) [ inl out ↦ true≢false out | inr none ↦ true≢false none ];
 })

@@ -28,7 +28,9 @@ use Rattle.sa_promises.specs.Packages.{Prio}
 use Rattle.sa_promises.proofs.Plain.{alone, before-turns}
 use Rattle.sa_promises.proofs.Calm.{prompt-calm}
 use Rattle.sa_promises.proofs.Right.{IsRight, ◌&◌}
-use Rattle.sa_promises.proofs.Steps.{Stand, stand, stands, standing, Covers, SeemsCalm, is-calm, unbound, in-demand, with-order}
+use Rattle.sa_promises.proofs.Seen.{Covers, SeemsCalm, is-calm}
+use Rattle.sa_promises.proofs.OwnRules.{Stand, stand, stands, standing, unbound, in-demand}
+use Rattle.sa_promises.proofs.Steps.{with-order}
 
 abbrev GivesWayIn : WorkloadView → Readings → Event → Type 0
 GivesWayIn w r e = IsTurn IsRankedStep (is_some (line_of r e.proc)) e.number w (event_begun w e r) e.proc e.records
