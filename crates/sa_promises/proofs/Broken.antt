@@ -1,340 +1,243 @@
--- For each rule a history that breaks it first.
-use Rattle.std.proofs.Common.{◌≡◌, ℕ, zero, suc, inl, inr, refl, ap, arith, Some, None, List, [], ◌∷◌, length, true, false}
+-- For each rule a history that breaks it first, by either package's rules.
+use Rattle.std.proofs.Common.{◌≡◌, ℕ, zero, suc, inl, inr, refl, ap, arith, Some, None, List, [], ◌∷◌, length, take, true}
 use Rattle.std.proofs.lemmas.Bool.{false≢true, true≢false}
 use Rattle.std.specs.Prelude.{slice_get, slice_index_or, is_some, Option}
-use Rattle.std.specs.List.{list_all}
 use Rattle.sa_base.specs.declared.record.Note.TheVariants.{Add, Preempted, Blocked}
+use Rattle.sa_base.specs.declared.record.Record.{Record}
 use Rattle.sa_base.specs.declared.record.Record.TheVariants.{Ins, Stop, Block, Take, Free, Up, Told, Move, Want, Aim, Line, Idle, Tick}
 use Rattle.sa_instr.specs.declared.instr.Instr.{Instr}
 use Rattle.sa_instr.specs.declared.instr.Instr.TheVariants.{Io as IoOf, End}
 use Rattle.sa_laws.specs.declared.rule.Rule.TheVariants.{Numbered, Stepwise, ToldOnce, ToldInTime, WhereOwned, AllTold, UpcallGiven, InterruptNext, LineCause, WantCause, SharesCovered, DemandAnnounced, TurnsTaken, LocksKept, EndTold}
 use Rattle.sa_laws.specs.Event.{Event}
-use Rattle.sa_laws.specs.Readings.{Readings}
-use Rattle.sa_laws.specs.Ends.{GoesOn, are_done, are_at_rest}
-use Rattle.sa_laws.specs.Rules.{fast_threads, HoldEach, rules}
+use Rattle.sa_laws.specs.Readings.{Readings, IsLocked, life_on}
+use Rattle.sa_laws.specs.History.{after_event, event_begun}
+use Rattle.sa_laws.specs.Rules.{Holds}
 use Rattle.sa_laws.specs.Legal.{FirstBreak}
-use Rattle.sa_histories.specs.Lawful.{AreRight}
-use Rattle.sa_histories.specs.Short.{workload_with, smallest, at, s0, p0, t0, act}
-use Rattle.sa_promises.specs.Examples.{blocking, stops_at, told_done, other_opening, other_place, told_of_nothing, stopped_untold, two_lives, not_told_added, other_io, interrupt_put_off, raised_for_nothing, wanted_for_nothing, aimed_for_nothing, idle_with_lock, idle_beside_thread, freed_unused, not_done}
+use Rattle.sa_histories.specs.Short.{smallest, at, s0, p0, t0, act}
+use Rattle.sa_histories.proofs.Legality.{laws-hold, break-behind}
+use Rattle.sa_promises.specs.Packages.{Package, Fast, Prio, rules_of}
+use Rattle.sa_promises.specs.Examples.{smallest_run, blocking, stops_at, told_done, other_opening, other_place, told_of_nothing, stopped_untold, two_lives, not_told_added, other_io, interrupt_put_off, raised_for_nothing, wanted_for_nothing, aimed_for_nothing, idle_with_lock, idle_beside_thread, freed_unused, not_done}
 use Rattle.sa_promises.proofs.Plain.{before-demand, before-locks, before-turns}
 use Rattle.sa_promises.proofs.Calm.{prompt-calm, no-wants, one-share}
-use Rattle.sa_promises.proofs.Smallest.{e0, e1, e2, e3, e4, r0, r1, r2, r3, r4, r5, next, lawful0, lawful1, lawful2, lawful3, lawful4, unlocked2}
-use Rattle.sa_histories.proofs.Legality.{laws-hold, with-end, break-behind}
+use Rattle.sa_promises.proofs.Right.{◌&◌, are-right, first-right, breaks-then}
+use Rattle.sa_promises.proofs.Smallest.{before, smallest_programs, few, right4, before-instruction}
+use Rattle.sa_promises.proofs.Seen.{is-calm}
+use Rattle.sa_promises.proofs.OwnRules.{nothing-owed, unbound, in-demand, in-turn}
+use Rattle.sa_promises.proofs.Unlocked.{none-locked}
 
--- while thread 0 is ready or runs, the run goes on
-pub goes-on : (r : Readings) → list_all are_done r.state.spaces ≡ false → list_all are_at_rest r.state.spaces ≡ false → GoesOn r
-goes-on r done rest = record { done = λ no. cc; stuck = λ no. let h = no.rest in cc }
+-- before the event at n of the smallest run
+abbrev r : Package → ℕ → Readings
+r which n = before which smallest_programs n
 
-pub right0 : (g : List Instr) → HoldEach fast_threads (workload_with g) rules (r0 g) e0 None
-right0 g = with-end fast_threads (workload_with g) (r0 g) e0 None (lawful0 g) (goes-on (r1 g) refl refl)
+abbrev after : Package → ℕ → List Record → Readings
+after which n records = after_event (rules_of which).inside smallest (r which n) (at n records)
 
-pub right1 : (g : List Instr) → HoldEach fast_threads (workload_with g) rules (r1 g) e1 None
-right1 g = with-end fast_threads (workload_with g) (r1 g) e1 None (lawful1 g) (goes-on (r2 g) refl refl)
-
-pub right2 : (g : List Instr) → HoldEach fast_threads (workload_with g) rules (r2 g) e2 None
-right2 g = with-end fast_threads (workload_with g) (r2 g) e2 None (lawful2 g) (goes-on (r3 g) refl refl)
-
-pub right3 : (g : List Instr) → HoldEach fast_threads (workload_with g) rules (r3 g) e3 None
-right3 g = with-end fast_threads (workload_with g) (r3 g) e3 None (lawful3 g) (goes-on (r4 g) refl refl)
-
-pub right4 : (g : List Instr) → HoldEach fast_threads (workload_with g) rules (r4 g) e4 None
-right4 g = with-end fast_threads (workload_with g) (r4 g) e4 None (lawful4 g) (goes-on (r5 g) refl refl)
-
--- the events before the one at 1, 2, 3, 4, 5
-before1 : (g : List Instr) → AreRight fast_threads (workload_with g) (r0 g) (e0 ∷ [])
-before1 g = (right0 g, tt)
-
-before2 : (g : List Instr) → AreRight fast_threads (workload_with g) (r0 g) (e0 ∷ e1 ∷ [])
-before2 g = (right0 g, (right1 g, tt))
-
-before3 : (g : List Instr) → AreRight fast_threads (workload_with g) (r0 g) (e0 ∷ e1 ∷ e2 ∷ [])
-before3 g = (right0 g, (right1 g, (right2 g, tt)))
-
-before4 : (g : List Instr) → AreRight fast_threads (workload_with g) (r0 g) (e0 ∷ e1 ∷ e2 ∷ e3 ∷ [])
-before4 g = (right0 g, (right1 g, (right2 g, (right3 g, tt))))
-
-before5 : (g : List Instr) → AreRight fast_threads (workload_with g) (r0 g) (e0 ∷ e1 ∷ e2 ∷ e3 ∷ e4 ∷ [])
-before5 g = (right0 g, (right1 g, (right2 g, (right3 g, (right4 g, tt)))))
-
-abbrev one : List Instr
-one = End ∷ []
-
--- no line is raised
-abbrev pub low_lines : List (Option ℕ)
-low_lines = None ∷ []
-
-pub low : (k : ℕ) → is_some (slice_index_or low_lines k None) ≡ true → ⊥
-low zero raised = cc
-low (suc k) raised = cc
-
-pub breaks-Numbered : FirstBreak fast_threads smallest other_opening (stops_at 0) 0 Numbered
-breaks-Numbered = break-behind fast_threads smallest [] _ (stops_at 0) Numbered tt
+pub breaks-Numbered : (which : Package) → FirstBreak (rules_of which) smallest other_opening (stops_at 0) 0 Numbered
+breaks-Numbered which = breaks-then 0 (Want s0 2 ∷ []) (before-instruction which smallest_programs)
     (record { earlier = tt; broken = λ h. let e = ap (λ (x : Event). slice_get x.records 0) (h.opening refl) in differs e })
   where
     differs : Some (Want s0 2) ≡ Some (Want s0 1) → ⊥
     differs e = cc
 
-pub breaks-Stepwise : FirstBreak fast_threads smallest other_place (stops_at 5) 5 Stepwise
-breaks-Stepwise = break-behind fast_threads smallest (e0 ∷ e1 ∷ e2 ∷ e3 ∷ e4 ∷ []) (at 5 (Ins s0 t0 1 ∷ [])) (stops_at 5) Stepwise (before5 one)
-    (record {
-      earlier = (
-        record { number = refl; proc = omega arith; some = λ no. cc; opening = λ no. absurd (omega arith) },
-        tt,
-      );
-      broken = λ h. let place = h.steps.0.pc in omega (arith, place);
-    })
+pub breaks-Stepwise : (which : Package) → FirstBreak (rules_of which) smallest other_place (stops_at 5) 5 Stepwise
+breaks-Stepwise which = breaks-then 5 (Ins s0 t0 1 ∷ []) (before-instruction which smallest_programs) (record {
+  earlier = record { number = refl; proc = omega arith; some = λ no. cc; opening = λ no. absurd (omega arith) } & tt;
+  broken = λ h. let place = h.steps.0.pc in omega (arith, place);
+})
 
-pub breaks-ToldOnce : FirstBreak fast_threads smallest told_of_nothing (stops_at 1) 1 ToldOnce
-breaks-ToldOnce =
-    break-behind fast_threads smallest (e0 ∷ []) (at 1 (Move None (Some s0) ∷ Up s0 (act 0) ∷ Told (Add p0) ∷ Told (Preempted (act 7)) ∷ []))
-    (stops_at 1) ToldOnce (before1 one)
-    (record {
-      earlier = (
-        record { number = refl; proc = omega arith; some = λ no. cc; opening = λ no. absurd (omega arith) },
-        (record { steps = ((refl, refl), (tt, (tt, (tt, tt)))) }, tt),
-      );
+pub breaks-ToldOnce : (which : Package) → FirstBreak (rules_of which) smallest told_of_nothing (stops_at 1) 1 ToldOnce
+breaks-ToldOnce which =
+    breaks-then 1 (Move None (Some s0) ∷ Up s0 (act 0) ∷ Told (Add p0) ∷ Told (Preempted (act 7)) ∷ []) (before-instruction which smallest_programs) (record {
+      earlier =
+          record { number = refl; proc = omega arith; some = λ no. cc; opening = λ no. absurd (omega arith) }
+          & record { steps = ((refl, refl), (tt, (tt, (tt, tt)))) }
+          & tt;
       broken = λ h. let has = h.told.1.1.1.0 in omega (arith, has.1);
     })
 
-pub breaks-ToldInTime : FirstBreak fast_threads smallest stopped_untold (stops_at 5) 5 ToldInTime
-breaks-ToldInTime = break-behind fast_threads smallest (e0 ∷ e1 ∷ e2 ∷ e3 ∷ e4 ∷ []) (at 5 (Stop s0 (Some t0) (act 0) ∷ []))
-    (stops_at 5) ToldInTime (before5 one)
-    (record {
-      earlier = (
-        record { number = refl; proc = omega arith; some = λ no. cc; opening = λ no. absurd (omega arith) },
-        (
-          record { steps = ((refl, refl), tt) },
-          (record { told = (tt, tt) }, tt),
-        ),
-      );
-      broken = λ h. elim (h.prompt.each s0 (λ no. cc)) [
-        | inl none ↦ none p0 refl
-        | inr (inl fetching) ↦ cc
-        | inr (inr raised) ↦ low raised.0.0 raised.2
-      ];
+-- no line is raised
+abbrev low_lines : List (Option ℕ)
+low_lines = None ∷ []
+
+low : (k : ℕ) → is_some (slice_index_or low_lines k None) ≡ true → ⊥
+low zero raised = cc
+low (suc k) raised = cc
+
+pub breaks-ToldInTime : (which : Package) → FirstBreak (rules_of which) smallest stopped_untold (stops_at 5) 5 ToldInTime
+breaks-ToldInTime which = breaks-then 5 (Stop s0 (Some t0) (act 0) ∷ []) (before-instruction which smallest_programs) (record {
+  earlier =
+      record { number = refl; proc = omega arith; some = λ no. cc; opening = λ no. absurd (omega arith) }
+      & record { steps = ((refl, refl), tt) }
+      & record { told = (tt, tt) }
+      & tt;
+  broken = λ h. elim (h.prompt.each s0 (λ no. cc)) [
+    | inl none ↦ none p0 refl
+    | inr (inl fetching) ↦ cc
+    | inr (inr raised) ↦ low raised.0.0 raised.2
+  ];
+})
+
+pub breaks-WhereOwned : (which : Package) → FirstBreak (rules_of which) smallest two_lives (stops_at 2) 2 WhereOwned
+breaks-WhereOwned which = breaks-then 2 (Up s0 (act 1) ∷ Told (Add p0) ∷ []) (before-instruction which smallest_programs) (record {
+  earlier =
+      record { number = refl; proc = omega arith; some = λ no. cc; opening = λ no. absurd (omega arith) }
+      & record { steps = (tt, (tt, tt)) }
+      & record { told = (tt, (tt, tt)) }
+      & record { prompt = prompt-calm (after which 2 (Up s0 (act 1) ∷ Told (Add p0) ∷ [])) refl }
+      & tt;
+  broken = λ h. let no : Some (act 0) ≡ None = h.named.0 in cc;
+})
+
+pub breaks-AllTold : (which : Package) → FirstBreak (rules_of which) smallest not_told_added (stops_at 1) 1 AllTold
+breaks-AllTold which = breaks-then 1 (Move None (Some s0) ∷ Up s0 (act 0) ∷ []) (before-instruction which smallest_programs) (record {
+  earlier =
+      record { number = refl; proc = omega arith; some = λ no. cc; opening = λ no. absurd (omega arith) }
+      & record { steps = ((refl, refl), (tt, tt)) }
+      & record { told = (tt, (tt, tt)) }
+      & record { prompt = prompt-calm (after which 1 (Move None (Some s0) ∷ Up s0 (act 0) ∷ [])) refl }
+      & record { named = (tt, (refl, tt)); owned = refl }
+      & tt;
+  broken = λ h. h.told.1.0.some refl;
+})
+
+abbrev block : List Record
+block = Ins s0 t0 0 ∷ Block s0 (Some t0) (act 0) (record { 0 = 1 }) ∷ Up s0 (act 1) ∷ Told (Blocked (act 0)) ∷ []
+
+abbrev blocks : List (List Instr)
+blocks = (IoOf 2 ∷ End ∷ []) ∷ []
+
+pub breaks-UpcallGiven : (which : Package) → FirstBreak (rules_of which) blocking other_io (stops_at 5) 5 UpcallGiven
+breaks-UpcallGiven which = breaks-then 5 block (before-instruction which blocks) (record {
+  earlier =
+      record { number = refl; proc = omega arith; some = λ no. cc; opening = λ no. absurd (omega arith) }
+      & record {
+        steps = (
+          record { owned = refl; runs = refl; pc = refl; within = omega arith; page = tt },
+          (record { owned = refl; runs = refl; cause = inl refl }, (tt, (tt, tt))),
+        );
+      }
+      & record { told = (tt, (tt, (tt, ((0, omega arith, refl), tt)))) }
+      & record { prompt = prompt-calm (after_event (rules_of which).inside blocking (before which blocks 5) (at 5 block)) refl }
+      & record { named = (tt, (record { act = refl; space = refl }, (refl, (tt, tt)))); owned = refl }
+      & record { told = (tt, (tt, (record { fresh = refl; notes = refl; some = λ no. cc }, (tt, tt)))) }
+      & tt;
+  broken = λ h. let number = h.blocks.1.0.number in omega (arith, number);
+})
+
+pub breaks-InterruptNext : (which : Package) → FirstBreak (rules_of which) smallest interrupt_put_off (stops_at 1) 1 InterruptNext
+breaks-InterruptNext which = breaks-then 1 (Tick ∷ []) (before-instruction which smallest_programs) (record {
+  earlier =
+      record { number = refl; proc = omega arith; some = λ no. cc; opening = λ no. absurd (omega arith) }
+      & record { steps = (tt, tt) }
+      & record { told = (tt, tt) }
+      & record { prompt = prompt-calm (after which 1 (Tick ∷ [])) refl }
+      & record { named = (tt, tt); owned = refl }
+      & record { told = (tt, tt) }
+      & record { blocks = (tt, tt) }
+      & tt;
+  broken = λ h. h.interrupt refl;
+})
+
+pub breaks-LineCause : (which : Package) → FirstBreak (rules_of which) smallest raised_for_nothing (stops_at 2) 2 LineCause
+breaks-LineCause which = breaks-then 2 (Take s0 p0 None ∷ Line p0 ∷ []) (before-instruction which smallest_programs) (record {
+  earlier =
+      record { number = refl; proc = omega arith; some = λ no. cc; opening = λ no. absurd (omega arith) }
+      & record { steps = (tt, (tt, tt)) }
+      & record { told = (tt, (tt, tt)) }
+      & record { prompt = prompt-calm (after which 2 (Take s0 p0 None ∷ Line p0 ∷ [])) refl }
+      & record { named = (tt, (tt, tt)); owned = refl }
+      & record { told = (tt, (tt, tt)) }
+      & record { blocks = (tt, (tt, tt)) }
+      & record { interrupt = λ no. absurd (false≢true no); calm = λ no. absurd no }
+      & tt;
+  broken = λ h. let due : Line p0 ∷ [] ≡ [] = h.due in cc;
+})
+
+pub breaks-WantCause : (which : Package) → FirstBreak (rules_of which) smallest wanted_for_nothing (stops_at 2) 2 WantCause
+breaks-WantCause which = breaks-then 2 (Take s0 p0 None ∷ Want s0 1 ∷ []) (before-instruction which smallest_programs) (record {
+  earlier =
+      record { number = refl; proc = omega arith; some = λ no. cc; opening = λ no. absurd (omega arith) }
+      & record { steps = (tt, (tt, tt)) }
+      & record { told = (tt, (tt, tt)) }
+      & record { prompt = prompt-calm (after which 2 (Take s0 p0 None ∷ Want s0 1 ∷ [])) refl }
+      & record { named = (tt, (tt, tt)); owned = refl }
+      & record { told = (tt, (tt, tt)) }
+      & record { blocks = (tt, (tt, tt)) }
+      & record { interrupt = λ no. absurd (false≢true no); calm = λ no. absurd no }
+      & record { heard = (tt, (tt, tt)); first = tt; order = refl; due = refl }
+      & tt;
+  broken = λ h. let due : Want s0 1 ∷ [] ≡ [] = h.due (omega arith) in cc;
+})
+
+pub breaks-SharesCovered : (which : Package) → FirstBreak (rules_of which) smallest aimed_for_nothing (stops_at 2) 2 SharesCovered
+breaks-SharesCovered which = breaks-then 2 (Take s0 p0 None ∷ Aim p0 (Some s0) ∷ Line p0 ∷ []) (before-instruction which smallest_programs) (record {
+  earlier =
+      record { number = refl; proc = omega arith; some = λ no. cc; opening = λ no. absurd (omega arith) }
+      & record { steps = (tt, (tt, (tt, tt))) }
+      & record { told = (tt, (tt, (tt, tt))) }
+      & record { prompt = prompt-calm (after which 2 (Take s0 p0 None ∷ Aim p0 (Some s0) ∷ Line p0 ∷ [])) refl }
+      & record { named = (tt, (tt, (tt, tt))); owned = refl }
+      & record { told = (tt, (tt, (tt, tt))) }
+      & record { blocks = (tt, (tt, (tt, tt))) }
+      & record { interrupt = λ no. absurd (false≢true no); calm = λ no. absurd no }
+      & record { heard = (tt, (record { line = λ _. refl }, (refl, tt))); first = tt; order = refl; due = refl }
+      & record { due = λ _. refl; none = no-wants (after which 2 (Take s0 p0 None ∷ Aim p0 (Some s0) ∷ Line p0 ∷ [])) refl }
+      & tt;
+  broken = λ h. let due = ap length h.due in omega (arith, due);
+})
+
+-- the life has a lock: it is in, and owes something
+idles-with-lock : (which : Package) → Holds (rules_of which) smallest DemandAnnounced (r which 3) (at 3 (Idle ∷ [])) None → ⊥
+idles-with-lock Fast h = elim ((h.step (omega arith)).free refl) [
+  | inl out ↦ true≢false out
+  | inr owes ↦ let no = ap length owes.nothing.locks in omega (arith, no)
+]
+idles-with-lock Prio h = elim ((h.demand_announced.step (omega arith)).free refl) [
+  | inl out ↦ true≢false out
+  | inr owes ↦ let no = ap length owes.nothing.locks in omega (arith, no)
+]
+
+pub breaks-DemandAnnounced : (which : Package) → FirstBreak (rules_of which) smallest idle_with_lock (stops_at 3) 3 DemandAnnounced
+breaks-DemandAnnounced which = breaks-then 3 (Idle ∷ []) (before-instruction which smallest_programs) (record {
+  earlier = before-demand (rules_of which) smallest (r which 3) 3 p0 Idle (Some (stops_at 3)) refl (is-calm refl one-share (tt, tt));
+  broken = idles-with-lock which;
+})
+
+-- the list is open
+unlocked : (which : Package) → IsLocked (event_begun smallest (at 2 (Idle ∷ [])) (r which 2)) s0 p0 → ⊥
+unlocked which =
+    none-locked {r = event_begun smallest (at 2 (Idle ∷ [])) (r which 2)} (record { few = few which smallest_programs 2; zeroth = refl; first = refl })
+
+idles-beside-thread : (which : Package) → Holds (rules_of which) smallest TurnsTaken (r which 2) (at 2 (Idle ∷ [])) None → ⊥
+idles-beside-thread Fast h = unlocked Fast ((h.turn (omega arith)).1.finds.none.locked p0 refl)
+idles-beside-thread Prio h = unlocked Prio ((h.turn (omega arith)).1.finds.none refl)
+
+pub breaks-TurnsTaken : (which : Package) → FirstBreak (rules_of which) smallest idle_beside_thread (stops_at 2) 2 TurnsTaken
+breaks-TurnsTaken which =
+    let allowed = nothing-owed smallest (r which 2) Idle (life_on (r which 2) p0) s0 [] None refl refl in
+    breaks-then 2 (Idle ∷ []) (before-instruction which smallest_programs) (record {
+      earlier = before-turns (rules_of which) smallest (r which 2) 2 p0 Idle (Some (stops_at 2)) refl (is-calm refl one-share (tt, tt))
+          (in-demand which _ _ _ (λ _. allowed.free) (λ _. allowed.unurged));
+      broken = idles-beside-thread which;
     })
 
-pub breaks-WhereOwned : FirstBreak fast_threads smallest two_lives (stops_at 2) 2 WhereOwned
-breaks-WhereOwned = break-behind fast_threads smallest (e0 ∷ e1 ∷ []) (at 2 (Up s0 (act 1) ∷ Told (Add p0) ∷ [])) (stops_at 2) WhereOwned (before2 one)
-    (record {
-      earlier = (
-        record { number = refl; proc = omega arith; some = λ no. cc; opening = λ no. absurd (omega arith) },
-        (
-          record { steps = (tt, (tt, tt)) },
-          (
-            record { told = (tt, (tt, tt)) },
-            (record { prompt = prompt-calm (next one (r2 one) (at 2 (Up s0 (act 1) ∷ Told (Add p0) ∷ []))) refl }, tt),
-          ),
-        ),
-      );
-      broken = λ h. let no : Some (act 0) ≡ None = h.named.0 in cc;
+frees-unused : (which : Package) → Holds (rules_of which) smallest LocksKept (r which 3) (at 3 (Free s0 p0 None ∷ [])) None → ⊥
+frees-unused Fast h = false≢true (h.step (omega arith)).0.keeps.used
+frees-unused Prio h = false≢true (h.step (omega arith)).0.keeps.used
+
+pub breaks-LocksKept : (which : Package) → FirstBreak (rules_of which) smallest freed_unused (stops_at 3) 3 LocksKept
+breaks-LocksKept which =
+    let allowed = unbound smallest (r which 3) (Free s0 p0 None) (life_on (r which 3) p0) _ refl (λ life same. refl) in
+    breaks-then 3 (Free s0 p0 None ∷ []) (before-instruction which smallest_programs) (record {
+      earlier = before-locks (rules_of which) smallest (r which 3) 3 p0 (Free s0 p0 None) (Some (stops_at 3)) refl (is-calm refl one-share (tt, tt))
+          (in-demand which _ _ _ (λ _. allowed.free) (λ _. allowed.unurged)) (in-turn which (λ _ _ _ _ _ step. step) refl);
+      broken = frees-unused which;
     })
 
-pub breaks-AllTold : FirstBreak fast_threads smallest not_told_added (stops_at 1) 1 AllTold
-breaks-AllTold = break-behind fast_threads smallest (e0 ∷ []) (at 1 (Move None (Some s0) ∷ Up s0 (act 0) ∷ [])) (stops_at 1) AllTold (before1 one)
-    (record {
-      earlier = (
-        record { number = refl; proc = omega arith; some = λ no. cc; opening = λ no. absurd (omega arith) },
-        (
-          record { steps = ((refl, refl), (tt, tt)) },
-          (
-            record { told = (tt, (tt, tt)) },
-            (
-              record { prompt = prompt-calm (next one (r1 one) (at 1 (Move None (Some s0) ∷ Up s0 (act 0) ∷ []))) refl },
-              (record { named = (tt, (refl, tt)); owned = refl }, tt),
-            ),
-          ),
-        ),
-      );
-      broken = λ h. h.told.1.0.some refl;
+pub breaks-EndTold : (which : Package) → FirstBreak (rules_of which) smallest not_done told_done 4 EndTold
+breaks-EndTold which =
+    let last = at 4 (Free s0 p0 (Some t0) ∷ []) in
+    break-behind (rules_of which) smallest (take 4 smallest_run) last told_done EndTold (are-right (first-right 4 (before-instruction which smallest_programs))) (record {
+      earlier = laws-hold (rules_of which) smallest (r which 4) last (Some told_done) (right4 which smallest_programs).lawful;
+      broken = λ h. let done = h.1 in cc;
     })
-
-pub breaks-UpcallGiven : FirstBreak fast_threads blocking other_io (stops_at 5) 5 UpcallGiven
-breaks-UpcallGiven =
-    break-behind fast_threads blocking (e0 ∷ e1 ∷ e2 ∷ e3 ∷ e4 ∷ [])
-    (at 5 (Ins s0 t0 0 ∷ Block s0 (Some t0) (act 0) (record { 0 = 1 }) ∷ Up s0 (act 1) ∷ Told (Blocked (act 0)) ∷ [])) (stops_at 5) UpcallGiven
-    (before5 (IoOf 2 ∷ End ∷ []))
-    (record {
-      earlier = (
-        record { number = refl; proc = omega arith; some = λ no. cc; opening = λ no. absurd (omega arith) },
-        (
-          record {
-            steps = (
-              record { owned = refl; runs = refl; pc = refl; within = omega arith; page = tt },
-              (record { owned = refl; runs = refl; cause = inl refl }, (tt, (tt, tt))),
-            );
-          },
-          (
-            record { told = (tt, (tt, (tt, ((0, omega arith, refl), tt)))) },
-            (
-              record {
-                prompt = prompt-calm
-                    (next (IoOf 2 ∷ End ∷ []) (r5 (IoOf 2 ∷ End ∷ []))
-                    (at 5 (Ins s0 t0 0 ∷ Block s0 (Some t0) (act 0) (record { 0 = 1 }) ∷ Up s0 (act 1) ∷ Told (Blocked (act 0)) ∷ []))) refl;
-              },
-              (
-                record { named = (tt, (record { act = refl; space = refl }, (refl, (tt, tt)))); owned = refl },
-                (record { told = (tt, (tt, (record { fresh = refl; notes = refl; some = λ no. cc }, (tt, tt)))) }, tt),
-              ),
-            ),
-          ),
-        ),
-      );
-      broken = λ h. let number = h.blocks.1.0.number in omega (arith, number);
-    })
-
-pub breaks-InterruptNext : FirstBreak fast_threads smallest interrupt_put_off (stops_at 1) 1 InterruptNext
-breaks-InterruptNext = break-behind fast_threads smallest (e0 ∷ []) (at 1 (Tick ∷ [])) (stops_at 1) InterruptNext (before1 one)
-    (record {
-      earlier = (
-        record { number = refl; proc = omega arith; some = λ no. cc; opening = λ no. absurd (omega arith) },
-        (
-          record { steps = (tt, tt) },
-          (
-            record { told = (tt, tt) },
-            (
-              record { prompt = prompt-calm (next one (r1 one) (at 1 (Tick ∷ []))) refl },
-              (
-                record { named = (tt, tt); owned = refl },
-                (
-                  record { told = (tt, tt) },
-                  (record { blocks = (tt, tt) }, tt),
-                ),
-              ),
-            ),
-          ),
-        ),
-      );
-      broken = λ h. h.interrupt refl;
-    })
-
-pub breaks-LineCause : FirstBreak fast_threads smallest raised_for_nothing (stops_at 2) 2 LineCause
-breaks-LineCause = break-behind fast_threads smallest (e0 ∷ e1 ∷ []) (at 2 (Take s0 p0 None ∷ Line p0 ∷ [])) (stops_at 2) LineCause (before2 one)
-    (record {
-      earlier = (
-        record { number = refl; proc = omega arith; some = λ no. cc; opening = λ no. absurd (omega arith) },
-        (
-          record { steps = (tt, (tt, tt)) },
-          (
-            record { told = (tt, (tt, tt)) },
-            (
-              record { prompt = prompt-calm (next one (r2 one) (at 2 (Take s0 p0 None ∷ Line p0 ∷ []))) refl },
-              (
-                record { named = (tt, (tt, tt)); owned = refl },
-                (
-                  record { told = (tt, (tt, tt)) },
-                  (
-                    record { blocks = (tt, (tt, tt)) },
-                    (record { interrupt = λ no. absurd (false≢true no); calm = λ no. absurd no }, tt),
-                  ),
-                ),
-              ),
-            ),
-          ),
-        ),
-      );
-      broken = λ h. let due : Line p0 ∷ [] ≡ [] = h.due in cc;
-    })
-
-pub breaks-WantCause : FirstBreak fast_threads smallest wanted_for_nothing (stops_at 2) 2 WantCause
-breaks-WantCause = break-behind fast_threads smallest (e0 ∷ e1 ∷ []) (at 2 (Take s0 p0 None ∷ Want s0 1 ∷ [])) (stops_at 2) WantCause (before2 one)
-    (record {
-      earlier = (
-        record { number = refl; proc = omega arith; some = λ no. cc; opening = λ no. absurd (omega arith) },
-        (
-          record { steps = (tt, (tt, tt)) },
-          (
-            record { told = (tt, (tt, tt)) },
-            (
-              record { prompt = prompt-calm (next one (r2 one) (at 2 (Take s0 p0 None ∷ Want s0 1 ∷ []))) refl },
-              (
-                record { named = (tt, (tt, tt)); owned = refl },
-                (
-                  record { told = (tt, (tt, tt)) },
-                  (
-                    record { blocks = (tt, (tt, tt)) },
-                    (
-                      record { interrupt = λ no. absurd (false≢true no); calm = λ no. absurd no },
-                      (record { heard = (tt, (tt, tt)); first = tt; order = refl; due = refl }, tt),
-                    ),
-                  ),
-                ),
-              ),
-            ),
-          ),
-        ),
-      );
-      broken = λ h. let due : Want s0 1 ∷ [] ≡ [] = h.due (omega arith) in cc;
-    })
-
-pub breaks-SharesCovered : FirstBreak fast_threads smallest aimed_for_nothing (stops_at 2) 2 SharesCovered
-breaks-SharesCovered =
-    break-behind fast_threads smallest (e0 ∷ e1 ∷ []) (at 2 (Take s0 p0 None ∷ Aim p0 (Some s0) ∷ Line p0 ∷ [])) (stops_at 2) SharesCovered (before2 one)
-    (record {
-      earlier = (
-        record { number = refl; proc = omega arith; some = λ no. cc; opening = λ no. absurd (omega arith) },
-        (
-          record { steps = (tt, (tt, (tt, tt))) },
-          (
-            record { told = (tt, (tt, (tt, tt))) },
-            (
-              record { prompt = prompt-calm (next one (r2 one) (at 2 (Take s0 p0 None ∷ Aim p0 (Some s0) ∷ Line p0 ∷ []))) refl },
-              (
-                record { named = (tt, (tt, (tt, tt))); owned = refl },
-                (
-                  record { told = (tt, (tt, (tt, tt))) },
-                  (
-                    record { blocks = (tt, (tt, (tt, tt))) },
-                    (
-                      record { interrupt = λ no. absurd (false≢true no); calm = λ no. absurd no },
-                      (
-                        record { heard = (tt, (record { line = λ _. refl }, (refl, tt))); first = tt; order = refl; due = refl },
-                        (
-                          record { due = λ _. refl; none = no-wants (next one (r2 one) (at 2 (Take s0 p0 None ∷ Aim p0 (Some s0) ∷ Line p0 ∷ []))) refl },
-                          tt,
-                        ),
-                      ),
-                    ),
-                  ),
-                ),
-              ),
-            ),
-          ),
-        ),
-      );
-      broken = λ h. let due = ap length h.due in omega (arith, due);
-    })
-
-pub breaks-DemandAnnounced : FirstBreak fast_threads smallest idle_with_lock (stops_at 3) 3 DemandAnnounced
-breaks-DemandAnnounced = break-behind fast_threads smallest (e0 ∷ e1 ∷ e2 ∷ []) (at 3 (Idle ∷ [])) (stops_at 3) DemandAnnounced (before3 one)
-    (record {
-      earlier = before-demand fast_threads smallest (r3 one) 3 p0 Idle (Some (stops_at 3)) refl
-          (record { later = omega arith; proc = omega arith; steps = (tt, tt); reads = (refl, refl, refl, refl, refl, refl, refl); covered = one-share });
-      broken = λ h. elim ((h.step (omega arith)).free refl) [
-        | inl out ↦ true≢false out
-        | inr owes ↦ let no = ap length owes.nothing.locks in omega (arith, no)
-      ];
-    })
-
-pub breaks-TurnsTaken : FirstBreak fast_threads smallest idle_beside_thread (stops_at 2) 2 TurnsTaken
-breaks-TurnsTaken = break-behind fast_threads smallest (e0 ∷ e1 ∷ []) (at 2 (Idle ∷ [])) (stops_at 2) TurnsTaken (before2 one)
-    (record {
-      earlier = before-turns fast_threads smallest (r2 one) 2 p0 Idle (Some (stops_at 2)) refl
-          (record { later = omega arith; proc = omega arith; steps = (tt, tt); reads = (refl, refl, refl, refl, refl, refl, refl); covered = one-share })
-          (record { step = λ _. record { free = λ _. inl refl } });
-      broken = λ h. unlocked2 one (at 2 (Idle ∷ [])) ((h.turn (omega arith)).1.finds.none.locked p0 refl);
-    })
-
-pub breaks-LocksKept : FirstBreak fast_threads smallest freed_unused (stops_at 3) 3 LocksKept
-breaks-LocksKept = break-behind fast_threads smallest (e0 ∷ e1 ∷ e2 ∷ []) (at 3 (Free s0 p0 None ∷ [])) (stops_at 3) LocksKept (before3 one)
-    (record {
-      earlier = before-locks fast_threads smallest (r3 one) 3 p0 (Free s0 p0 None) (Some (stops_at 3)) refl
-          (record { later = omega arith; proc = omega arith; steps = (tt, tt); reads = (refl, refl, refl, refl, refl, refl, refl); covered = one-share })
-          (record { step = λ _. record { free = λ no. absurd (false≢true no) } })
-          (record { turn = λ _. refl; closing = λ _. tt });
-      broken = λ h. false≢true (h.step (omega arith)).0.keeps.used;
-    })
-
-pub breaks-EndTold : FirstBreak fast_threads smallest not_done told_done 4 EndTold
-breaks-EndTold = break-behind fast_threads smallest (e0 ∷ e1 ∷ e2 ∷ e3 ∷ []) e4 told_done EndTold (before4 one)
-    (record { earlier = laws-hold fast_threads smallest (r4 one) e4 (Some told_done) (lawful4 one); broken = λ h. let done = h.1 in cc })

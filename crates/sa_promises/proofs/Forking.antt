@@ -1,396 +1,76 @@
--- A run in which two threads are ready, and the older one is taken from its own processor's list.
-use Rattle.std.proofs.Common.{◌≡◌, inl, inr, refl, sym, ◌∙◌, ap, subst, arith, Some, None, List, [], ◌∷◌}
-use Rattle.std.proofs.lemmas.Bool.{false≢true}
-use Rattle.std.specs.Prelude.{Contains}
+-- A run in which two threads are ready, and the older one is taken, by either package's rules.
+use Rattle.std.proofs.Common.{◌≡◌, ℕ, inr, refl, ap, arith, Some, None, [], ◌∷◌, take}
 use Rattle.std.proofs.lemmas.Option.{same_Some}
-use Rattle.sa_base.specs.declared.number.SpaceNo.{SpaceNo}
 use Rattle.sa_base.specs.declared.number.ThreadNo.{ThreadNo}
 use Rattle.sa_base.specs.declared.record.Record.TheVariants.{Ins, Run, Ready, Take, Free}
-use Rattle.sa_instr.specs.declared.instr.Instr.{Instr}
-use Rattle.sa_lemmas.proofs.Membership.{contains-single}
 use Rattle.sa_laws.specs.declared.rule.Rule.TheVariants.{OrderKept}
 use Rattle.sa_laws.specs.Event.{Event}
-use Rattle.sa_laws.specs.Life.{Life, Lock}
-use Rattle.sa_laws.specs.Readings.{Readings, IsLocked}
-use Rattle.sa_laws.specs.Locks.{HoldsLock}
-use Rattle.sa_laws.specs.History.{event_begun}
-use Rattle.sa_laws.specs.Rules.{fast_threads, HoldEach, IsLawful, rules}
+use Rattle.sa_laws.specs.Readings.{Readings, opening_readings}
+use Rattle.sa_laws.specs.History.{after_events}
+use Rattle.sa_laws.specs.Rules.{Holds}
 use Rattle.sa_laws.specs.Legal.{FirstBreak}
-use Rattle.sa_histories.specs.Lawful.{AreRight}
-use Rattle.sa_histories.specs.Short.{workload_with, at, s0, p0, t0}
+use Rattle.sa_histories.specs.Short.{at, s0, p0, t0}
+use Rattle.sa_promises.specs.Packages.{Package, Fast, Prio, rules_of}
 use Rattle.sa_promises.specs.Examples.{forking_program, forking, forking_run, older_taken, stops_at, t1, t2}
-use Rattle.sa_promises.proofs.Plain.{before-order, plain-lawful}
-use Rattle.sa_promises.proofs.Calm.{one-share, OnlyZero, only-none, only-put, the-one, none-locked}
-use Rattle.sa_promises.proofs.Smallest.{r0, r5, next}
-use Rattle.sa_promises.proofs.Broken.{goes-on, right0, right1, right2, right3, right4}
-use Rattle.sa_histories.proofs.Legality.{with-end, break-behind}
+use Rattle.sa_promises.proofs.Calm.{one-share}
+use Rattle.sa_promises.proofs.Right.{IsRight, RightAlong, over, ◌►◌, and-then, breaks-then}
+use Rattle.sa_promises.proofs.Unlocked.{AreFew, few-along}
+use Rattle.sa_promises.proofs.Smallest.{before-instruction, takes0}
+use Rattle.sa_promises.proofs.Steps.{up-to-order, frees, run-but-order, readies, takes_for_push, takes_for_pop, goes}
 
-abbrev g : List Instr
-g = forking_program
+abbrev before : Package → ℕ → Readings
+before which n = after_events (rules_of which).inside forking (opening_readings forking) (take n forking_run)
 
-abbrev q5 : Readings
-q5 = r5 g
+abbrev Right : Package → ℕ → Event → Type 0
+Right which n e = IsRight (rules_of which) forking (before which n) e
 
-abbrev f5 : Event
-f5 = at 5 (Ins s0 t0 0 ∷ [])
+few : (which : Package) (n : ℕ) → AreFew (before which n).lives
+few which n = few-along (rules_of which).inside forking (opening_readings forking) n forking_run refl (record { others = λ a high. refl })
 
-abbrev q6 : Readings
-q6 = next g q5 f5
+right5 : (which : Package) → Right which 5 (at 5 (Ins s0 t0 0 ∷ []))
+right5 which = goes which one-share refl refl refl (record { owned = refl; runs = refl; pc = refl; within = omega arith; page = tt }, tt) refl
 
-abbrev f6 : Event
-f6 = at 6 (Take s0 p0 (Some t0) ∷ [])
+right6 : (which : Package) → Right which 6 (at 6 (Take s0 p0 (Some t0) ∷ []))
+right6 which = takes_for_push which one-share refl refl (takes0 which (forking_program ∷ [])) (record { few = few which 6; zeroth = refl; first = refl }) refl
 
-abbrev q7 : Readings
-q7 = next g q6 f6
+right7 : (which : Package) → Right which 7 (at 7 (Ready s0 t1 ∷ []))
+right7 which = readies which one-share refl refl ((refl, inr refl), tt) refl refl (record { few = few which 7; zeroth = refl; first = refl }) refl
 
-abbrev f7 : Event
-f7 = at 7 (Ready s0 t1 ∷ [])
+right8 : (which : Package) → Right which 8 (at 8 (Free s0 p0 (Some t0) ∷ []))
+right8 which = frees which one-share refl refl refl
 
-abbrev q8 : Readings
-q8 = next g q7 f7
+right9 : (which : Package) → Right which 9 (at 9 (Ins s0 t0 1 ∷ []))
+right9 which = goes which one-share refl refl refl (record { owned = refl; runs = refl; pc = refl; within = omega arith; page = tt }, tt) refl
 
-abbrev f8 : Event
-f8 = at 8 (Free s0 p0 (Some t0) ∷ [])
+right10 : (which : Package) → Right which 10 (at 10 (Take s0 p0 (Some t0) ∷ []))
+right10 which = takes_for_push which one-share refl refl (takes0 which (forking_program ∷ [])) (record { few = few which 10; zeroth = refl; first = refl }) refl
 
-abbrev q9 : Readings
-q9 = next g q8 f8
+right11 : (which : Package) → Right which 11 (at 11 (Ready s0 t2 ∷ []))
+right11 which = readies which one-share refl refl ((refl, inr refl), tt) refl refl (record { few = few which 11; zeroth = refl; first = refl }) refl
 
-abbrev f9 : Event
-f9 = at 9 (Ins s0 t0 1 ∷ [])
+right12 : (which : Package) → Right which 12 (at 12 (Free s0 p0 (Some t0) ∷ []))
+right12 which = frees which one-share refl refl refl
 
-abbrev q10 : Readings
-q10 = next g q9 f9
+right13 : (which : Package) → Right which 13 (at 13 (Ins s0 t0 2 ∷ []))
+right13 which = goes which one-share refl refl refl (record { owned = refl; runs = refl; pc = refl; within = omega arith; page = tt }, tt) refl
 
-abbrev f10 : Event
-f10 = at 10 (Take s0 p0 (Some t0) ∷ [])
+right14 : (which : Package) → Right which 14 (at 14 (Take s0 p0 None ∷ []))
+right14 which =
+    takes_for_pop which one-share refl refl refl refl (takes0 which (forking_program ∷ [])) (record { few = few which 14; zeroth = refl; first = refl }) refl
 
-abbrev q11 : Readings
-q11 = next g q10 f10
-
-abbrev f11 : Event
-f11 = at 11 (Ready s0 t2 ∷ [])
-
-abbrev q12 : Readings
-q12 = next g q11 f11
-
-abbrev f12 : Event
-f12 = at 12 (Free s0 p0 (Some t0) ∷ [])
-
-abbrev q13 : Readings
-q13 = next g q12 f12
-
-abbrev f13 : Event
-f13 = at 13 (Ins s0 t0 2 ∷ [])
-
-abbrev q14 : Readings
-q14 = next g q13 f13
-
-abbrev f14 : Event
-f14 = at 14 (Take s0 p0 None ∷ [])
-
-abbrev q15 : Readings
-q15 = next g q14 f14
-
-apart01 : Some t0 ≡ Some t1 → ⊥
-apart01 e = let same = ap (λ (t : ThreadNo). t.0) (same_Some t0 t1 e) in omega (arith, same)
-
-apart02 : Some t0 ≡ Some t2 → ⊥
-apart02 e = let same = ap (λ (t : ThreadNo). t.0) (same_Some t0 t2 e) in omega (arith, same)
+run-right : (which : Package) → RightAlong (rules_of which) forking (before which 0) forking_run
+run-right which =
+    and-then (before-instruction which (forking_program ∷ []))
+    (right5 which ► right6 which ► right7 which ► right8 which ► right9 which ► right10 which ► right11 which ► right12 which ► right13 which ► right14 which ► over)
 
 apart21 : Some t2 ≡ Some t1 → ⊥
 apart21 e = let same = ap (λ (t : ThreadNo). t.0) (same_Some t2 t1 e) in omega (arith, same)
 
--- where one life is in use, and has one lock, another thread than the lock's holds none
-pub holds-none : (r : Readings) (life : Life) (lock : Lock) (t : ThreadNo) → OnlyZero r.lives → r.lives 0 ≡ Some life → life.locks ≡ lock ∷ []
-    → (lock.thread ≡ Some t → ⊥) → (s : SpaceNo) → HoldsLock r s t → ⊥
-holds-none r life lock t only is locks other s holds =
-    let same : life ≡ holds.life = same_Some life holds.life (sym is ∙ the-one r.lives only holds.act.0 holds.life holds.is) in
-    let all : holds.life.locks ≡ lock ∷ [] = ap (λ (x : Life). x.locks) (sym same) ∙ locks in
-    let one : lock ≡ holds.lock = contains-single lock holds.lock (subst (λ (xs : List Lock). Contains xs holds.lock) all holds.among) in
-    other (ap (λ (x : Lock). x.thread) one ∙ holds.thread)
+-- by either order the newer one is next
+no-order : (which : Package) → Holds (rules_of which) forking OrderKept (before which 15) (at 15 (Run s0 t1 ∷ [])) None → ⊥
+no-order Fast h = apart21 h.run
+no-order Prio h = apart21 h.run
 
-lawful5 : IsLawful fast_threads forking q5 f5
-lawful5 = plain-lawful fast_threads forking q5 5 p0 (Ins s0 t0 0) refl
-    (record {
-      later = omega arith;
-      proc = omega arith;
-      steps = (record { owned = refl; runs = refl; pc = refl; within = omega arith; page = tt }, tt);
-      reads = (refl, refl, refl, refl, refl, refl, refl);
-      covered = one-share;
-    })
-    (record { step = λ _. record { free = λ _. inl refl } })
-    (record { turn = λ _. refl; closing = λ _. tt })
-    (record { step = λ _. (record { keeps = tt; back = refl }, tt) })
-    (record { run = tt })
-
-right5 : HoldEach fast_threads forking rules q5 f5 None
-right5 = with-end fast_threads forking q5 f5 None lawful5 (goes-on q6 refl refl)
-
-unlocked6 : IsLocked (event_begun (workload_with g) f6 q6) s0 p0 → ⊥
-unlocked6 locked =
-    none-locked (event_begun (workload_with g) f6 q6) _
-    (only-put _ _ (only-put _ _ (only-put _ _
-    (only-put _ _ (only-put _ _ (only-put _ _ (only-put _ _ (only-put _ _ (only-put _ _ (only-put _ _ only-none)))))))))) refl refl s0 p0 locked
-
-lawful6 : IsLawful fast_threads forking q6 f6
-lawful6 = plain-lawful fast_threads forking q6 6 p0 (Take s0 p0 (Some t0)) refl
-    (record { later = omega arith; proc = omega arith; steps = (tt, tt); reads = (refl, refl, refl, refl, refl, refl, refl); covered = one-share })
-    (record { step = λ _. record { free = λ no. absurd (false≢true no) } })
-    (record { turn = λ _. refl; closing = λ _. tt })
-    (record {
-      step = λ _. (
-        record { keeps = record { space = refl; unlocked = unlocked6; locks = refl; cont = refl; thread = refl; target = refl }; back = refl },
-        refl,
-      );
-    })
-    (record { run = tt })
-
-right6 : HoldEach fast_threads forking rules q6 f6 None
-right6 = with-end fast_threads forking q6 f6 None lawful6 (goes-on q7 refl refl)
-
-holds7 : HoldsLock (event_begun (workload_with g) f7 q7) s0 t1 → ⊥
-holds7 holds =
-    holds-none (event_begun (workload_with g) f7 q7) _ _ t1
-    (only-put _ _ (only-put _ _ (only-put _ _
-    (only-put _ _ (only-put _ _ (only-put _ _ (only-put _ _ (only-put _ _ (only-put _ _ (only-put _ _ (only-put _ _ (only-put _ _ only-none)))))))))))) refl
-    refl apart01 s0 holds
-
-lawful7 : IsLawful fast_threads forking q7 f7
-lawful7 = plain-lawful fast_threads forking q7 7 p0 (Ready s0 t1) refl
-    (record {
-      later = omega arith;
-      proc = omega arith;
-      steps = ((refl, inr refl), tt);
-      reads = (refl, refl, refl, refl, refl, refl, refl);
-      covered = one-share;
-    })
-    (record { step = λ _. record { free = λ no. absurd (false≢true no) } })
-    (record { turn = λ _. refl; closing = λ _. tt })
-    (record {
-      step = λ _. (
-        record {
-          keeps = record {
-            push = refl;
-            used = record { unused = refl; page = refl; cont = λ no. absurd (false≢true no) };
-            space = refl;
-            hand = (0, omega arith, refl);
-            counts = refl;
-            holds = holds7;
-          };
-          back = refl;
-        },
-        refl,
-      );
-    })
-    (record { run = tt })
-
-right7 : HoldEach fast_threads forking rules q7 f7 None
-right7 = with-end fast_threads forking q7 f7 None lawful7 (goes-on q8 refl refl)
-
-lawful8 : IsLawful fast_threads forking q8 f8
-lawful8 = plain-lawful fast_threads forking q8 8 p0 (Free s0 p0 (Some t0)) refl
-    (record { later = omega arith; proc = omega arith; steps = (tt, tt); reads = (refl, refl, refl, refl, refl, refl, refl); covered = one-share })
-    (record { step = λ _. record { free = λ no. absurd (false≢true no) } })
-    (record { turn = λ _. refl; closing = λ _. tt })
-    (record {
-      step = λ _. (record { keeps = record { space = refl; list = refl; thread = refl; used = refl; cont = λ no. absurd (false≢true no) }; back = refl }, refl);
-    })
-    (record { run = tt })
-
-right8 : HoldEach fast_threads forking rules q8 f8 None
-right8 = with-end fast_threads forking q8 f8 None lawful8 (goes-on q9 refl refl)
-
-lawful9 : IsLawful fast_threads forking q9 f9
-lawful9 = plain-lawful fast_threads forking q9 9 p0 (Ins s0 t0 1) refl
-    (record {
-      later = omega arith;
-      proc = omega arith;
-      steps = (record { owned = refl; runs = refl; pc = refl; within = omega arith; page = tt }, tt);
-      reads = (refl, refl, refl, refl, refl, refl, refl);
-      covered = one-share;
-    })
-    (record { step = λ _. record { free = λ _. inl refl } })
-    (record { turn = λ _. refl; closing = λ _. tt })
-    (record { step = λ _. (record { keeps = tt; back = refl }, tt) })
-    (record { run = tt })
-
-right9 : HoldEach fast_threads forking rules q9 f9 None
-right9 = with-end fast_threads forking q9 f9 None lawful9 (goes-on q10 refl refl)
-
-unlocked10 : IsLocked (event_begun (workload_with g) f10 q10) s0 p0 → ⊥
-unlocked10 locked =
-    none-locked (event_begun (workload_with g) f10 q10) _
-    (only-put _ _ (only-put _ _ (only-put _ _
-    (only-put _ _ (only-put _ _ (only-put _ _
-    (only-put _ _ (only-put _ _ (only-put _ _
-    (only-put _ _ (only-put _ _ (only-put _ _ (only-put _ _ (only-put _ _ (only-put _ _ (only-put _ _ (only-put _ _ (only-put _ _ only-none))))))))))))))))))
-    refl refl s0 p0 locked
-
-lawful10 : IsLawful fast_threads forking q10 f10
-lawful10 = plain-lawful fast_threads forking q10 10 p0 (Take s0 p0 (Some t0)) refl
-    (record { later = omega arith; proc = omega arith; steps = (tt, tt); reads = (refl, refl, refl, refl, refl, refl, refl); covered = one-share })
-    (record { step = λ _. record { free = λ no. absurd (false≢true no) } })
-    (record { turn = λ _. refl; closing = λ _. tt })
-    (record {
-      step = λ _. (
-        record { keeps = record { space = refl; unlocked = unlocked10; locks = refl; cont = refl; thread = refl; target = refl }; back = refl },
-        refl,
-      );
-    })
-    (record { run = tt })
-
-right10 : HoldEach fast_threads forking rules q10 f10 None
-right10 = with-end fast_threads forking q10 f10 None lawful10 (goes-on q11 refl refl)
-
-holds11 : HoldsLock (event_begun (workload_with g) f11 q11) s0 t2 → ⊥
-holds11 holds =
-    holds-none (event_begun (workload_with g) f11 q11) _ _ t2
-    (only-put _ _ (only-put _ _ (only-put _ _
-    (only-put _ _ (only-put _ _ (only-put _ _
-    (only-put _ _ (only-put _ _ (only-put _ _
-    (only-put _ _ (only-put _ _ (only-put _ _
-    (only-put _ _ (only-put _ _ (only-put _ _ (only-put _ _ (only-put _ _ (only-put _ _ (only-put _ _ (only-put _ _ only-none)))))))))))))))))))) refl refl
-    apart02 s0 holds
-
-lawful11 : IsLawful fast_threads forking q11 f11
-lawful11 = plain-lawful fast_threads forking q11 11 p0 (Ready s0 t2) refl
-    (record {
-      later = omega arith;
-      proc = omega arith;
-      steps = ((refl, inr refl), tt);
-      reads = (refl, refl, refl, refl, refl, refl, refl);
-      covered = one-share;
-    })
-    (record { step = λ _. record { free = λ no. absurd (false≢true no) } })
-    (record { turn = λ _. refl; closing = λ _. tt })
-    (record {
-      step = λ _. (
-        record {
-          keeps = record {
-            push = refl;
-            used = record { unused = refl; page = refl; cont = λ no. absurd (false≢true no) };
-            space = refl;
-            hand = (0, omega arith, refl);
-            counts = refl;
-            holds = holds11;
-          };
-          back = refl;
-        },
-        refl,
-      );
-    })
-    (record { run = tt })
-
-right11 : HoldEach fast_threads forking rules q11 f11 None
-right11 = with-end fast_threads forking q11 f11 None lawful11 (goes-on q12 refl refl)
-
-lawful12 : IsLawful fast_threads forking q12 f12
-lawful12 = plain-lawful fast_threads forking q12 12 p0 (Free s0 p0 (Some t0)) refl
-    (record { later = omega arith; proc = omega arith; steps = (tt, tt); reads = (refl, refl, refl, refl, refl, refl, refl); covered = one-share })
-    (record { step = λ _. record { free = λ no. absurd (false≢true no) } })
-    (record { turn = λ _. refl; closing = λ _. tt })
-    (record {
-      step = λ _. (record { keeps = record { space = refl; list = refl; thread = refl; used = refl; cont = λ no. absurd (false≢true no) }; back = refl }, refl);
-    })
-    (record { run = tt })
-
-right12 : HoldEach fast_threads forking rules q12 f12 None
-right12 = with-end fast_threads forking q12 f12 None lawful12 (goes-on q13 refl refl)
-
-lawful13 : IsLawful fast_threads forking q13 f13
-lawful13 = plain-lawful fast_threads forking q13 13 p0 (Ins s0 t0 2) refl
-    (record {
-      later = omega arith;
-      proc = omega arith;
-      steps = (record { owned = refl; runs = refl; pc = refl; within = omega arith; page = tt }, tt);
-      reads = (refl, refl, refl, refl, refl, refl, refl);
-      covered = one-share;
-    })
-    (record { step = λ _. record { free = λ _. inl refl } })
-    (record { turn = λ _. refl; closing = λ _. tt })
-    (record { step = λ _. (record { keeps = tt; back = refl }, tt) })
-    (record { run = tt })
-
-right13 : HoldEach fast_threads forking rules q13 f13 None
-right13 = with-end fast_threads forking q13 f13 None lawful13 (goes-on q14 refl refl)
-
-unlocked14 : IsLocked (event_begun (workload_with g) f14 q14) s0 p0 → ⊥
-unlocked14 locked =
-    none-locked (event_begun (workload_with g) f14 q14) _
-    (only-put _ _ (only-put _ _ (only-put _ _
-    (only-put _ _ (only-put _ _ (only-put _ _
-    (only-put _ _ (only-put _ _ (only-put _ _
-    (only-put _ _ (only-put _ _ (only-put _ _
-    (only-put _ _ (only-put _ _ (only-put _ _
-    (only-put _ _ (only-put _ _ (only-put _ _
-    (only-put _ _ (only-put _ _ (only-put _ _ (only-put _ _ (only-put _ _ (only-put _ _ (only-put _ _ (only-put _ _ only-none)))))))))))))))))))))))))) refl
-    refl s0 p0 locked
-
-lawful14 : IsLawful fast_threads forking q14 f14
-lawful14 = plain-lawful fast_threads forking q14 14 p0 (Take s0 p0 None) refl
-    (record { later = omega arith; proc = omega arith; steps = (tt, tt); reads = (refl, refl, refl, refl, refl, refl, refl); covered = one-share })
-    (record { step = λ _. record { free = λ _. inl refl } })
-    (record { turn = λ _. refl; closing = λ _. tt })
-    (record {
-      step = λ _. (
-        record {
-          keeps = record {
-            space = refl;
-            unlocked = unlocked14;
-            locks = refl;
-            cont = refl;
-            thread = refl;
-            target = (
-              refl,
-              record {
-                steps = 0;
-                within = omega arith;
-                list = refl;
-                opens = record { ready = refl; unlocked = unlocked14 };
-                first = λ k no. absurd (omega arith);
-              },
-            );
-          };
-          back = refl;
-        },
-        refl,
-      );
-    })
-    (record { run = tt })
-
-right14 : HoldEach fast_threads forking rules q14 f14 None
-right14 = with-end fast_threads forking q14 f14 None lawful14 (goes-on q15 refl refl)
-
-all-right : AreRight fast_threads forking (r0 g) forking_run
-all-right = (
-  right0 g,
-  (
-    right1 g,
-    (
-      right2 g,
-      (right3 g, (right4 g, (right5, (right6, (right7, (right8, (right9, (right10, (right11, (right12, (right13, (right14, tt)))))))))))),
-    ),
-  ),
-)
-
-pub breaks-OrderKept : FirstBreak fast_threads forking older_taken (stops_at 15) 15 OrderKept
-breaks-OrderKept = break-behind fast_threads forking forking_run (at 15 (Run s0 t1 ∷ [])) (stops_at 15) OrderKept all-right
-    (record {
-      earlier = before-order fast_threads forking q15 15 p0 (Run s0 t1) (Some (stops_at 15)) refl
-          (record {
-            later = omega arith;
-            proc = omega arith;
-            steps = ((refl, refl, refl), tt);
-            reads = (refl, refl, refl, refl, refl, refl, refl);
-            covered = one-share;
-          })
-          (record { step = λ _. record { free = λ no. absurd (false≢true no) } })
-          (record { turn = λ _. refl; closing = λ _. tt })
-          (record {
-            step = λ _. (
-              record { keeps = record { pop = refl; used = record { unused = refl; page = refl; cont = λ no. absurd (false≢true no) }; space = refl }; back = refl },
-              refl,
-            );
-          });
-      broken = λ h. apart21 h.run;
-    })
+pub breaks-OrderKept : (which : Package) → FirstBreak (rules_of which) forking older_taken (stops_at 15) 15 OrderKept
+breaks-OrderKept which = breaks-then 15 (Run s0 t1 ∷ []) (run-right which)
+    (record { earlier = up-to-order None (run-but-order which one-share refl refl ((refl, refl, refl), tt) refl refl); broken = no-order which })

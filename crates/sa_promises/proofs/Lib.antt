@@ -8,11 +8,11 @@
 --
 -- Calm: what holds at the moments of a run of one space where nothing is untold.
 -- Plain: what the kernel's rules ask of a step of one record in a calm moment.
--- Smallest, Broken, Forking: by FastThreads' rules the smallest run is legal, and for each rule a history breaks it first; list
--- order is broken in a run that forks two threads.
--- RankedSmallest, RankedBroken, RankedForking: the same by the rules of thread priorities.
--- Urging, Racing: what is thread priorities' own, on one processor and on two.
--- Both: by either package's rules.
+-- Right: runs that are right, and the event that breaks a rule first. Unlocked: who has which lock where few lives are.
+-- Seen, OwnRules, Steps: an event of one record by either package's rules. RankedSteps: what is thread priorities' own.
+-- Smallest, Broken, Forking: the smallest run is legal, and for each rule a history breaks it first; list order is broken in a run
+-- that forks two threads.
+-- Urging, Racing: thread priorities' own rules, on one processor and on two.
 pub mod lives
 pub mod words
 pub mod read
@@ -22,12 +22,14 @@ pub mod ranked
 pub mod packages
 pub mod Calm
 pub mod Plain
+pub mod Right
+pub mod Unlocked
+pub mod Seen
+pub mod OwnRules
+pub mod Steps
+pub mod RankedSteps
 pub mod Smallest
 pub mod Broken
 pub mod Forking
-pub mod RankedSmallest
-pub mod RankedBroken
-pub mod RankedForking
 pub mod Urging
 pub mod Racing
-pub mod Both

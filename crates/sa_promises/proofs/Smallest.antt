@@ -1,162 +1,100 @@
--- The run of the smallest workload is legal.
-use Rattle.std.proofs.Common.{inl, refl, arith, Some, None, List, [], ◌∷◌}
+-- The run of the smallest workload is right up to its instruction, whatever the programs, by either package's rules; and it is legal.
+use Rattle.std.proofs.Common.{ℕ, refl, arith, Some, None, List, [], ◌∷◌, take}
 use Rattle.std.proofs.lemmas.Bool.{false≢true}
 use Rattle.sa_base.specs.declared.record.Note.TheVariants.{Add}
 use Rattle.sa_base.specs.declared.record.Record.TheVariants.{Ins, Run, Take, Free, Up, Told, Move, Want, Aim, Line}
 use Rattle.sa_instr.specs.declared.instr.Instr.{Instr}
 use Rattle.sa_instr.specs.declared.instr.Instr.TheVariants.{End}
-use Rattle.sa_laws.specs.Event.{Event}
-use Rattle.sa_laws.specs.Readings.{Readings, opening_readings, IsLocked}
-use Rattle.sa_laws.specs.History.{is_inside, after_event, event_begun}
-use Rattle.sa_laws.specs.Rules.{fast_threads, IsLawful}
-use Rattle.sa_histories.specs.Short.{smallest, workload_with, at, s0, p0, t0, act}
+use Rattle.sa_laws.specs.Readings.{Readings, opening_readings, life_on}
+use Rattle.sa_laws.specs.History.{after_events}
+use Rattle.sa_laws.specs.Rules.{IsLawful}
+use Rattle.sa_laws.specs.Legal.{IsLegal}
+use Rattle.sa_histories.specs.Short.{workload_of, smallest, at, s0, p0, t0, act}
+use Rattle.sa_histories.proofs.Legality.{legal-along}
+use Rattle.sa_promises.specs.Packages.{Package, Fast, Prio, rules_of}
+use Rattle.sa_promises.specs.Examples.{smallest_run, smallest_trace}
+use Rattle.sa_promises.proofs.Calm.{prompt-calm, no-wants, one-share}
 use Rattle.sa_promises.proofs.Plain.{plain-lawful}
-use Rattle.sa_promises.proofs.Calm.{prompt-calm, no-wants, one-share, only-none, only-put, none-locked}
+use Rattle.sa_promises.proofs.Right.{IsRight, RightAlong, over, ◌►◌, lawfully, lawful-to}
+use Rattle.sa_promises.proofs.Unlocked.{AreFew, few-along}
+use Rattle.sa_promises.proofs.OwnRules.{nothing-owed, in-demand, in-turn, all-locks, kept-by, in-locks, in-order}
+use Rattle.sa_promises.proofs.Steps.{TakesList, frees, run-but-order, with-order, takes_for_pop}
 
-abbrev pub e0 : Event
-e0 = at 0 (Want s0 1 ∷ Aim p0 (Some s0) ∷ Line p0 ∷ [])
+abbrev pub before : Package → List (List Instr) → ℕ → Readings
+before which g n = after_events (rules_of which).inside (workload_of g) (opening_readings (workload_of g)) (take n smallest_run)
 
-abbrev pub e1 : Event
-e1 = at 1 (Move None (Some s0) ∷ Up s0 (act 0) ∷ Told (Add p0) ∷ [])
+-- the smallest workload's programs
+abbrev pub smallest_programs : List (List Instr)
+smallest_programs = (End ∷ []) ∷ []
 
-abbrev pub e2 : Event
-e2 = at 2 (Take s0 p0 None ∷ [])
-
-abbrev pub e3 : Event
-e3 = at 3 (Run s0 t0 ∷ [])
-
-abbrev pub e4 : Event
-e4 = at 4 (Free s0 p0 (Some t0) ∷ [])
-
-abbrev pub e5 : Event
-e5 = at 5 (Ins s0 t0 0 ∷ [])
-
--- whatever the program, up to the first instruction
-abbrev pub r0 : List Instr → Readings
-r0 g = opening_readings (workload_with g)
-
-abbrev pub next : List Instr → Readings → Event → Readings
-next g r e = after_event is_inside (workload_with g) r e
-
-abbrev pub r1 : List Instr → Readings
-r1 g = next g (r0 g) e0
-
-abbrev pub r2 : List Instr → Readings
-r2 g = next g (r1 g) e1
-
-abbrev pub r3 : List Instr → Readings
-r3 g = next g (r2 g) e2
-
-abbrev pub r4 : List Instr → Readings
-r4 g = next g (r3 g) e3
-
-abbrev pub r5 : List Instr → Readings
-r5 g = next g (r4 g) e4
-
-pub lawful0 : (g : List Instr) → IsLawful fast_threads (workload_with g) (r0 g) e0
-lawful0 g = record {
+lawful0 : (which : Package) (g : List (List Instr))
+    → IsLawful (rules_of which) (workload_of g) (before which g 0) (at 0 (Want s0 1 ∷ Aim p0 (Some s0) ∷ Line p0 ∷ []))
+lawful0 which g = record {
   numbered = record { number = refl; proc = omega arith; some = λ no. cc; opening = λ _. refl };
   stepwise = record { steps = (tt, (tt, (tt, tt))) };
   told_once = record { told = (tt, (tt, (tt, tt))) };
-  told_in_time = record { prompt = prompt-calm (r1 g) refl };
+  told_in_time = record { prompt = prompt-calm (before which g 1) refl };
   where_owned = record { named = (tt, (tt, (tt, tt))); owned = refl };
   all_told = record { told = (tt, (tt, (tt, tt))) };
   upcall_given = record { blocks = (tt, (tt, (tt, tt))) };
   interrupt_next = record { interrupt = λ no. absurd (false≢true no); calm = λ no. absurd no };
   line_cause = record { heard = (tt, (record { line = λ _. refl }, (refl, tt))); first = tt; order = refl; due = refl };
-  want_cause = record { due = λ no. absurd (omega arith); none = no-wants (r1 g) refl };
+  want_cause = record { due = λ no. absurd (omega arith); none = no-wants (before which g 1) refl };
   shares_covered = record { covered = one-share; due = refl };
-  demand_announced = record { step = λ no. absurd (omega arith) };
+  demand_announced = in-demand which _ _ _ (λ no. absurd (omega arith)) (λ no. absurd (omega arith));
   turns_taken = record { turn = λ no. absurd (omega arith); closing = λ no. absurd (omega arith) };
-  locks_kept = record { step = λ no. absurd (omega arith) };
-  order_kept = record { run = tt };
+  locks_kept = all-locks which _ _ _ (λ no. absurd (omega arith)) (λ no. absurd (omega arith));
+  order_kept = in-order which _ _ _ tt tt;
 }
 
-pub lawful1 : (g : List Instr) → IsLawful fast_threads (workload_with g) (r1 g) e1
-lawful1 g = record {
+lawful1 : (which : Package) (g : List (List Instr))
+    → IsLawful (rules_of which) (workload_of g) (before which g 1) (at 1 (Move None (Some s0) ∷ Up s0 (act 0) ∷ Told (Add p0) ∷ []))
+lawful1 which g = record {
   numbered = record { number = refl; proc = omega arith; some = λ no. cc; opening = λ no. absurd (omega arith) };
   stepwise = record { steps = ((refl, refl), (tt, (tt, tt))) };
   told_once = record { told = (tt, (tt, (tt, tt))) };
-  told_in_time = record { prompt = prompt-calm (r2 g) refl };
+  told_in_time = record { prompt = prompt-calm (before which g 2) refl };
   where_owned = record { named = (tt, (refl, (tt, tt))); owned = refl };
   all_told = record { told = (tt, (record { fresh = refl; notes = refl; some = λ no. cc }, (tt, tt))) };
   upcall_given = record { blocks = (tt, (tt, (tt, tt))) };
   interrupt_next = record { interrupt = λ _. (refl, refl, refl); calm = λ _. refl };
   line_cause = record { heard = (tt, (tt, (tt, tt))); first = tt; order = refl; due = refl };
-  want_cause = record { due = λ _. refl; none = no-wants (r2 g) refl };
+  want_cause = record { due = λ _. refl; none = no-wants (before which g 2) refl };
   shares_covered = record { covered = one-share; due = refl };
-  demand_announced = record { step = λ _. tt };
+  demand_announced = in-demand which _ _ _ (λ _. tt) (λ _. tt);
   turns_taken = record { turn = λ _. tt; closing = λ _. tt };
-  locks_kept = record { step = λ _. (tt, tt) };
-  order_kept = record { run = tt };
+  locks_kept = all-locks which _ _ _ (λ _. (tt, tt)) (λ _. (tt, tt));
+  order_kept = in-order which _ _ _ tt tt;
 }
 
-pub unlocked2 : (g : List Instr) (e : Event) → IsLocked (event_begun (workload_with g) e (r2 g)) s0 p0 → ⊥
-unlocked2 g e locked = none-locked (event_begun (workload_with g) e (r2 g)) _ (only-put _ _ (only-put _ _ only-none)) refl refl s0 p0 locked
+-- processor 0 takes its own list first
+pub takes0 : (which : Package) (g : List (List Instr)) → TakesList which (workload_of g) p0 p0
+takes0 Fast g = (refl, refl)
+takes0 Prio g = refl
 
-pub lawful2 : (g : List Instr) → IsLawful fast_threads (workload_with g) (r2 g) e2
-lawful2 g = plain-lawful fast_threads (workload_with g) (r2 g) 2 p0 (Take s0 p0 None) refl
-    (record { later = omega arith; proc = omega arith; steps = (tt, tt); reads = (refl, refl, refl, refl, refl, refl, refl); covered = one-share })
-    (record { step = λ _. record { free = λ _. inl refl } })
-    (record { turn = λ _. refl; closing = λ _. tt })
-    (record {
-      step = λ _. (
-        record {
-          keeps = record {
-            space = refl;
-            unlocked = unlocked2 g e2;
-            locks = refl;
-            cont = refl;
-            thread = refl;
-            target = (
-              refl,
-              record {
-                steps = 0;
-                within = omega arith;
-                list = refl;
-                opens = record { ready = refl; unlocked = unlocked2 g e2 };
-                first = λ k no. absurd (omega arith);
-              },
-            );
-          };
-          back = refl;
-        },
-        refl,
-      );
-    })
-    (record { run = tt })
+pub few : (which : Package) (g : List (List Instr)) (n : ℕ) → AreFew (before which g n).lives
+few which g n =
+    few-along (rules_of which).inside (workload_of g) (opening_readings (workload_of g)) n smallest_run refl (record { others = λ a high. refl })
 
-pub lawful3 : (g : List Instr) → IsLawful fast_threads (workload_with g) (r3 g) e3
-lawful3 g = plain-lawful fast_threads (workload_with g) (r3 g) 3 p0 (Run s0 t0) refl
-    (record {
-      later = omega arith;
-      proc = omega arith;
-      steps = ((refl, refl, refl), tt);
-      reads = (refl, refl, refl, refl, refl, refl, refl);
-      covered = one-share;
-    })
-    (record { step = λ _. record { free = λ no. absurd (false≢true no) } })
-    (record { turn = λ _. refl; closing = λ _. tt })
-    (record {
-      step = λ _. (
-        record { keeps = record { pop = refl; used = record { unused = refl; page = refl; cont = λ no. absurd (false≢true no) }; space = refl }; back = refl },
-        refl,
-      );
-    })
-    (record { run = refl })
+right2 : (which : Package) (g : List (List Instr)) → IsRight (rules_of which) (workload_of g) (before which g 2) (at 2 (Take s0 p0 None ∷ []))
+right2 which g = takes_for_pop which one-share refl refl refl refl (takes0 which g) (record { few = few which g 2; zeroth = refl; first = refl }) refl
 
-pub lawful4 : (g : List Instr) → IsLawful fast_threads (workload_with g) (r4 g) e4
-lawful4 g = plain-lawful fast_threads (workload_with g) (r4 g) 4 p0 (Free s0 p0 (Some t0)) refl
-    (record { later = omega arith; proc = omega arith; steps = (tt, tt); reads = (refl, refl, refl, refl, refl, refl, refl); covered = one-share })
-    (record { step = λ _. record { free = λ no. absurd (false≢true no) } })
-    (record { turn = λ _. refl; closing = λ _. tt })
-    (record {
-      step = λ _. (record { keeps = record { space = refl; list = refl; thread = refl; used = refl; cont = λ no. absurd (false≢true no) }; back = refl }, refl);
-    })
-    (record { run = tt })
+right3 : (which : Package) (g : List (List Instr)) → IsRight (rules_of which) (workload_of g) (before which g 3) (at 3 (Run s0 t0 ∷ []))
+right3 which g = with-order which (run-but-order which one-share refl refl ((refl, refl, refl), tt) refl refl) (in-order which _ _ _ refl refl)
 
-pub lawful5 : IsLawful fast_threads smallest (r5 (End ∷ [])) e5
-lawful5 = plain-lawful fast_threads smallest (r5 (End ∷ [])) 5 p0 (Ins s0 t0 0) refl
+pub right4 : (which : Package) (g : List (List Instr)) → IsRight (rules_of which) (workload_of g) (before which g 4) (at 4 (Free s0 p0 (Some t0) ∷ []))
+right4 which g = frees which one-share refl refl refl
+
+pub before-instruction : (which : Package) (g : List (List Instr)) → RightAlong (rules_of which) (workload_of g) (before which g 0) (take 5 smallest_run)
+before-instruction which g =
+    lawfully (lawful0 which g) refl refl ► lawfully (lawful1 which g) refl refl ► right2 which g ► right3 which g ► right4 which g ► over
+
+-- the instruction ends the only thread, so the run does not go on after it
+lawful5 : (which : Package) → IsLawful (rules_of which) smallest (before which smallest_programs 5) (at 5 (Ins s0 t0 0 ∷ []))
+lawful5 which =
+    let r = before which smallest_programs 5 in
+    let allowed = nothing-owed smallest r (Ins s0 t0 0) (life_on r p0) s0 [] (Some t0) refl refl in
+    plain-lawful (rules_of which) smallest r 5 p0 (Ins s0 t0 0) refl
     (record {
       later = omega arith;
       proc = omega arith;
@@ -164,7 +102,9 @@ lawful5 = plain-lawful fast_threads smallest (r5 (End ∷ [])) 5 p0 (Ins s0 t0 0
       reads = (refl, refl, refl, refl, refl, refl, refl);
       covered = one-share;
     })
-    (record { step = λ _. record { free = λ _. inl refl } })
-    (record { turn = λ _. refl; closing = λ _. tt })
-    (record { step = λ _. (record { keeps = tt; back = refl }, tt) })
-    (record { run = tt })
+    (in-demand which _ _ _ (λ _. allowed.free) (λ _. allowed.unurged)) (in-turn which (λ _ _ _ _ _ step. step) refl)
+    (in-locks which _ _ _ _ _ refl refl refl refl (λ life same. kept-by which _ _ _ _ _ tt tt)) (in-order which _ _ _ tt tt)
+
+pub smallest-legal : (which : Package) → IsLegal (rules_of which) smallest smallest_trace
+smallest-legal which = legal-along (rules_of which) smallest smallest_run (λ no. cc)
+    (lawful-to (at 5 (Ins s0 t0 0 ∷ [])) (before-instruction which smallest_programs) (lawful5 which))

@@ -5,7 +5,7 @@
 -- Untouched: fields of lives that few records change.
 -- Items: along a legal run what is read is what the words say, item by item.
 -- Known: what is known of each record of a lawful event. Spaces: the spaces of aims, owners and lives are the workload's.
--- Loads: the load of a space. OwnEvents, Inside: own events, what settles, and which lives are in.
+-- Loads: the load of a space. OwnEvents, Inside: own events, what settles, and which lives are in. Urged: pairs.
 -- Events: from event to event. Ends: at the end of each event. Moments: each reading at each moment of a legal run.
 pub mod Along
 pub mod Lists
@@ -21,6 +21,7 @@ pub mod Loads
 pub mod OwnEvents
 pub mod Inside
 pub mod Events
+pub mod Urged
 pub mod Ends
 pub mod Spaces
 pub mod Moments

@@ -14,7 +14,7 @@ use Rattle.sa_laws.specs.Upcalls.{RecordLaw, EachOf}
 use Rattle.sa_laws.specs.Rules.{UserRules, IsLawful}
 use Rattle.sa_base.specs.declared.number.ActNo.{ActNo}
 use Rattle.sa_laws.specs.State.{instr_of}
-use Rattle.sa_laws.specs.History.{Test, is_inside}
+use Rattle.sa_laws.specs.History.{is_inside}
 use Rattle.sa_laws.specs.Turns.{Steps, IsPassage, IsInsOf, TurnsAreTaken}
 use Rattle.sa_laws.specs.Demand.{DemandIsAnnounced}
 
@@ -122,12 +122,6 @@ pub record HasForms (u : UserRules) : Type 0 where
   pub tells : TellsBehindUps u
   pub own : (w : WorkloadView) (r : Readings) (e : Event) → IsLawful u w r e → EachOf (OwnTakes e.proc) w r e
   pub formed : (w : WorkloadView) (r : Readings) (e : Event) → IsLawful u w r e → TurnsAreTaken IsFormed w r e
-
--- The test of which lives are in is FastThreads'.
-abbrev pub AsFast : Test → Type 0
-AsFast test =
-    (w : WorkloadView) (before : Readings) (e : Event) (after : Readings) (settled : Bool) (life : Life)
-    → test w before e after settled life ≡ is_inside w before e after settled life
 
 -- What covering loads needs too: demand is announced, and a life that is in by FastThreads' test is in.
 pub record AnnouncesDemand (u : UserRules) : Type 0 where

@@ -21,6 +21,13 @@ back_for_nothing = trace_then 5 (Back s0 (Some t0) ∷ [])
 abbrev pub own_line : List Item
 own_line = trace_then 5 (Line p0 ∷ [])
 
+-- List locks: a life takes another list than list 0.
+abbrev pub p1 : ProcNo
+p1 = record { 0 = 1 }
+
+abbrev pub other_list_taken : List Item
+other_list_taken = trace_then 2 (Take s0 p1 None ∷ [])
+
 -- A thread of rank 0 forks one of rank 1, which outranks it: programs `fork r0 1`, `end` and `end`.
 abbrev pub urging_programs : List (List Instr)
 urging_programs = (Fork R0 1 ∷ End ∷ []) ∷ (End ∷ []) ∷ []
@@ -52,9 +59,6 @@ lesser_taken = items_of (urging_run ++ at 14 (Run s0 t0 ∷ []) ∷ [])
 
 -- Two processors. A thread of rank 0 forks one of rank 2, and gives way to it; it runs on another processor; then that one
 -- forks one of rank 1, which outranks it: programs `fork r0 2` and `end`, `end`, `fork r0 1` and `end`.
-abbrev pub p1 : ProcNo
-p1 = record { 0 = 1 }
-
 abbrev pub at1 : ℕ → List Record → Event
 at1 n records = record { number = n; proc = p1; records = records }
 

@@ -13,6 +13,7 @@ use Rattle.sa_laws.specs.Readings.{Readings, running_of, line_of, life_of, load_
 use Rattle.sa_laws.specs.History.{is_step, settles, behind_all}
 use Rattle.sa_laws.specs.Rules.{UserRules}
 use Rattle.sa_laws.specs.Legal.{before}
+use Rattle.sa_promises.specs.Packages.{Package}
 use Rattle.sa_promises.specs.Words.{RaisedAt, ios_begun, last_aim, last_want, last_owner, is_fetched, StandsUntold}
 use Rattle.sa_promises.specs.Lives.{stand_of, Taken}
 use Rattle.sa_promises.specs.Moments.{Home, machine_of, runs_on, last_up, home_of}
@@ -110,14 +111,14 @@ PagesAreRead w events r =
 
 -- of each life: whether it is in, its scan count, whether its last own event was a free, and whether it was idle at its
 -- stop
-pub record StepsAsIsSaid (w : WorkloadView) (events : List Event) (a : ActNo) (life : Life) : Type 0 where
-  pub inside : life.inside ≡ is_in w events a
+pub record StepsAsIsSaid (which : Package) (w : WorkloadView) (events : List Event) (a : ActNo) (life : Life) : Type 0 where
+  pub inside : life.inside ≡ is_in which w events a
   pub scans : life.scans ≡ scans_of events a
   pub freed : life.freed ≡ was_free events a
-  pub idle : life.idle ≡ was_idle w events a
+  pub idle : life.idle ≡ was_idle which w events a
 
-abbrev pub StepsAreRead : WorkloadView → List Event → Readings → Type 0
-StepsAreRead w events r = (a : ActNo) (life : Life) → life_of r a ≡ Some life → StepsAsIsSaid w events a life
+abbrev pub StepsAreRead : Package → WorkloadView → List Event → Readings → Type 0
+StepsAreRead which w events r = (a : ActNo) (life : Life) → life_of r a ≡ Some life → StepsAsIsSaid which w events a life
 
 -- of these, what does not rest on a user level's test of which lives are in
 pub record CountsAsIsSaid (events : List Event) (a : ActNo) (life : Life) : Type 0 where

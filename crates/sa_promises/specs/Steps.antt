@@ -3,6 +3,7 @@
 use Rattle.std.specs.Prelude.{ℕ, ◌+◌, Bool, true, false, not, ◌&&◌, ◌||◌, nat_lt, nat_le, min, if◌then◌else◌, is_none, List, [], ◌∷◌, ◌++◌, length, Option, Some, None}
 use Rattle.std.specs.List.{list_any}
 use Rattle.sa_base.specs.declared.number.ActNo.{ActNo}
+use Rattle.sa_base.specs.declared.number.SpaceNo.{SpaceNo}
 use Rattle.sa_base.specs.declared.limits.TheConstants.{BULK_RETURN}
 use Rattle.sa_base.specs.declared.record.Note.TheVariants.{Preempted, Unblocked}
 use Rattle.sa_base.specs.declared.record.Record.{Record}
@@ -16,10 +17,12 @@ use Rattle.sa_laws.specs.State.{space_at, thread_at, runner_on}
 use Rattle.sa_laws.specs.Life.{some_lock}
 use Rattle.sa_laws.specs.Readings.{counts}
 use Rattle.sa_laws.specs.History.{is_running_or_blocked, is_up}
+use Rattle.sa_promises.specs.Packages.{Package}
 use Rattle.sa_promises.specs.Words.{last_want}
 use Rattle.sa_promises.specs.Along.{along}
 use Rattle.sa_promises.specs.Moments.{Home, machine_of, runs_on, home_of}
 use Rattle.sa_promises.specs.Loads.{load_in}
+use Rattle.sa_promises.specs.Urged.{is_urged, asked_at}
 use Rattle.sa_promises.specs.Holdings.{change, locks_of, hand_of, has_cont, taken_in}
 
 -- Of each number a value, which the up of its life sets, and the telling of its stop or unblock too where that is given.
@@ -85,29 +88,33 @@ abbrev pub owes_return : WorkloadView → List Item → Home → Bool
 owes_return w now home =
     is_none (runner_on (machine_of w now) home.proc) && nat_le BULK_RETURN (length (taken_in now home.space))
 
--- A life is in where at the end of its last own event it had something; or where that event settled it and it owed a want
--- or a return then. Once it is told of, it is in no longer.
-abbrev pub is_in_with : WorkloadView → List Item → Bool → ActNo → Option Home → Bool
-is_in_with w now settled a None = false
-is_in_with w now settled a (Some home) =
+-- A life is in where at the end of its last own event it had something; or where that event settled it, and it owed a want
+-- or a return then, or by thread priorities its space had a pair. Once it is told of, it is in no longer.
+abbrev pub is_in_with : WorkloadView → List Item → (SpaceNo → Bool) → Bool → ActNo → Option Home → Bool
+is_in_with w now urged settled a None = false
+is_in_with w now urged settled a (Some home) =
     has_something w now a home || (settled && owes_want w now home) || (settled && owes_return w now home)
+    || (settled && urged home.space)
 
-abbrev pub is_in_at : WorkloadView → List Item → Bool → ActNo → Bool
-is_in_at w now settled a = is_in_with w now settled a (home_of now a)
+abbrev pub is_in_at : WorkloadView → List Item → (SpaceNo → Bool) → Bool → ActNo → Bool
+is_in_at w now urged settled a = is_in_with w now urged settled a (home_of now a)
 
-abbrev pub set_in : WorkloadView → List Item → Bool → Option ActNo → (ℕ → Bool) → ℕ → Bool
-set_in w now settled None has = has
-set_in w now settled (Some a) has = put has a.0 (is_in_at w now settled a)
+abbrev pub set_in : WorkloadView → List Item → (SpaceNo → Bool) → Bool → Option ActNo → (ℕ → Bool) → ℕ → Bool
+set_in w now urged settled None has = has
+set_in w now urged settled (Some a) has = put has a.0 (is_in_at w now urged settled a)
 
-abbrev pub in_with : WorkloadView → List Item → List Item → Event → (ℕ → Bool) → ℕ → Bool
-in_with w past now e has =
-    set_in w now true (rising now e) (set_in w now (settles_at w past now e.records) (stepping past e) (renewed false (Some false) e.records has))
+abbrev pub in_with : WorkloadView → List Item → (SpaceNo → Bool) → List Item → Event → (ℕ → Bool) → ℕ → Bool
+in_with w past urged now e has =
+    set_in w now urged true (rising now e)
+    (set_in w now urged (settles_at w past now e.records) (stepping past e) (renewed false (Some false) e.records has))
 
-abbrev pub in_by : WorkloadView → List Event → (ℕ → Bool) → Event → ℕ → Bool
-in_by w before has e = in_with w (items_of before) (with_event (items_of before) e) e has
+abbrev pub in_by : Package → WorkloadView → List Event → (ℕ → Bool) → Event → ℕ → Bool
+in_by which w before has e =
+    let past = items_of before in
+    in_with w past (is_urged which w (asked_at past e)) (with_event past e) e has
 
-abbrev pub is_in : WorkloadView → List Event → ActNo → Bool
-is_in w events a = along (in_by w) (λ b. false) events a.0
+abbrev pub is_in : Package → WorkloadView → List Event → ActNo → Bool
+is_in which w events a = along (in_by which w) (λ b. false) events a.0
 
 -- A life whose stop was recorded was idle then, where directly before it was not in and its stop names no thread.
 abbrev pub idle_at : (ℕ → Bool) → Record → (ℕ → Bool) → ℕ → Bool
@@ -119,11 +126,11 @@ abbrev pub idle_behind : (ℕ → Bool) → List Record → (ℕ → Bool) → �
 idle_behind ins [] has = has
 idle_behind ins (x ∷ xs) has = idle_behind (renewed_at false (Some false) x ins) xs (idle_at ins x has)
 
-abbrev pub idle_by : WorkloadView → List Event → (ℕ → Bool) → Event → ℕ → Bool
-idle_by w before has e = idle_behind (along (in_by w) (λ b. false) before) e.records has
+abbrev pub idle_by : Package → WorkloadView → List Event → (ℕ → Bool) → Event → ℕ → Bool
+idle_by which w before has e = idle_behind (along (in_by which w) (λ b. false) before) e.records has
 
-abbrev pub was_idle : WorkloadView → List Event → ActNo → Bool
-was_idle w events a = along (idle_by w) (λ b. false) events a.0
+abbrev pub was_idle : Package → WorkloadView → List Event → ActNo → Bool
+was_idle which w events a = along (idle_by which w) (λ b. false) events a.0
 
 -- The scan count of a life: how many idle records it has since its up or its last own event of another kind; a lowering
 -- hint neither counts nor ends the count.

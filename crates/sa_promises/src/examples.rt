@@ -5,7 +5,7 @@ ghost use Rattle.sa_ranks.specs.Rules.{prio_threads};
 ghost use Rattle.sa_histories.specs.Short.{smallest};
 ghost use Rattle.sa_promises.specs.Packages.{Package, rules_of};
 ghost use Rattle.sa_promises.specs.Examples.{smallest_trace, blocking, stops_at, told_done, other_opening, other_place, told_of_nothing, stopped_untold, two_lives, not_told_added, other_io, interrupt_put_off, raised_for_nothing, wanted_for_nothing, aimed_for_nothing, idle_with_lock, idle_beside_thread, freed_unused, not_done, forking, older_taken};
-ghost use Rattle.sa_promises.specs.RankedExamples.{urging, racing, line_again, line_unasked, outranked_run, back_alone, pair_unserved, back_for_nothing, own_line, goes_on_outranked, lesser_taken};
+ghost use Rattle.sa_promises.specs.RankedExamples.{urging, racing, line_again, line_unasked, other_list_taken, outranked_run, back_alone, pair_unserved, back_for_nothing, own_line, goes_on_outranked, lesser_taken};
 
 /// The run of the smallest workload is legal.
 pub fn smallest_run_is_legal()
@@ -36,6 +36,7 @@ pub fn rules_can_be_broken()
 pub fn ranks_can_be_broken()
     ensures own_line { FirstBreak prio_threads smallest own_line (stops_at 5) 5 LineCause }
     ensures back { FirstBreak prio_threads smallest back_for_nothing (stops_at 5) 5 TurnsTaken }
+    ensures locks { FirstBreak prio_threads smallest other_list_taken (stops_at 2) 2 LocksKept }
     ensures urge { FirstBreak prio_threads urging goes_on_outranked (stops_at 9) 9 DemandAnnounced }
     ensures rank { FirstBreak prio_threads urging lesser_taken (stops_at 14) 14 OrderKept }
 {}

@@ -2,7 +2,6 @@
 ghost use Rattle.std.specs.Prelude.{List};
 ghost use Rattle.sa_base.specs.declared.record.Item.{Item};
 ghost use Rattle.sa_spaces.specs.Workload.{WorkloadView, IsWorkload};
-ghost use Rattle.sa_laws.specs.Rules.{fast_threads};
 ghost use Rattle.sa_laws.specs.Legal.{IsLegal};
 ghost use Rattle.sa_promises.specs.Packages.{Package, rules_of};
 ghost use Rattle.sa_promises.specs.Reads.{AreRead, AreReadAtEvents, MachineIsRead, MarksAreRead, LinesAreRead, LoadsAreRead, HoldingsAreRead, ReadyAreRead, TakenAreRead, IosAreRead, PagesAreRead, StepsAreRead, CountsAreRead, OwnEventIsRead, LivesHaveSpaces};
@@ -69,10 +68,10 @@ pub fn counts_are_read()
         → AreRead (rules_of which) CountsAreRead w items }
 {}
 
-/// By FastThreads' rules: whether each life is in, its scan count, whether its last own event was a free, and whether it was idle at its stop.
+/// Whether each life is in, its scan count, whether its last own event was a free, and whether it was idle at its stop.
 pub fn steps_are_read()
-    ensures { (w : WorkloadView) (items : List Item) → IsLegal fast_threads w items
-        → AreRead fast_threads (StepsAreRead w) w items }
+    ensures { (which : Package) (w : WorkloadView) (items : List Item) → IsLegal (rules_of which) w items
+        → AreRead (rules_of which) (StepsAreRead which w) w items }
 {}
 
 /// Which events are a life's own, and which of them settle it.

@@ -326,15 +326,11 @@ before-last rules meets w r e at law =
 
 three : (a b c : Bool) → (a && b && c) ≡ true → (a ≡ true) × (b ≡ true) × (c ≡ true)
 three true true true is = (refl, refl, refl)
-three true true false is = absurd (cc)
-three true false c is = absurd (cc)
-three false b c is = absurd (cc)
+three _ _ _ is = absurd (cc)
 
 all-three : (a b c : Bool) → a ≡ true → b ≡ true → c ≡ true → (a && b && c) ≡ true
 all-three true true true x y z = refl
-all-three true true false x y z = absurd (cc)
-all-three true false c x y z = absurd (cc)
-all-three false b c x y z = absurd (cc)
+all-three _ _ _ x y z = absurd (cc)
 
 -- lists that are made of others
 made-has : {A B : Type 0} (h : A → Option B) (xs : List A) (x : A) (y : B) → Contains xs x → h x ≡ Some y → Contains (filter_map h xs) y

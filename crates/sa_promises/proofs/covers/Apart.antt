@@ -24,7 +24,7 @@ use Rattle.sa_laws.specs.Shape.{told_run}
 use Rattle.sa_laws.specs.Upcalls.{TellsAllThen, IsUntoldTo, is_moved_to}
 use Rattle.sa_promises.specs.Words.{Notes}
 use Rattle.sa_promises.proofs.words.Untold.{untold-cases}
-use Rattle.sa_promises.proofs.lives.Standing.{Standing, Nowhere, Runs, Blocked, Stopped, Returned, Taken, space_in, took, kind, standing_after, Stood, Agrees, space_of, space-handed, took-space}
+use Rattle.sa_promises.proofs.lives.Standing.{Standing, Nowhere, Runs, Blocked, Stopped, Returned, space_in, took, kind, standing_after, Stood, Agrees, space_of, space-handed, took-space}
 use Rattle.sa_promises.specs.Needs.{is_telling}
 use Rattle.sa_promises.proofs.lives.Shapes.{Moves}
 use Rattle.sa_promises.proofs.lives.Moves.{agrees-start, agrees-begun, agrees-ended, nowhere_first, nothing-in}
@@ -52,12 +52,9 @@ later-in n m ns apart (zero, below, is) = absurd (apart is)
 later-in n m ns apart (suc k, below, is) = (k, omega arith, is)
 
 took-kind : (x : Standing) → kind x ≢ 1 → kind (took x) ≢ 1
-took-kind Nowhere is = is
-took-kind (Runs s p) is = is
-took-kind (Blocked s) is = is
 took-kind (Stopped s) is = λ e. cc
 took-kind (Returned s) is = λ e. cc
-took-kind (Taken s) is = is
+took-kind _ is = is
 
 -- a number that goes elsewhere
 put-stands : (st : ℕ → Standing) (s : SpaceNo) (a b : ℕ) (v : Standing) → (b ≡ a → (space_in v ≡ Some s) × (kind v ≢ 1))
@@ -91,11 +88,9 @@ blocks-step w e p st r x xs apart was s b has = elim (untold-cases r x s (note.B
   stays (Told (note.Unblocked a)) was' taken is =
       put-stands st s a.0 b.0 (took (st a.0))
       (λ at. (took-space (st a.0) ∙ ap (λ n. space_in (st n)) (sym at) ∙ is.0, took-kind (st a.0) (λ e'. is.1 (ap (λ n. kind (st n)) at ∙ e')))) is
-  stays (Told (note.Add q)) was' taken is = is
-  stays (Told (note.Blocked a)) was' taken is = is
   stays (GiveBack a) was' taken is =
       put-stands st s a.0 b.0 Nowhere (λ at. absurd (contains-nil (note.Blocked b) (taken (ap (λ n. kind (st n)) at ∙ ap kind was'.1)))) is
-  stays y was' taken is = is
+  stays _ was' taken is = is
 
   comes : (y : Record) → Notes y s (note.Blocked b) → (space_in (standing_after p st y b.0) ≡ Some s) × (kind (standing_after p st y b.0) ≢ 1)
   comes (Block u t a io) notes =

@@ -173,11 +173,8 @@ usable-covers w r s is = min-less w.processors (active_threads (space_at r.state
 
 -- a life that its event settled, or that of an up
 third : (a b c d x : Bool) → d ≡ true → (a || b || c || (true && d) || x) ≡ true
-third true b c d x is = refl
-third false true c d x is = refl
-third false false true d x is = refl
-third false false false true x is = refl
 third false false false false x is = absurd (cc)
+third _ _ _ _ x is = refl
 
 not-below : (a b : ℕ) → nat_lt a b ≡ false → b ≤ a
 not-below a b is = grind (arith, nat_tests)

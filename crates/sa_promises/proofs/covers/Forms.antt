@@ -345,11 +345,9 @@ raising-pass w e p s c (Aim q None ∷ xs) is = absurd is
 raising-pass w e p s c (x ∷ xs) is = absurd is
 
 set-one : (ds : List ℕ) (i j : ℕ) → get_or ds j 0 ≤ 1 → get_or (slice_set ds i 1) j 0 ≤ 1
-set-one [] i j low = low
 set-one (d ∷ ds) zero zero low = omega arith
-set-one (d ∷ ds) zero (suc j) low = low
-set-one (d ∷ ds) (suc i) zero low = low
 set-one (d ∷ ds) (suc i) (suc j) low = set-one ds i j low
+set-one _ _ _ low = low
 
 pub closing-pass : (w : WorkloadView) (e : ℕ) (p : ProcNo) (s : SpaceNo) (r c : Readings) (xs : List Record) → IsClosing xs → LowWants r xs → AtMostOne r c
     → EachRecord (Passes s) w e p c xs

@@ -99,11 +99,9 @@ wants-state w e p r [] = refl
 wants-state w e p r (s ∷ spaces) = wants-state w e p (after_record w e p r (Want s 1)) spaces
 
 still-one : (ds : List ℕ) (i j : ℕ) → 1 ≤ get_or ds j 0 → 1 ≤ get_or (slice_set ds i 1) j 0
-still-one [] i j some = some
 still-one (d ∷ ds) zero zero some = omega arith
-still-one (d ∷ ds) zero (suc j) some = some
-still-one (d ∷ ds) (suc i) zero some = some
 still-one (d ∷ ds) (suc i) (suc j) some = still-one ds i j some
+still-one _ _ _ some = some
 
 wants-demand : (w : WorkloadView) (e : ℕ) (p : ProcNo) (k m : ℕ) (r : Readings) (s : SpaceNo) → s.0 < length r.demands
     → ((k ≤ s.0) × (s.0 < k + m)) ⊎ (1 ≤ demand_of r s)

@@ -92,11 +92,7 @@ passing-each w e p s r (x ∷ xs) passes = (passing s r x xs passes.0, passing-e
 
 pub passing-more : (s : SpaceNo) (r : Readings) (x : Record) (rest more : List Record) → Passing s r x rest → Passing s r x (rest ++ more)
 passing-more s r (Up u a) rest more is = is
-passing-more s r (Run u t) rest more is = is
-passing-more s r (Ready u t) rest more is = is
-passing-more s r (Cont u t) rest more is = is
-passing-more s r (GiveBack a) rest more is = is
-passing-more s r x rest more is = is
+passing-more s r _ rest more is = is
 
 -- a record that does not concern a space passes it, if it lowers no demand of it
 pub passes-so : (s : SpaceNo) (r : Readings) (x : Record) (rest : List Record) → Passing s r x rest
@@ -187,19 +183,13 @@ ins-forked x t thread reg k runs = one (nat_lt (length x.threads) Rattle.sa_base
 
 active-ins : (x : SpaceState) (t : ThreadNo) (i : Instr) → is_active (thread_in x t).place ≡ true
     → active_threads (effect_of x t (thread_in x t) i).space ≤ active_threads x
-active-ins x t (instr.Load reg cell) runs = count-set x.threads t.0 _ (λ active. runs)
-active-ins x t (instr.Store reg cell) runs = count-set x.threads t.0 _ (λ active. runs)
-active-ins x t (instr.Out reg) runs = count-set x.threads t.0 _ (λ active. runs)
 active-ins x t (instr.Fork reg k) runs = ins-forked x t (thread_in x t) reg k runs
 active-ins x t (instr.Join reg) runs = ins-answered x t _ _ runs
 active-ins x t (instr.Lock m) runs = ins-answered x t _ _ runs
 active-ins x t (instr.Unlock m) runs = ins-answered x t _ _ runs
 active-ins x t (instr.Wait m) runs = ins-answered x t _ _ runs
 active-ins x t (instr.Signal m) runs = ins-answered x t _ _ runs
-active-ins x t (instr.Io n) runs = count-set x.threads t.0 _ (λ active. runs)
-active-ins x t (instr.Touch page) runs = count-set x.threads t.0 _ (λ active. runs)
-active-ins x t instr.End runs = count-set x.threads t.0 _ (λ active. runs)
-active-ins x t i runs = count-set x.threads t.0 _ (λ active. runs)
+active-ins x t _ runs = count-set x.threads t.0 _ (λ active. runs)
 
 active-step : (w : WorkloadView) (p : ProcNo) (r : Readings) (s : SpaceNo) (x : Record) (xs : List Record) → Needs w p r x → Passes s r x xs
     → active_threads (space_at (changed w p r.state x) s) ≤ active_threads (space_at r.state s)
@@ -220,11 +210,9 @@ active-step w p r s x xs needs passes = omega arith
 
 -- demands
 demand-set : (ds : List ℕ) (i j n : ℕ) → (i ≡ j → get_or ds j 0 ≤ n) → get_or ds j 0 ≤ get_or (slice_set ds i n) j 0
-demand-set [] i j n less = omega arith
 demand-set (d ∷ ds) zero zero n less = less refl
-demand-set (d ∷ ds) zero (suc j) n less = omega arith
-demand-set (d ∷ ds) (suc i) zero n less = omega arith
 demand-set (d ∷ ds) (suc i) (suc j) n less = demand-set ds i j n (λ e. less (ap suc e))
+demand-set _ _ _ n less = omega arith
 
 demand-step : (r : Readings) (s : SpaceNo) (x : Record) (xs : List Record) → Passes s r x xs → get_or r.demands s.0 0 ≤ get_or (demands_after r.demands x) s.0 0
 demand-step r s (Want u n) xs passes = demand-set r.demands u.0 s.0 n passes
@@ -294,10 +282,8 @@ lives-kept w p st r s (Told (note.Preempted a)) xs apart law passes quiet =
 lives-kept w p st r s (Told (note.Unblocked a)) xs apart law passes quiet =
     let up = told-space st r (note.Unblocked a) a apart.agrees (inr refl) law.0 in
     still-handed s r.upped a (life_of r a) r.lives (λ l is of. quiet law.1 (up.1 ∙ sym up.2 ∙ sym (apart.agrees.lives a) ∙ ap space_of is ∙ ap Some of))
-lives-kept w p st r s (Told (note.Add q)) xs apart law passes quiet = still-self s r.lives
-lives-kept w p st r s (Told (note.Blocked a)) xs apart law passes quiet = still-self s r.lives
 lives-kept w p st r s (GiveBack a) xs apart law passes quiet = still-put s a.0 None r.lives (λ l is of. passes (ap space_of is ∙ ap Some of))
-lives-kept w p st r s x xs apart law passes quiet = still-self s r.lives
+lives-kept w p st r s _ xs apart law passes quiet = still-self s r.lives
 
 pub without-has : (n z : Note) (xs : List (List Note)) (j : ℕ) → is_other_note n z ≡ true → Contains (get_or xs j []) z
     → Contains (get_or (without_note xs n) j []) z

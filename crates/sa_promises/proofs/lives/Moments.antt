@@ -68,10 +68,8 @@ plain-after p st (Unblock s t b) a was = plain-put st a b (Returned s) life.Retu
 plain-after p st (Up s b) a was = plain-put st a b (Runs s p) (life.Running p) refl
 plain-after p st (Told (note.Preempted b)) a was = plain-put st a b (took (st b.0)) life.Taken (ap (λ y. plain (took y)) was.1)
 plain-after p st (Told (note.Unblocked b)) a was = plain-put st a b (took (st b.0)) life.Taken (ap (λ y. plain (took y)) was.1)
-plain-after p st (Told (note.Add q)) a was = refl
-plain-after p st (Told (note.Blocked b)) a was = refl
 plain-after p st (GiveBack b) a was = plain-put st a b Nowhere life.Unused refl
-plain-after p st x a was = refl
+plain-after p st _ a was = refl
 
 -- each number stands in one place, as is read
 pub record IsSound (w : WorkloadView) (past : List Item) (r : Readings) : Type 0 where
@@ -312,19 +310,11 @@ some-space (Some l) = refl
 
 used-plain : (x : Standing) → is_some (space_in x) ≡ true → plain x ≢ life.Unused
 used-plain Nowhere is same = absurd (cc)
-used-plain (Runs s p) is same = cc
-used-plain (Blocked s) is same = cc
-used-plain (Stopped s) is same = cc
-used-plain (Returned s) is same = cc
-used-plain (Taken s) is same = cc
+used-plain _ is same = cc
 
 plain-used : (x : Standing) → plain x ≢ life.Unused → is_some (space_in x) ≡ true
 plain-used Nowhere other = absurd (other refl)
-plain-used (Runs s p) other = refl
-plain-used (Blocked s) other = refl
-plain-used (Stopped s) other = refl
-plain-used (Returned s) other = refl
-plain-used (Taken s) other = refl
+plain-used _ other = refl
 
 abbrev running_in : Stand → Option ProcNo
 running_in (life.Running p) = Some p
@@ -332,19 +322,11 @@ running_in x = None
 
 runs-plain : (x : Standing) (p : ProcNo) → plain x ≡ life.Running p → (s : SpaceNo) × (x ≡ Runs s p)
 runs-plain (Runs s q) p is = (s, ap (Runs s) (same_Some q p (ap running_in is)))
-runs-plain Nowhere p is = absurd (cc)
-runs-plain (Blocked s) p is = absurd (cc)
-runs-plain (Stopped s) p is = absurd (cc)
-runs-plain (Returned s) p is = absurd (cc)
-runs-plain (Taken s) p is = absurd (cc)
+runs-plain _ p is = absurd (cc)
 
 blocked-plain : (x : Standing) → plain x ≡ life.InBlock → (s : SpaceNo) × (x ≡ Blocked s)
 blocked-plain (Blocked s) is = (s, refl)
-blocked-plain Nowhere is = absurd (cc)
-blocked-plain (Runs s p) is = absurd (cc)
-blocked-plain (Stopped s) is = absurd (cc)
-blocked-plain (Returned s) is = absurd (cc)
-blocked-plain (Taken s) is = absurd (cc)
+blocked-plain _ is = absurd (cc)
 
 lives-read : (w : WorkloadView) (past : List Item) (r : Readings) → IsSound w past r → LivesAreRead past r
 lives-read w past r sound = record {

@@ -26,7 +26,7 @@ use Rattle.sa_laws.specs.Opening.{first_wants, opening_records}
 use Rattle.sa_laws.specs.Shape.{own_part}
 use Rattle.sa_laws.specs.Rules.{UserRules, IsLawful}
 use Rattle.sa_promises.specs.Needs.{is_telling, ToldBehindUps, TellsBehindUps, ListsApart, HoldersKnown}
-use Rattle.sa_promises.proofs.lives.Standing.{Standing, Nowhere, Runs, Blocked, Stopped, Returned, Taken, space_in, Stood, Agrees, space_of, space-with}
+use Rattle.sa_promises.proofs.lives.Standing.{Standing, Nowhere, Runs, Blocked, space_in, Stood, Agrees, space_of, space-with}
 use Rattle.sa_promises.proofs.lives.Shapes.{AnyMoves, Moves, any-moves, told-moves, Guards, fits, AllFit, FirstOf, IsShaped, fits-want, fits-aim, fits-line, whole-shaped, turn-shaped}
 
 -- the opening has wants, aims and lines alone
@@ -165,11 +165,7 @@ lawful-moves u needs w r e law =
 -- where the number of such a record stood
 nowhere : (x : Standing) → space_in x ≡ None → x ≡ Nowhere
 nowhere Nowhere is = refl
-nowhere (Runs s p) is = absurd (cc)
-nowhere (Blocked s) is = absurd (cc)
-nowhere (Stopped s) is = absurd (cc)
-nowhere (Returned s) is = absurd (cc)
-nowhere (Taken s) is = absurd (cc)
+nowhere _ is = absurd (cc)
 
 its-space : (st : ℕ → Standing) (r : Readings) (a : ActNo) (s t : SpaceNo) (x : Standing) → Agrees st r → space_of_life r (Some a) ≡ Some s → st a.0 ≡ x
     → space_in x ≡ Some t → t ≡ s

@@ -126,19 +126,15 @@ stays p st (Unblock s t a) b y was is apart = keeps st a.0 b _ _ y was is apart
 stays p st (Up s a) b y was is apart = keeps st a.0 b _ _ y was is apart
 stays p st (Told (note.Preempted a)) b y was is apart = keeps st a.0 b _ _ y was.1 is apart
 stays p st (Told (note.Unblocked a)) b y was is apart = keeps st a.0 b _ _ y was.1 is apart
-stays p st (Told (note.Add q)) b y was is apart = is
-stays p st (Told (note.Blocked a)) b y was is apart = is
 stays p st (GiveBack a) b y was is apart = keeps st a.0 b _ _ y was.1 is apart
-stays p st x b y was is apart = is
+stays p st _ b y was is apart = is
 
 -- the running lives
 set-cases : (xs : List (Option ActNo)) (i j : ℕ) (v w : Option ActNo) (a : ActNo) → get_or (slice_set xs i v) j None ≡ Some a
     → ((j ≡ i) × (v ≡ Some a)) ⊎ (get_or xs j None ≡ Some a)
-set-cases [] i j v w a is = inr is
 set-cases (x ∷ xs) zero zero v w a is = inl (refl, is)
-set-cases (x ∷ xs) zero (suc j) v w a is = inr is
-set-cases (x ∷ xs) (suc i) zero v w a is = inr is
 set-cases (x ∷ xs) (suc i) (suc j) v w a is = elim (set-cases xs i j v w a is) [ inl new ↦ inl (ap suc new.0, new.1) | inr old ↦ inr old ]
+set-cases _ _ _ v w a is = inr is
 
 clear-cases : (xs : List (Option ActNo)) (i j : ℕ) (a : ActNo) → get_or (slice_set xs i None) j None ≡ Some a → (j ≢ i) × (get_or xs j None ≡ Some a)
 clear-cases [] i j a is = absurd (none-some a is)
@@ -296,11 +292,9 @@ returned-step p st r x s b agrees was has = elim (untold-cases r x s (note.Unblo
 -- what is taken
 with-act-cases : (xs : List (List ActNo)) (i j : ℕ) (y z : ActNo) → Contains (get_or (slice_set xs i (get_or xs i [] ++ y ∷ [])) j []) z
     → Contains (get_or xs j []) z ⊎ ((j ≡ i) × (y ≡ z))
-with-act-cases [] i j y z has = inl has
 with-act-cases (x ∷ xs) zero zero y z has = elim (Contains-push_cases x y z has) [ inl old ↦ inl old | inr new ↦ inr (refl, new) ]
-with-act-cases (x ∷ xs) zero (suc j) y z has = inl has
-with-act-cases (x ∷ xs) (suc i) zero y z has = inl has
 with-act-cases (x ∷ xs) (suc i) (suc j) y z has = elim (with-act-cases xs i j y z has) [ inl old ↦ inl old | inr new ↦ inr (ap suc new.0, new.1) ]
+with-act-cases _ _ _ y z has = inl has
 
 filter-has : (a b : ActNo) (acts : List ActNo) → Contains (filter (is_other_act a) acts) b → Contains acts b × (is_other_act a b ≡ true)
 filter-has a b acts has = (
@@ -395,11 +389,7 @@ same-space-put st a b v same = elim (cases_eq b a) [
 
 pub took-space : (x : Standing) → space_in (took x) ≡ space_in x
 took-space Nowhere = refl
-took-space (Runs s p) = refl
-took-space (Blocked s) = refl
-took-space (Stopped s) = refl
-took-space (Returned s) = refl
-took-space (Taken s) = refl
+took-space _ = refl
 
 put-put : (lives : ℕ → Option Life) (st : ℕ → Standing) (a b : ℕ) (l : Option Life) (v : Standing) → space_of l ≡ space_in v
     → space_of (lives b) ≡ space_in (st b)
@@ -430,10 +420,8 @@ lives-step w p st r (Told (note.Preempted a)) b lives was =
     space-handed r.upped a (life_of r a) r.lives b ∙ lives b ∙ same-space-put st a.0 b (took (st a.0)) (took-space (st a.0))
 lives-step w p st r (Told (note.Unblocked a)) b lives was =
     space-handed r.upped a (life_of r a) r.lives b ∙ lives b ∙ same-space-put st a.0 b (took (st a.0)) (took-space (st a.0))
-lives-step w p st r (Told (note.Add q)) b lives was = lives b
-lives-step w p st r (Told (note.Blocked a)) b lives was = lives b
 lives-step w p st r (GiveBack a) b lives was = put-put r.lives st a.0 b None Nowhere refl (lives b)
-lives-step w p st r x b lives was = lives b
+lives-step w p st r _ b lives was = lives b
 
 -- each record keeps what is read and where the numbers stand in agreement
 pub agrees-step : (w : WorkloadView) (e : ℕ) (p : ProcNo) (st : ℕ → Standing) (r : Readings) (x : Record) → Agrees st r → Stood p st x

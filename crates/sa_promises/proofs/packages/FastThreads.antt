@@ -43,9 +43,7 @@ by-fast w r p a life x xs is keeps = absurd (cc)
 in-fast : (w : WorkloadView) (r : Readings) (p : ProcNo) (a : Option ActNo) (life : Option Life) (xs : List Record) → StepIn w r p a life xs
     → KeepsLocksIn w r p xs → FormedIn w r p a life xs
 in-fast w r p (Some a) (Some life) (x ∷ xs) is keeps = by-fast w r p a life x xs is keeps
-in-fast w r p None life xs is keeps = absurd is
-in-fast w r p (Some a) None xs is keeps = absurd is
-in-fast w r p (Some a) (Some life) [] is keeps = absurd is
+in-fast w r p _ _ _ is keeps = absurd is
 
 -- the guards of their first records, by its rules of list locks
 kept : (w : WorkloadView) (r : Readings) (p : ProcNo) (life : Life) (x : Record) (o : Option Life) → o ≡ Some life → KeepsLocksIf true w r p o x
@@ -96,9 +94,7 @@ guards w r p life x xs on keeps = (tt, tt)
 first-guarded : (w : WorkloadView) (r : Readings) (p : ProcNo) (a : Option ActNo) (life : Option Life) (xs : List Record) → life_on r p ≡ life
     → StepIn w r p a life xs → KeepsLocksIn w r p xs → FirstOf p r xs
 first-guarded w r p (Some a) (Some life) (x ∷ xs) on is keeps = guards w r p life x xs on keeps
-first-guarded w r p None life xs on is keeps = absurd is
-first-guarded w r p (Some a) None xs on is keeps = absurd is
-first-guarded w r p (Some a) (Some life) [] on is keeps = absurd is
+first-guarded w r p _ _ _ on is keeps = absurd is
 
 fast-formed : StepsAreFormed fast_threads
 fast-formed w r e law later is =

@@ -44,9 +44,7 @@ formed-fit w r p a life x xs is = absurd (is)
 formed-in : (w : WorkloadView) (r : Readings) (p : ProcNo) (a : Option ActNo) (life : Option Life) (xs : List Record) → FormedIn w r p a life xs
     → AllFit None xs
 formed-in w r p (Some a) (Some life) (x ∷ xs) is = formed-fit w r p a life x xs is
-formed-in w r p None life xs is = absurd is
-formed-in w r p (Some a) None xs is = absurd is
-formed-in w r p (Some a) (Some life) [] is = absurd is
+formed-in w r p _ _ _ is = absurd is
 
 -- A user level's steps have forms, and their first records are guarded.
 abbrev pub StepsAreFormed : UserRules → Type 0

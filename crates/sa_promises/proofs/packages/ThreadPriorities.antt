@@ -45,9 +45,7 @@ by-ranks w r p a life x xs is keeps = absurd (cc)
 in-ranks : (w : WorkloadView) (r : Readings) (p : ProcNo) (a : Option ActNo) (life : Option Life) (xs : List Record) → RankedStepIn w r p a life xs
     → KeepsTheLockIn w r p xs → FormedIn w r p a life xs
 in-ranks w r p (Some a) (Some life) (x ∷ xs) is keeps = by-ranks w r p a life x xs is keeps
-in-ranks w r p None life xs is keeps = absurd is
-in-ranks w r p (Some a) None xs is keeps = absurd is
-in-ranks w r p (Some a) (Some life) [] is keeps = absurd is
+in-ranks w r p _ _ _ is keeps = absurd is
 
 -- the guards of their first records, by its rules of the list lock
 pop-takes-none : (r : Readings) (life : Life) (t : Option ThreadNo) (b : Bool) → has_hand r life ≡ b → TakesFor b r life → t ≡ carried_by r life
@@ -81,9 +79,7 @@ guards w r p life x xs on law = (tt, tt)
 first-guarded : (w : WorkloadView) (r : Readings) (p : ProcNo) (a : Option ActNo) (life : Option Life) (xs : List Record) → life_on r p ≡ life
     → RankedStepIn w r p a life xs → KeepsTheLockIn w r p xs → FirstOf p r xs
 first-guarded w r p (Some a) (Some life) (x ∷ xs) on is law = guards w r p life x xs on law
-first-guarded w r p None life xs on is law = absurd is
-first-guarded w r p (Some a) None xs on is law = absurd is
-first-guarded w r p (Some a) (Some life) [] on is law = absurd is
+first-guarded w r p _ _ _ on is law = absurd is
 
 prio-formed : StepsAreFormed prio_threads
 prio-formed w r e law later is =

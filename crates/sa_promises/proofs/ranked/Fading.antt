@@ -44,11 +44,9 @@ fades-one old new X stays active is = elim stays.place [
 ]
 
 pub fades-set : (xs : List Thread) (i : ℕ) (new : Thread) → Stays (get_or xs i nobody) new → FadesIn xs (slice_set xs i new)
-fades-set [] i new stays j X active is = (is, refl)
 fades-set (x ∷ xs) zero new stays zero X active is = fades-one x new X stays active is
-fades-set (x ∷ xs) zero new stays (suc j) X active is = (is, refl)
-fades-set (x ∷ xs) (suc i) new stays zero X active is = (is, refl)
 fades-set (x ∷ xs) (suc i) new stays (suc j) X active is = fades-set xs i new stays j X active is
+fades-set _ _ new stays _ X active is = (is, refl)
 
 fades-push : (xs : List Thread) (new : Thread) → is_active new.place ≡ false → FadesIn xs (xs ++ new ∷ [])
 fades-push [] new idle zero X active is = absurd (let clash = sym active ∙ ap is_active (sym is) ∙ idle in cc)
@@ -89,19 +87,14 @@ ins-forked x t reg k = one (nat_lt (length x.threads) Rattle.sa_base.specs.decla
   one false = same x t _ refl refl
 
 pub ins-fades : (x : SpaceState) (t : ThreadNo) (i : Instr) → Kept x (effect_of x t (thread_in x t) i).space
-ins-fades x t (instr.Load reg cell) = same x t _ refl refl
-ins-fades x t (instr.Store reg cell) = same x t _ refl refl
-ins-fades x t (instr.Out reg) = same x t _ refl refl
 ins-fades x t (instr.Fork reg k) = ins-forked x t reg k
 ins-fades x t (instr.Join reg) = ins-answered x t _ _ refl refl
 ins-fades x t (instr.Lock m) = ins-answered x t _ _ refl refl
 ins-fades x t (instr.Unlock m) = ins-answered x t _ _ refl refl
 ins-fades x t (instr.Wait m) = ins-answered x t _ _ refl refl
 ins-fades x t (instr.Signal m) = ins-answered x t _ _ refl refl
-ins-fades x t (instr.Io n) = same x t _ refl refl
-ins-fades x t (instr.Touch page) = same x t _ refl refl
 ins-fades x t instr.End = fades-set x.threads t.0 _ (record { program = refl; place = inr refl })
-ins-fades x t i = same x t _ refl refl
+ins-fades x t _ = same x t _ refl refl
 
 -- of the spaces one is changed
 abbrev pub Fades : SpaceNo → State → State → Type 0

@@ -29,11 +29,9 @@ use Rattle.sa_promises.proofs.ranked.Places.{IsPlaced, places-step}
 
 -- lines are only raised
 set-low : (lines : List (Option ℕ)) (i j e : ℕ) → get_or (slice_set lines i (Some e)) j None ≡ None → get_or lines j None ≡ None
-set-low [] i j e is = is
 set-low (l ∷ lines) zero zero e is = absurd (none-some e (sym is))
-set-low (l ∷ lines) zero (suc j) e is = is
-set-low (l ∷ lines) (suc i) zero e is = is
 set-low (l ∷ lines) (suc i) (suc j) e is = set-low lines i j e is
+set-low _ _ _ e is = is
 
 pub low-step : (e : ℕ) (r : Readings) (x : Record) (q : ℕ) → get_or (lines_after e r.lines x) q None ≡ None → get_or r.lines q None ≡ None
 low-step e r (Line k) q is = set-low r.lines k.0 q e is
@@ -65,10 +63,8 @@ untaken w p st r s (Told (note.Preempted a)) xs b apart law quiet of free =
 untaken w p st r s (Told (note.Unblocked a)) xs b apart law quiet of free =
     let up = told-space st r (note.Unblocked a) a apart.agrees (inr refl) law.0 in
     not-five st a.0 b (took (st a.0)) (λ at. absurd (quiet law.1 (up.1 ∙ sym up.2 ∙ ap (λ k. space_in (st k)) (sym at) ∙ of))) free
-untaken w p st r s (Told (note.Add q)) xs b apart law quiet of free = free
-untaken w p st r s (Told (note.Blocked a)) xs b apart law quiet of free = free
 untaken w p st r s (GiveBack a) xs b apart law quiet of free = not-five st a.0 b Nowhere (λ at e. cc) free
-untaken w p st r s x xs b apart law quiet of free = free
+untaken w p st r s _ xs b apart law quiet of free = free
 
 -- of a space: none more is ready or runs, lines that are low were low, its lives are as much in, and what is untold stays so
 pub record Held (s : SpaceNo) (st now : ℕ → Standing) (r c : Readings) : Type 0 where

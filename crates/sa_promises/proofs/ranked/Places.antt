@@ -39,19 +39,15 @@ faded w a b owners fades is = record {
 -- one that is put in another place
 in-threads : (xs : List Thread) (i j : ℕ) (new : Thread) (X : Place) → (get_or (slice_set xs i new) j nobody).place ≡ X
     → ((j ≡ i) × (new.place ≡ X)) ⊎ ((get_or xs j nobody).place ≡ X)
-in-threads [] i j new X is = inr is
 in-threads (x ∷ xs) zero zero new X is = inl (refl, is)
-in-threads (x ∷ xs) zero (suc j) new X is = inr is
-in-threads (x ∷ xs) (suc i) zero new X is = inr is
 in-threads (x ∷ xs) (suc i) (suc j) new X is = elim (in-threads xs i j new X is) [ inl new' ↦ inl (ap suc new'.0, new'.1) | inr old ↦ inr old ]
+in-threads _ _ _ new X is = inr is
 
 in-spaces : (xs : List SpaceState) (k : ℕ) (x : SpaceState) (z j : ℕ) (X : Place) → (get_or (get_or (slice_set xs k x) z no_threads).threads j nobody).place ≡ X
     → ((z ≡ k) × ((get_or x.threads j nobody).place ≡ X)) ⊎ ((get_or (get_or xs z no_threads).threads j nobody).place ≡ X)
-in-spaces [] k x z j X is = inr is
 in-spaces (y ∷ xs) zero x zero j X is = inl (refl, is)
-in-spaces (y ∷ xs) zero x (suc z) j X is = inr is
-in-spaces (y ∷ xs) (suc k) x zero j X is = inr is
 in-spaces (y ∷ xs) (suc k) x (suc z) j X is = elim (in-spaces xs k x z j X is) [ inl new ↦ inl (ap suc new.0, new.1) | inr old ↦ inr old ]
+in-spaces _ _ x _ j X is = inr is
 
 put-cases : (a : State) (u : SpaceNo) (t : ThreadNo) (put : Place) (z : SpaceNo) (v : ThreadNo) (X : Place) → (thread_at (placed a u t put) z v).place ≡ X
     → ((z.0 ≡ u.0) × (v.0 ≡ t.0) × (put ≡ X)) ⊎ ((thread_at a z v).place ≡ X)

@@ -95,10 +95,9 @@ event-fine w st r e moment law from s within fine = whole (in-form w r e law fro
 -- before the opening no thread runs, and no line is raised
 rests-in : (defs : List SpaceView) (k j : ℕ) (p : ProcNo)
     → (get_or (get_or (map opening_space defs) k no_threads).threads j Rattle.sa_promises.proofs.ranked.Fading.nobody).place ≡ place.Running p → ⊥
-rests-in [] k j p is = absurd (cc)
 rests-in (def ∷ defs) zero zero p is = absurd (cc)
-rests-in (def ∷ defs) zero (suc j) p is = absurd (cc)
 rests-in (def ∷ defs) (suc k) j p is = rests-in defs k j p is
+rests-in _ _ _ p is = absurd (cc)
 
 rests : (w : WorkloadView) (s : SpaceNo) (t : ThreadNo) (p : ProcNo) → (thread_at (opening_state w) s t).place ≡ place.Running p → ⊥
 rests w s t p is = rests-in w.spaces s.0 t.0 p is

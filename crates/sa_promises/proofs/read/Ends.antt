@@ -1,6 +1,6 @@
 -- At the end of each event of a legal run, what is read of own events is what the words say.
 use Rattle.std.proofs.Common.{◌≡◌, ℕ, ◌<◌, refl, sym, ◌∙◌, ap, subst, Some, None, List, [], ◌∷◌, ◌++◌, length, true, false}
-use Rattle.std.specs.Prelude.{Option, Bool, nat_lt, if◌then◌else◌}
+use Rattle.std.specs.Prelude.{Option, Bool, ◌&&◌, ◌||◌, nat_lt, if◌then◌else◌}
 use Rattle.std.specs.List.{list_any}
 use Rattle.sa_base.specs.declared.number.SpaceNo.{SpaceNo}
 use Rattle.sa_base.specs.declared.number.ActNo.{ActNo}
@@ -12,13 +12,16 @@ use Rattle.sa_laws.specs.Event.{Event, items_of}
 use Rattle.sa_laws.specs.Life.{Life}
 use Rattle.sa_laws.specs.Readings.{Readings, running_of, demand_of}
 use Rattle.sa_laws.specs.Record.{with_life}
-use Rattle.sa_laws.specs.History.{Test, event_begun, behind_all, ended, after_event, is_step, is_up, is_free, settles, scans_after, stepped, arisen, with_step, with_up}
+use Rattle.sa_laws.specs.History.{Test, event_begun, behind_all, ended, after_event, is_step, is_up, is_free, is_inside, settles, scans_after, stepped, arisen, with_step, with_up}
 use Rattle.sa_laws.specs.Rules.{UserRules, IsLawful}
-use Rattle.sa_promises.specs.Needs.{HasForms, AsFast}
+use Rattle.sa_promises.specs.Needs.{HasForms}
 use Rattle.sa_laws.proofs.Records.{items-push}
+use Rattle.sa_ranks.specs.Inside.{settling}
+use Rattle.sa_promises.specs.Packages.{Package}
 use Rattle.sa_promises.specs.Words.{last_want}
 use Rattle.sa_promises.specs.Along.{along}
 use Rattle.sa_promises.specs.Moments.{Home, home_of}
+use Rattle.sa_promises.specs.Urged.{asked_at, is_urged}
 use Rattle.sa_promises.specs.Holdings.{change, locks_at, hands_at, conts_at}
 use Rattle.sa_promises.specs.Steps.{stepping, rising, with_event, settles_by, settles_at, set_in, in_by, renewed, scans_by, scans_at, is_free_event, freed_at, idle_behind, idle_by}
 use Rattle.sa_promises.proofs.read.Along.{along-more}
@@ -29,6 +32,8 @@ use Rattle.sa_promises.proofs.read.Items.{IsRead}
 use Rattle.sa_promises.proofs.read.Known.{first-want}
 use Rattle.sa_promises.proofs.read.Events.{IsReadAt, read-begins, read-event, read-next}
 use Rattle.sa_promises.proofs.read.OwnEvents.{OwnedByLives, stepper, own-event}
+use Rattle.sa_promises.proofs.read.Raised.{Until}
+use Rattle.sa_promises.proofs.read.Urged.{LinesSaid, lines-event, urges, AsksMore, urged-same}
 use Rattle.sa_promises.proofs.read.Inside.{HasAt, test-same, settles-same, set-said}
 
 -- the homes of lives are spaces of the workload
@@ -38,10 +43,11 @@ HomesIn w past = (a : ActNo) (home : Home) → home_of past a ≡ Some home → 
 pub record IsSaidAt (test : Test) (w : WorkloadView) (es : List Event) (r : Readings) : Type 0 where
   pub at : IsReadAt w (items_of es) r
   pub owned : OwnedByLives r
-  pub inside : AsFast test → Said in_now r.lives (along (in_by w) (λ b. false) es)
+  pub lines : LinesSaid w (items_of es) r.lines
+  pub inside : (which : Package) → AsksMore which test → Said in_now r.lives (along (in_by which w) (λ b. false) es)
   pub scans : Said scanned r.lives (along scans_at (λ b. 0) es)
   pub freed : Said was_freed r.lives (along freed_at (λ b. false) es)
-  pub idle : AsFast test → Said idle_then r.lives (along (idle_by w) (λ b. false) es)
+  pub idle : (which : Package) → AsksMore which test → Said idle_then r.lives (along (idle_by which w) (λ b. false) es)
 
 -- the step of an event, if it is one
 step-said : (test : Test) → {F : Type 0} (g : Life → F) (h : F → F) (w : WorkloadView) (r : Readings) (e : Event) (after : Readings) (n : Option ActNo)
@@ -58,20 +64,20 @@ step-said test g h w r e after n lives has (first ∷ others) is same said =
       one false = said
 
 step-set : (test : Test)
-    → (w : WorkloadView) (now past : List Item) (r : Readings) (e : Event) (after : Readings) (n : Option ActNo) (lives : ℕ → Option Life) (has : ℕ → Bool)
-    (xs : List Record)
+    → (w : WorkloadView) (now past : List Item) (urged : SpaceNo → Bool) (r : Readings) (e : Event) (after : Readings) (n : Option ActNo)
+    (lives : ℕ → Option Life) (has : ℕ → Bool) (xs : List Record)
     → stepper r e xs ≡ n
     → ((first : Record) (others : List Record) → xs ≡ first ∷ others → (a : ActNo) (life : Life) → lives a.0 ≡ Some life
-    → (stepped test w r e after first life).inside ≡ Rattle.sa_promises.specs.Steps.is_in_at w now (settles_at w past now xs) a)
-    → Said in_now lives has → Said in_now (with_step test w r e after xs lives) (set_in w now (settles_at w past now xs) n has)
-step-set test w now past r e after n lives has [] is gives said = subst (λ k. Said in_now lives (set_in w now false k has)) is said
-step-set test w now past r e after n lives has (first ∷ others) is gives said =
-    subst (λ k. Said in_now (with_step test w r e after (first ∷ others) lives) (set_in w now (settles_by w past now first) k has)) is
+    → (stepped test w r e after first life).inside ≡ Rattle.sa_promises.specs.Steps.is_in_at w now urged (settles_at w past now xs) a)
+    → Said in_now lives has → Said in_now (with_step test w r e after xs lives) (set_in w now urged (settles_at w past now xs) n has)
+step-set test w now past urged r e after n lives has [] is gives said = subst (λ k. Said in_now lives (set_in w now urged false k has)) is said
+step-set test w now past urged r e after n lives has (first ∷ others) is gives said =
+    subst (λ k. Said in_now (with_step test w r e after (first ∷ others) lives) (set_in w now urged (settles_by w past now first) k has)) is
     (one (is_step first)) where
       one : (b : Bool) → Said in_now (if b then with_life (stepped test w r e after first) (running_of r e.proc) lives else lives)
-          (set_in w now (settles_by w past now first) (if b then running_of r e.proc else None) has)
+          (set_in w now urged (settles_by w past now first) (if b then running_of r e.proc else None) has)
       one true =
-          set-said w now (settles_by w past now first) (running_of r e.proc) (stepped test w r e after first) lives has
+          set-said w now urged (settles_by w past now first) (running_of r e.proc) (stepped test w r e after first) lives has
           (λ a life same at. gives first others refl a life at) said
       one false = said
 
@@ -85,17 +91,18 @@ keep-step test g w r e after lives has (first ∷ others) same said =
 
 -- the rising of an event's up
 rise-set : (test : Test)
-    → (w : WorkloadView) (now : List Item) (r : Readings) (e : Event) (after : Readings) (n : Option ActNo) (lives : ℕ → Option Life) (has : ℕ → Bool)
+    → (w : WorkloadView) (now : List Item) (urged : SpaceNo → Bool) (r : Readings) (e : Event) (after : Readings) (n : Option ActNo)
+    (lives : ℕ → Option Life) (has : ℕ → Bool)
     → (if list_any is_up e.records then running_of after e.proc else None) ≡ n
     → ((a : ActNo) (life : Life) → lives a.0 ≡ Some life
-    → (arisen test w r e after life).inside ≡ Rattle.sa_promises.specs.Steps.is_in_at w now true a)
-    → Said in_now lives has → Said in_now (with_up test w r e after lives) (set_in w now true n has)
-rise-set test w now r e after n lives has is gives said =
-    subst (λ k. Said in_now (with_up test w r e after lives) (set_in w now true k has)) is (one (list_any is_up e.records)) where
+    → (arisen test w r e after life).inside ≡ Rattle.sa_promises.specs.Steps.is_in_at w now urged true a)
+    → Said in_now lives has → Said in_now (with_up test w r e after lives) (set_in w now urged true n has)
+rise-set test w now urged r e after n lives has is gives said =
+    subst (λ k. Said in_now (with_up test w r e after lives) (set_in w now urged true k has)) is (one (list_any is_up e.records)) where
       one : (b : Bool)
           → Said in_now (if b then with_life (arisen test w r e after) (running_of after e.proc) lives else lives)
-          (set_in w now true (if b then running_of after e.proc else None) has)
-      one true = set-said w now true (running_of after e.proc) (arisen test w r e after) lives has (λ a life same at. gives a life at) said
+          (set_in w now urged true (if b then running_of after e.proc else None) has)
+      one true = set-said w now urged true (running_of after e.proc) (arisen test w r e after) lives has (λ a life same at. gives a life at) said
       one false = said
 
 scans-same : (past : List Item) (r : Readings) (first : Record) (others : List Record)
@@ -141,12 +148,14 @@ has-at w now lives locks hands conts homes a life is = record {
   home = homes a.0 life is;
 }
 
-in-next : (test : Test) → AsFast test → (w : WorkloadView) (past : List Item) (r : Readings) (e : Event) (has : ℕ → Bool) → IsEventAt w past r e
-    → HomesIn w (with_event past e)
-    → Said in_now r.lives has
-    → Said in_now (ended test w r e (behind_all w e r)).lives (Rattle.sa_promises.specs.Steps.in_with w past (with_event past e) e has)
-in-next test fast w past r e has known within said =
+in-next : (test : Test) (which : Package) → AsksMore which test → (w : WorkloadView) (past : List Item) (r : Readings) (e : Event) (has : ℕ → Bool)
+    → IsEventAt w past r e → HomesIn w (with_event past e)
+    → ((s : SpaceNo) → urges which w (settling w r e (behind_all w e r)) s ≡ is_urged which w (asked_at past e) s) → Said in_now r.lives has
+    → Said in_now (ended test w r e (behind_all w e r)).lives
+    (Rattle.sa_promises.specs.Steps.in_with w past (is_urged which w (asked_at past e)) (with_event past e) e has)
+in-next test which asks w past r e has known within same said =
     let now = with_event past e in
+    let urged = is_urged which w (asked_at past e) in
     let after = behind_all w e r in
     let read = known.after in
     let stepped_lives = with_step test w r e after e.records after.lives in
@@ -155,19 +164,19 @@ in-next test fast w past r e has known within said =
     (keep-step test in_hand w r e after after.lives _ e.records (λ x l. refl) read.hands)
     (keep-step test open_cont w r e after after.lives _ e.records (λ x l. refl) read.conts)
     (keep-step test at_home w r e after after.lives _ e.records (λ x l. refl) read.homes) in
+    let asked = λ (settled : Bool) (a : ActNo) (life : Life) (here : HasAt w now a life).
+    asks w r e after settled life ∙ ap (λ b. is_inside w r e after settled life || (settled && b)) (same life.space)
+    ∙ test-same w now urged r after e settled a life read (within a (record { space = life.space; proc = life.proc }) (sym here.home)) here in
     let renewed_said = untouched-records in_now false (Some false) w e.number e.proc (event_begun w e r) e.records has in-untouched said in
-    let stepped_said = step-set test w now past r e after (stepping past e) after.lives (renewed false (Some false) e.records has) e.records known.own
+    let stepped_said = step-set test w now past urged r e after (stepping past e) after.lives (renewed false (Some false) e.records has) e.records known.own
     (λ first others is a life at.
-    let here = first_has a life at in
-    fast w r e after (settles r after first) life ∙ test-same w now r after e (settles r after first) a life read (within a (record { space = life.space; proc = life.proc }) (sym here.home)) here
-    ∙ ap (λ b. Rattle.sa_promises.specs.Steps.is_in_at w now b a)
+    asked (settles r after first) a life (first_has a life at)
+    ∙ ap (λ b. Rattle.sa_promises.specs.Steps.is_in_at w now urged b a)
     (settles-same w past now r after first read.state (known.wants first others is) ∙ ap (settles_at w past now) (sym is)))
     renewed_said in
-    rise-set test w now r e after (rising now e) stepped_lives
-    (set_in w now (settles_at w past now e.records) (stepping past e) (renewed false (Some false) e.records has)) known.up
-    (λ a life at. let here = then_has a life at in
-    fast w r e after true life ∙ test-same w now r after e true a life read (within a (record { space = life.space; proc = life.proc }) (sym here.home)) here)
-    stepped_said
+    rise-set test w now urged r e after (rising now e) stepped_lives
+    (set_in w now urged (settles_at w past now e.records) (stepping past e) (renewed false (Some false) e.records has)) known.up
+    (λ a life at. asked true a life (then_has a life at)) stepped_said
 
 scans-next : (test : Test) → (w : WorkloadView) (past : List Item) (r : Readings) (e : Event) (has : ℕ → ℕ) → IsEventAt w past r e → Said scanned r.lives has
     → Said scanned (ended test w r e (behind_all w e r)).lives (change (scans_by past e.records) (stepping past e) (renewed 0 None e.records has))
@@ -206,16 +215,19 @@ pub said-next : (rules : UserRules) → HasForms rules → (w : WorkloadView) (e
 said-next rules meets w es r e inv law within =
     let past = items_of es in
     let known = event-at rules meets w past r e inv.at inv.owned law in
+    let until : Until past e.number = subst (Until past) (sym law.numbered.number) inv.at.until in
     record {
       at = subst (λ ys. IsReadAt w ys (after_event rules.inside w r e)) (sym (items-push es e)) (read-next rules meets w past r e inv.at law);
       owned = law.where_owned.owned;
-      inside = λ fast.
-          said-same in_now _ _ _ (λ b. ap (λ (f : ℕ → Bool). f b) (sym (along-more (in_by w) (λ c. false) es e)))
-          (in-next rules.inside fast w past r e _ known within (inv.inside fast));
+      lines = subst (λ ys. LinesSaid w ys (behind_all w e r).lines) (sym (items-push es e)) (lines-event w past r e e.records law.numbered.some until inv.lines);
+      inside = λ which asks.
+          said-same in_now _ _ _ (λ b. ap (λ (f : ℕ → Bool). f b) (sym (along-more (in_by which w) (λ c. false) es e)))
+          (in-next rules.inside which asks w past r e _ known within
+          (λ s. urged-same which w past r e s law.numbered.some inv.at.read.state until inv.lines) (inv.inside which asks));
       scans = said-same scanned _ _ _ (λ b. ap (λ (f : ℕ → ℕ). f b) (sym (along-more scans_at (λ c. 0) es e))) (scans-next rules.inside w past r e _ known inv.scans);
       freed =
           said-same was_freed _ _ _ (λ b. ap (λ (f : ℕ → Bool). f b) (sym (along-more freed_at (λ c. false) es e))) (freed-next rules.inside w past r e _ known inv.freed);
-      idle = λ fast.
-          said-same idle_then _ _ _ (λ b. ap (λ (f : ℕ → Bool). f b) (sym (along-more (idle_by w) (λ c. false) es e)))
-          (idle-next rules.inside w r e _ _ (inv.inside fast) (inv.idle fast));
+      idle = λ which asks.
+          said-same idle_then _ _ _ (λ b. ap (λ (f : ℕ → Bool). f b) (sym (along-more (idle_by which w) (λ c. false) es e)))
+          (idle-next rules.inside w r e _ _ (inv.inside which asks) (inv.idle which asks));
     }

@@ -55,7 +55,7 @@ last-stands (x ∷ xs) y is = more (last_said Some xs) (λ same. last-stands xs 
   more None there same = (0, same)
   more (Some z) there same = let at = there same in (suc at.0, at.1)
 
-last-late : (past : List Item) (e : ℕ) → Until past e → directly_before e past ≡ None
+pub last-late : (past : List Item) (e : ℕ) → Until past e → directly_before e past ≡ None
 last-late past e until = one (last_said Some past) refl where
   not-now : (y : Item) → y.event < e → (y.event == e) ≡ false
   not-now y below = ne_eqb y.event e (λ same. absurd (omega arith))

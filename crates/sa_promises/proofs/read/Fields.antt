@@ -86,10 +86,8 @@ locks-step w past p r (Told (note.Preempted a)) has agrees takes said =
 locks-step w past p r (Told (note.Unblocked a)) has agrees takes said =
     on-told in_locks (map inherited) r.upped (last_up past) a (life_of r a) agrees.names.0 r.lives has agrees.upped agrees.names.1 refl (λ from l. refl)
     (λ l. refl) said
-locks-step w past p r (Told (note.Add q)) has agrees takes said = said
-locks-step w past p r (Told (note.Blocked a)) has agrees takes said = said
 locks-step w past p r (GiveBack a) has agrees takes said = said-gone in_locks a.0 r.lives has said
-locks-step w past p r x has agrees takes said = said
+locks-step w past p r _ has agrees takes said = said
 
 -- hands
 abbrev pub in_hand : Life → List ThreadNo
@@ -122,10 +120,8 @@ hands-step w past p r (Told (note.Preempted a)) has agrees state said =
 hands-step w past p r (Told (note.Unblocked a)) has agrees state said =
     on-told in_hand (λ ts. ts) r.upped (last_up past) a (life_of r a) agrees.names.0 r.lives has agrees.upped agrees.names.1 refl (λ from l. refl)
     (λ l. refl) said
-hands-step w past p r (Told (note.Add q)) has agrees state said = said
-hands-step w past p r (Told (note.Blocked a)) has agrees state said = said
 hands-step w past p r (GiveBack a) has agrees state said = said-gone in_hand a.0 r.lives has said
-hands-step w past p r x has agrees state said = said
+hands-step w past p r _ has agrees state said = said
 
 -- open conts
 abbrev pub open_cont : Life → Bool
@@ -152,10 +148,8 @@ conts-step w past p r (Told (note.Preempted a)) has agrees said =
     said-lost open_cont r.upped a (life_of r a) false r.lives has (λ from l. refl) (λ l. refl) refl said
 conts-step w past p r (Told (note.Unblocked a)) has agrees said =
     said-lost open_cont r.upped a (life_of r a) false r.lives has (λ from l. refl) (λ l. refl) refl said
-conts-step w past p r (Told (note.Add q)) has agrees said = said
-conts-step w past p r (Told (note.Blocked a)) has agrees said = said
 conts-step w past p r (GiveBack a) has agrees said = said-gone open_cont a.0 r.lives has said
-conts-step w past p r x has agrees said = said
+conts-step w past p r _ has agrees said = said
 
 -- the threads of stops and blocks
 abbrev pub held_thread : Life → Option ThreadNo
@@ -176,10 +170,8 @@ stopped-step w p r (Free s l t) has said = said-keep held_thread without_lock (r
 stopped-step w p r (Up s a) has said = said-new held_thread a.0 (new_life s p) None r.lives has refl said
 stopped-step w p r (Told (note.Preempted a)) has said = said-stays held_thread r.upped a (life_of r a) r.lives has (λ from l. refl) (λ l. refl) said
 stopped-step w p r (Told (note.Unblocked a)) has said = said-stays held_thread r.upped a (life_of r a) r.lives has (λ from l. refl) (λ l. refl) said
-stopped-step w p r (Told (note.Add q)) has said = said
-stopped-step w p r (Told (note.Blocked a)) has said = said
 stopped-step w p r (GiveBack a) has said = said-gone held_thread a.0 r.lives has said
-stopped-step w p r x has said = said
+stopped-step w p r _ has said = said
 
 -- homes
 abbrev pub at_home : Life → Option Home
@@ -204,7 +196,5 @@ homes-step w p r (Free s l t) has said = said-keep at_home without_lock (running
 homes-step w p r (Up s a) has said = said-new at_home a.0 (new_life s p) (Some (record { space = s; proc = p })) r.lives has refl said
 homes-step w p r (Told (note.Preempted a)) has said = said-stays at_home r.upped a (life_of r a) r.lives has (λ from l. refl) (λ l. refl) said
 homes-step w p r (Told (note.Unblocked a)) has said = said-stays at_home r.upped a (life_of r a) r.lives has (λ from l. refl) (λ l. refl) said
-homes-step w p r (Told (note.Add q)) has said = said
-homes-step w p r (Told (note.Blocked a)) has said = said
 homes-step w p r (GiveBack a) has said = said-gone at_home a.0 r.lives has said
-homes-step w p r x has said = said
+homes-step w p r _ has said = said

@@ -9,7 +9,7 @@ use Rattle.sa_base.specs.declared.number.SpaceNo.{SpaceNo}
 use Rattle.sa_base.specs.declared.number.ActNo.{ActNo}
 use Rattle.sa_base.specs.declared.limits.TheConstants.{BULK_RETURN}
 use Rattle.sa_base.specs.declared.record.Record.{Record}
-use Rattle.sa_base.specs.declared.record.Record.TheVariants.{Ins, Block, Want, Idle}
+use Rattle.sa_base.specs.declared.record.Record.TheVariants.{Ins, Want}
 use Rattle.sa_base.specs.declared.record.Item.{Item}
 use Rattle.sa_spaces.specs.Workload.{WorkloadView}
 use Rattle.sa_laws.specs.Event.{Event}
@@ -30,17 +30,18 @@ use Rattle.sa_promises.proofs.read.Items.{IsRead}
 use Rattle.sa_promises.proofs.read.Loads.{loads-same}
 
 -- the test, its parts grouped in another way
-regroup : (a b c s d n m : Bool) → (a || b || c || (s && d) || (s && n && m)) ≡ ((a || b || c) || (s && d) || (s && (n && m)))
-regroup true b c s d n m = refl
-regroup false true c s d n m = refl
-regroup false false true s d n m = refl
-regroup false false false false d n m = refl
-regroup false false false true true n m = refl
-regroup false false false true false true m = refl
-regroup false false false true false false m = refl
+regroup : (a b c s d n m u : Bool) → ((a || b || c || (s && d) || (s && n && m)) || (s && u))
+    ≡ ((a || b || c) || (s && d) || (s && (n && m)) || (s && u))
+regroup true b c s d n m u = refl
+regroup false true c s d n m u = refl
+regroup false false true s d n m u = refl
+regroup false false false false d n m u = refl
+regroup false false false true true n m u = refl
+regroup false false false true false true m u = refl
+regroup false false false true false false m u = refl
 
-abbrev whole : Bool → Bool → Bool → Bool → Bool → Bool → Bool → Bool
-whole s a b c d n m = (a || b || c) || (s && d) || (s && (n && m))
+abbrev whole : Bool → Bool → Bool → Bool → Bool → Bool → Bool → Bool → Bool
+whole s a b c d n m u = (a || b || c) || (s && d) || (s && (n && m)) || (s && u)
 
 none-mapped : {A B : Type 0} (f : A → B) (o : Option A) → is_none (option_map f o) ≡ is_none o
 none-mapped f None = refl
@@ -53,26 +54,32 @@ pub record HasAt (w : WorkloadView) (now : List Item) (a : ActNo) (life : Life) 
   pub cont : life.cont ≡ has_cont now a
   pub home : at_home life ≡ home_of now a
 
-pub test-same : (w : WorkloadView) (now : List Item) (before r : Readings) (e : Event) (settled : Bool) (a : ActNo) (life : Life) → IsRead w now r
-    → life.space.0 < length w.spaces
-    → HasAt w now a life → is_inside w before e r settled life ≡ is_in_at w now settled a
-test-same w now before r e settled a life read within has =
+pub test-same : (w : WorkloadView) (now : List Item) (urged : SpaceNo → Bool) (before r : Readings) (e : Event) (settled : Bool) (a : ActNo) (life : Life)
+    → IsRead w now r → life.space.0 < length w.spaces → HasAt w now a life
+    → (is_inside w before e r settled life || (settled && urged life.space)) ≡ is_in_at w now urged settled a
+test-same w now urged before r e settled a life read within has =
     regroup (has_lock life) life.cont (list_any (counts (space_at r.state life.space)) life.hand) settled
     (nat_lt (demand_of r life.space) (usable w r life.space))
     (is_none (option_map (λ (runner : Runner). runner.thread) (runner_on r.state life.proc))) (nat_le BULK_RETURN (length (taken_of r life.space)))
+    (urged life.space)
     ∙ ap
     (λ x. whole settled x life.cont (list_any (counts (space_at r.state life.space)) life.hand)
-    (nat_lt (demand_of r life.space) (usable w r life.space)) carries many) locks
+    (nat_lt (demand_of r life.space) (usable w r life.space)) carries many more) locks
     ∙ ap
     (λ x. whole settled (some_lock (locks_of w now a)) x (list_any (counts (space_at r.state life.space)) life.hand)
-    (nat_lt (demand_of r life.space) (usable w r life.space)) carries many) has.cont
-    ∙ ap (λ x. whole settled (some_lock (locks_of w now a)) (has_cont now a) x (nat_lt (demand_of r life.space) (usable w r life.space)) carries many) hand
-    ∙ ap (λ x. whole settled (some_lock (locks_of w now a)) (has_cont now a) (list_any (counts (space_at m life.space)) (hand_of w now a)) x carries many) want
-    ∙ ap (λ x. whole settled (some_lock (locks_of w now a)) (has_cont now a) (list_any (counts (space_at m life.space)) (hand_of w now a)) wants x many) carried
+    (nat_lt (demand_of r life.space) (usable w r life.space)) carries many more) has.cont
+    ∙ ap
+    (λ x. whole settled (some_lock (locks_of w now a)) (has_cont now a) x (nat_lt (demand_of r life.space) (usable w r life.space)) carries many more) hand
+    ∙ ap
+    (λ x. whole settled (some_lock (locks_of w now a)) (has_cont now a) (list_any (counts (space_at m life.space)) (hand_of w now a)) x carries many more)
+    want
+    ∙ ap
+    (λ x. whole settled (some_lock (locks_of w now a)) (has_cont now a) (list_any (counts (space_at m life.space)) (hand_of w now a)) wants x many more)
+    carried
     ∙ ap
     (λ x. whole settled (some_lock (locks_of w now a)) (has_cont now a) (list_any (counts (space_at m life.space)) (hand_of w now a)) wants
-    (is_none (runner_on m life.proc)) x) taken
-    ∙ ap (λ (o : Option Home). is_in_with w now settled a o) has.home
+    (is_none (runner_on m life.proc)) x more) taken
+    ∙ ap (λ (o : Option Home). is_in_with w now urged settled a o) has.home
   where
     m : State
     m = machine_of w now
@@ -82,6 +89,9 @@ test-same w now before r e settled a life read within has =
 
     carries : Bool
     carries = is_none (option_map (λ (runner : Runner). runner.thread) (runner_on r.state life.proc))
+
+    more : Bool
+    more = urged life.space
 
     many : Bool
     many = nat_le BULK_RETURN (length (taken_of r life.space))
@@ -110,19 +120,17 @@ pub settles-same : (w : WorkloadView) (past now : List Item) (before after : Rea
     → ((s : SpaceNo) (n : ℕ) → first ≡ Want s n → demand_of before s ≡ last_want past s) → settles before after first ≡ settles_by w past now first
 settles-same w past now before after (Ins s t i) state wants = ap (λ (k : State). not (is_running_or_blocked (thread_at k s t).place)) state
 settles-same w past now before after (Want s n) state wants = ap (λ d. not (nat_lt n d)) (wants s n refl)
-settles-same w past now before after Idle state wants = refl
-settles-same w past now before after (Block s t a io) state wants = refl
-settles-same w past now before after x state wants = refl
+settles-same w past now before after _ state wants = refl
 
 -- a life for which the test is asked
-pub set-said : (w : WorkloadView) (now : List Item) (settled : Bool) (n : Option ActNo) (f : Life → Life) (lives : ℕ → Option Life) (has : ℕ → Bool)
-    → ((a : ActNo) (life : Life) → n ≡ Some a → lives a.0 ≡ Some life → (f life).inside ≡ is_in_at w now settled a)
-    → Said in_now lives has → Said in_now (with_life f n lives) (set_in w now settled n has)
-set-said w now settled None f lives has gives said = said
-set-said w now settled (Some a) f lives has gives said = λ b life is. elim (cases_eq b a.0) [
+pub set-said : (w : WorkloadView) (now : List Item) (urged : SpaceNo → Bool) (settled : Bool) (n : Option ActNo) (f : Life → Life) (lives : ℕ → Option Life) (has : ℕ → Bool)
+    → ((a : ActNo) (life : Life) → n ≡ Some a → lives a.0 ≡ Some life → (f life).inside ≡ is_in_at w now urged settled a)
+    → Said in_now lives has → Said in_now (with_life f n lives) (set_in w now urged settled n has)
+set-said w now urged settled None f lives has gives said = said
+set-said w now urged settled (Some a) f lives has gives said = λ b life is. elim (cases_eq b a.0) [
   | inl at ↦
       let was = mapped f (lives a.0) life (sym (put-at lives a.0 b (option_map f (lives a.0)) at) ∙ is) in
-      ap in_now (sym was.2) ∙ gives a was.0 refl was.1 ∙ sym (put-at has a.0 b (is_in_at w now settled a) at)
+      ap in_now (sym was.2) ∙ gives a was.0 refl was.1 ∙ sym (put-at has a.0 b (is_in_at w now urged settled a) at)
   | inr apart ↦
-      said b life (sym (put-other lives a.0 b (option_map f (lives a.0)) apart) ∙ is) ∙ sym (put-other has a.0 b (is_in_at w now settled a) apart)
+      said b life (sym (put-other lives a.0 b (option_map f (lives a.0)) apart) ∙ is) ∙ sym (put-other has a.0 b (is_in_at w now urged settled a) apart)
 ]

@@ -109,18 +109,14 @@ names-life w past p r (Block s t a io) read was = life-at w past r a s (Runs s p
 names-life w past p r (Unblock s t a) read was = life-at w past r a s (Blocked s) read was refl
 names-life w past p r (Told (note.Preempted a)) read was = life-at w past r a was.0 (Stopped was.0) read was.1 refl
 names-life w past p r (Told (note.Unblocked a)) read was = life-at w past r a was.0 (Returned was.0) read was.1 refl
-names-life w past p r (Told (note.Add q)) read was = tt
-names-life w past p r (Told (note.Blocked a)) read was = tt
 names-life w past p r (GiveBack a) read was = life-at w past r a was.0 (Taken was.0) read was.1 refl
-names-life w past p r x read was = tt
+names-life w past p r _ read was = tt
 
 names-home : (w : WorkloadView) (past : List Item) (r : Readings) (x : Record) → IsRead w past r → NamesLife r x → NamesHome r past x
 names-home w past r (Told (note.Preempted a)) read names = home-at w past r a names.0 read names.1
 names-home w past r (Told (note.Unblocked a)) read names = home-at w past r a names.0 read names.1
-names-home w past r (Told (note.Add q)) read names = tt
-names-home w past r (Told (note.Blocked a)) read names = tt
 names-home w past r (GiveBack a) read names = home-at w past r a names.0 read names.1
-names-home w past r x read names = tt
+names-home w past r _ read names = tt
 
 blocks-with : (w : WorkloadView) (past : List Item) (r : Readings) (x : Record) → IsRead w past r → NamesLife r x → BlocksWith w r past x
 blocks-with w past r (Block s t a io) read names = ap locks_one names.1 ∙ ap some_lock (read.locks a.0 names.0 names.1)

@@ -39,9 +39,7 @@ one-thread w past r s u (note.Preempted a) read within has is =
     (subst (λ n. Contains (map note_of (untold_in past s)) n) is (map-has u (untold_in past s) has)) in
     let there = life-at w past r a s (Stopped s) read (read.agrees.stopped s a noted) refl in
     one-stop r a there.0 (stopped_of past a) u.thread there.1 (read.stopped a.0 there.0 there.1) (read.stops s u a within has is)
-one-thread w past r s u (note.Add q) read within has is = refl
-one-thread w past r s u (note.Blocked a) read within has is = refl
-one-thread w past r s u (note.Unblocked a) read within has is = refl
+one-thread w past r s u _ read within has is = refl
 
 all-threads : (f : Note → ℕ) (us : List Untold) → ((u : Untold) → Contains us u → f u.note ≡ cond (stops_thread u) 1 0)
     → sum_by f (map note_of us) ≡ count_by stops_thread us

@@ -9,17 +9,19 @@ use Rattle.sa_laws.specs.Event.{Event, items_of, events_of}
 use Rattle.sa_laws.specs.Readings.{Readings, opening_readings}
 use Rattle.sa_laws.specs.History.{Test, after_event, after_events}
 use Rattle.sa_laws.specs.Rules.{UserRules, IsLawful}
-use Rattle.sa_promises.specs.Needs.{HasForms, AsFast}
+use Rattle.sa_promises.specs.Needs.{HasForms}
 use Rattle.sa_histories.specs.Lawful.{AreLawful}
 use Rattle.sa_laws.specs.Legal.{IsLegal, before}
 use Rattle.sa_laws.proofs.Records.{items-push}
 use Rattle.sa_histories.proofs.Traces.{legal-lawful}
+use Rattle.sa_promises.specs.Packages.{Package}
 use Rattle.sa_promises.specs.Steps.{with_event}
 use Rattle.sa_promises.specs.Reads.{AreRead, AreReadAtEvents, MachineIsRead, MarksAreRead, LinesAreRead, LoadsAreRead, HoldingsAreRead, ReadyAreRead, TakenAreRead, IosAreRead, PagesAreRead, StepsAreRead, CountsAreRead, step_of, OwnEventIsRead, LivesHaveSpaces}
 use Rattle.sa_promises.proofs.read.Loads.{loads-same}
 use Rattle.sa_promises.proofs.read.Events.{read-begins, read-start}
 use Rattle.sa_promises.proofs.read.OwnEvents.{stepper}
 use Rattle.sa_promises.proofs.read.Inside.{settles-same}
+use Rattle.sa_promises.proofs.read.Urged.{AsksMore, lines-start}
 use Rattle.sa_promises.proofs.read.Ends.{IsSaidAt, event-at, said-next}
 use Rattle.sa_promises.proofs.read.Spaces.{IsInRange, range-event, range-start}
 
@@ -54,10 +56,11 @@ after-start test w = record {
   said = record {
     at = read-start w;
     owned = owned-start w.processors;
-    inside = λ fast b life is. absurd (none-some life is);
+    lines = lines-start w;
+    inside = λ which asks b life is. absurd (none-some life is);
     scans = λ b life is. absurd (none-some life is);
     freed = λ b life is. absurd (none-some life is);
-    idle = λ fast b life is. absurd (none-some life is);
+    idle = λ which asks b life is. absurd (none-some life is);
   };
   range = range-start w;
 } where
@@ -120,13 +123,13 @@ pub legal-pages : (rules : UserRules) → HasForms rules → (w : WorkloadView) 
     → AreRead rules (PagesAreRead w) w items
 legal-pages rules meets w items ok legal n s page within few = (legal-after rules meets w items legal n).said.at.pages s page ok within few
 
-pub legal-steps : (rules : UserRules) → HasForms rules → AsFast rules.inside → (w : WorkloadView) (items : List Item) → IsLegal rules w items
-    → AreRead rules (StepsAreRead w) w items
-legal-steps rules meets fast w items legal n a life is = let said = (legal-after rules meets w items legal n).said in record {
-  inside = said.inside fast a.0 life is;
+pub legal-steps : (rules : UserRules) (which : Package) → HasForms rules → AsksMore which rules.inside → (w : WorkloadView) (items : List Item)
+    → IsLegal rules w items → AreRead rules (StepsAreRead which w) w items
+legal-steps rules which meets asks w items legal n a life is = let said = (legal-after rules meets w items legal n).said in record {
+  inside = said.inside which asks a.0 life is;
   scans = said.scans a.0 life is;
   freed = said.freed a.0 life is;
-  idle = said.idle fast a.0 life is;
+  idle = said.idle which asks a.0 life is;
 }
 
 pub legal-counts : (rules : UserRules) → HasForms rules → (w : WorkloadView) (items : List Item) → IsLegal rules w items → AreRead rules CountsAreRead w items

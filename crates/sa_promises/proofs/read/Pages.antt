@@ -65,9 +65,7 @@ IsSmall e = e.page < 16
 
 choose : (a b : Bool) (old : Bool) → (if b then false else (if a then false else old)) ≡ (if a || b then false else old)
 choose true true old = refl
-choose true false old = refl
-choose false true old = refl
-choose false false old = refl
+choose _ _ old = refl
 
 evict-one : (event : ℕ) (e : Evict) (pages : List ℕ) (s : SpaceNo) (k : ℕ) → e.page < 16 → s.0 < length pages → k < 16
     → (b : Bool)

@@ -119,14 +119,12 @@ pub taken-more : (r : Readings) (past : List Item) (x : Record) (s : SpaceNo) (t
     → get_or (taken_after r x) s.0 [] ≡ taken_by s past ts x
 taken-more r past (Told (note.Preempted a)) s ts at within is = taken-told r past a s ts at within is
 taken-more r past (Told (note.Unblocked a)) s ts at within is = taken-told r past a s ts at within is
-taken-more r past (Told (note.Add q)) s ts at within is = is
-taken-more r past (Told (note.Blocked a)) s ts at within is = is
 taken-more r past (GiveBack a) s ts at within is =
     ap (λ o. get_or (without_act r.taken o a) s.0 []) at.space
     ∙ set-list (filter (is_other_act a)) r.taken at.home.space.0 s.0 within
     ∙ ap (λ acts. if at.home.space.0 == s.0 then filter (is_other_act a) acts else acts) is
     ∙ ap (λ (o : Option Home). if is_home s o then filter (is_other a) ts else ts) (sym at.said)
-taken-more r past x s ts at within is = is
+taken-more r past _ s ts at within is = is
 
 behind-same : (w : WorkloadView) (r : Readings) (s : SpaceNo) (t : Option ThreadNo) (last : Option Record)
     → length_behind w r s t last ≡ io_before w r.state s t last

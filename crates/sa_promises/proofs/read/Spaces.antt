@@ -393,11 +393,9 @@ pub record IsInRange (w : WorkloadView) (past : List Item) (r : Readings) : Type
 
 set-aim : (xs : List (Option SpaceNo)) (i j : ℕ) (v : Option SpaceNo) (s : SpaceNo) → get_or (slice_set xs i v) j None ≡ Some s
     → (v ≡ Some s) ⊎ (get_or xs j None ≡ Some s)
-set-aim [] i j v s is = inr is
 set-aim (x ∷ xs) zero zero v s is = inl is
-set-aim (x ∷ xs) zero (suc j) v s is = inr is
-set-aim (x ∷ xs) (suc i) zero v s is = inr is
 set-aim (x ∷ xs) (suc i) (suc j) v s is = set-aim xs i j v s is
+set-aim _ _ _ v s is = inr is
 
 range-step : (w : WorkloadView) (e : ℕ) (p : ProcNo) (past : List Item) (r : Readings) (x : Record) → IsInRange w past r → Ranged (length w.spaces) x
     → IsInRange w (past ++ item e p x ∷ []) (after_record w e p r x)

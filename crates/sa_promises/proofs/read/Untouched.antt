@@ -55,10 +55,8 @@ untouched-step g first told w p r (Free s l t) has same said = said-keep g witho
 untouched-step g first told w p r (Up s a) has same said = said-new g a.0 (new_life s p) first r.lives has (same.fresh s p) said
 untouched-step g first told w p r (Told (note.Preempted a)) has same said = told-said g first told r.upped a (life_of r a) r.lives has same refl said
 untouched-step g first told w p r (Told (note.Unblocked a)) has same said = told-said g first told r.upped a (life_of r a) r.lives has same refl said
-untouched-step g first told w p r (Told (note.Add q)) has same said = said
-untouched-step g first told w p r (Told (note.Blocked a)) has same said = said
 untouched-step g first told w p r (GiveBack a) has same said = said-gone g a.0 r.lives has said
-untouched-step g first told w p r x has same said = said
+untouched-step g first told w p r _ has same said = said
 
 pub untouched-records : {F : Type 0} (g : Life → F) (first : F) (told : Option F) (w : WorkloadView) (e : ℕ) (p : ProcNo) (r : Readings) (xs : List Record)
     (has : ℕ → F)
@@ -147,10 +145,8 @@ idle-step w p r (Free s l t) ins has within said = said-keep idle_then without_l
 idle-step w p r (Up s a) ins has within said = said-new idle_then a.0 (new_life s p) false r.lives has refl said
 idle-step w p r (Told (note.Preempted a)) ins has within said = said-stays idle_then r.upped a (life_of r a) r.lives has (λ from l. refl) (λ l. refl) said
 idle-step w p r (Told (note.Unblocked a)) ins has within said = said-stays idle_then r.upped a (life_of r a) r.lives has (λ from l. refl) (λ l. refl) said
-idle-step w p r (Told (note.Add q)) ins has within said = said
-idle-step w p r (Told (note.Blocked a)) ins has within said = said
 idle-step w p r (GiveBack a) ins has within said = said-gone idle_then a.0 r.lives has said
-idle-step w p r x ins has within said = said
+idle-step w p r _ ins has within said = said
 
 pub idle-records : (w : WorkloadView) (e : ℕ) (p : ProcNo) (r : Readings) (xs : List Record) (ins has : ℕ → Bool) → Said in_now r.lives ins
     → Said idle_then r.lives has

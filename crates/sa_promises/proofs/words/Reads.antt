@@ -219,11 +219,9 @@ raised-new past e q p = record {
 }
 
 pub set-cases : (xs : List (Option ℕ)) (i j v e : ℕ) → get_or (slice_set xs i (Some e)) j None ≡ Some v → ((j ≡ i) × (v ≡ e)) ⊎ (get_or xs j None ≡ Some v)
-set-cases [] i j v e is = inr is
 set-cases (x ∷ xs) zero zero v e is = inl (refl, sym (same_Some e v is))
-set-cases (x ∷ xs) zero (suc j) v e is = inr is
-set-cases (x ∷ xs) (suc i) zero v e is = inr is
 set-cases (x ∷ xs) (suc i) (suc j) v e is = elim (set-cases xs i j v e is) [ inl new ↦ inl (ap suc new.0, new.1) | inr old ↦ inr old ]
+set-cases _ _ _ v e is = inr is
 
 pub clear-cases : (xs : List (Option ℕ)) (i j v : ℕ) → get_or (slice_set xs i None) j None ≡ Some v → (j ≢ i) × (get_or xs j None ≡ Some v)
 clear-cases [] i j v is = absurd (none-some v is)
@@ -235,11 +233,9 @@ clear-cases (x ∷ xs) (suc i) (suc j) v is = let h = clear-cases xs i j v is in
 -- what stands untold is read as untold
 pub with-keeps : (xs : List (List Note)) (i j : ℕ) (y z : Note) → Contains (get_or xs j []) z
     → Contains (get_or (slice_set xs i (get_or xs i [] ++ y ∷ [])) j []) z
-with-keeps [] i j y z has = has
 with-keeps (x ∷ xs) zero zero y z has = Contains-append_left x (y ∷ []) z has
-with-keeps (x ∷ xs) zero (suc j) y z has = has
-with-keeps (x ∷ xs) (suc i) zero y z has = has
 with-keeps (x ∷ xs) (suc i) (suc j) y z has = with-keeps xs i j y z has
+with-keeps _ _ _ y z has = has
 
 with-has : (xs : List (List Note)) (i : ℕ) (y : Note) → i < length xs → Contains (get_or (slice_set xs i (get_or xs i [] ++ y ∷ [])) i []) y
 with-has [] i y within = absurd (omega arith)

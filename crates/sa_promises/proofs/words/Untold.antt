@@ -24,11 +24,9 @@ use Rattle.sa_histories.proofs.Walk.{IsKept, item}
 -- lists of lists, one of which got one item more
 with-cases : (xs : List (List Note)) (i j : ℕ) (y z : Note) → Contains (slice_index_or (slice_set xs i (slice_index_or xs i [] ++ y ∷ [])) j []) z
     → Contains (slice_index_or xs j []) z ⊎ ((j ≡ i) × (y ≡ z))
-with-cases [] i j y z has = inl has
 with-cases (x ∷ xs) zero zero y z has = elim (Contains-push_cases x y z has) [ inl old ↦ inl old | inr new ↦ inr (refl, new) ]
-with-cases (x ∷ xs) zero (suc j) y z has = inl has
-with-cases (x ∷ xs) (suc i) zero y z has = inl has
 with-cases (x ∷ xs) (suc i) (suc j) y z has = elim (with-cases xs i j y z has) [ inl old ↦ inl old | inr new ↦ inr (ap suc new.0, new.1) ]
+with-cases _ _ _ y z has = inl has
 
 -- what is left in a list was there and passes the test
 left-cases : (test : Note → Bool) (notes : List Note) (z : Note) → Contains (filter test notes) z → Contains notes z × (test z ≡ true)
@@ -125,9 +123,7 @@ untold-told r s (note.Add p) other h = absurd (other p refl)
 untold-told r (Some s) (note.Preempted a) other h = (s, h)
 untold-told r (Some s) (note.Blocked a) other h = (s, h)
 untold-told r (Some s) (note.Unblocked a) other h = (s, h)
-untold-told r None (note.Preempted a) other h = absurd h
-untold-told r None (note.Blocked a) other h = absurd h
-untold-told r None (note.Unblocked a) other h = absurd h
+untold-told r None _ other h = absurd h
 
 covered-step : (w : WorkloadView) (e : ℕ) (p : ProcNo) (past : List Item) (r : Readings) (x : Record) → IsCovered past r
     → IsCovered (past ++ item e p x ∷ []) (after_record w e p r x)

@@ -1,8 +1,8 @@
-use Rattle.std.proofs.Common.{refl}
-use Rattle.sa_laws.specs.Rules.{fast_threads}
-use Rattle.sa_promises.proofs.packages.FastThreads.{fast-forms}
+use Rattle.sa_promises.specs.Packages.{rules_of}
+use Rattle.sa_promises.proofs.packages.Both.{forms_of}
 use Rattle.sa_promises.proofs.read.Moments.{legal-steps}
+use Rattle.sa_promises.proofs.read.Urged.{asks-more}
 use Rattle.sa_promises.proofs.readings.steps_are_read.Goals as goal
 
 pub returns : goal.returns
-returns c = legal-steps fast_threads fast-forms (λ w before e after settled life. refl)
+returns c = λ which. legal-steps (rules_of which) which (forms_of which) (asks-more which)
