@@ -54,9 +54,8 @@ none-past (x ∷ xs) zero a past first = absurd (omega arith)
 none-past (x ∷ xs) (suc s) a past first = none-past xs s a (omega arith) first
 
 numbers-at : (queues : List QueueView) (s : ℕ) → slice_index_or (all_numbers queues) s [] ≡ (queue_at queues s).numbers
-numbers-at [] s = refl
-numbers-at (q ∷ qs) zero = refl
 numbers-at (q ∷ qs) (suc s) = numbers-at qs s
+numbers-at _ _ = refl
 
 numbers-set : (queues : List QueueView) (s : ℕ) (q : QueueView) → all_numbers (slice_set queues s q) ≡ slice_set (all_numbers queues) s q.numbers
 numbers-set queues s q = map-set (λ (x : QueueView). x.numbers) queues s q
@@ -182,11 +181,9 @@ module _ {C : Type 0} where
   set-same (y ∷ ys) (suc i) v h = set-same ys i v (omega arith)
 
   set-other : (xs : List (Option (Act C))) (i j : ℕ) (v : Option (Act C)) → j ≢ i → slice_index_or (slice_set xs i v) j None ≡ slice_index_or xs j None
-  set-other [] i j v apart = refl
   set-other (y ∷ ys) zero zero v apart = absurd (apart refl)
-  set-other (y ∷ ys) zero (suc j) v apart = refl
-  set-other (y ∷ ys) (suc i) zero v apart = refl
   set-other (y ∷ ys) (suc i) (suc j) v apart = set-other ys i j v (λ e. apart (ap suc e))
+  set-other _ _ _ v apart = refl
 
   -- a value put in where one was is such a change
   pub updates-with_value : (old : Slab (Act C)) (key : ℕ) (x y : Act C) → get old key ≡ Some x

@@ -3,6 +3,7 @@ use Rattle.std.proofs.Common.{◌≡◌, ℕ, zero, suc, ◌+◌, ◌-◌, ◌�
 use Rattle.std.specs.Prelude.{◌==◌, nat_lt, not, ◌&&◌, ◌||◌, slice_index, slice_index_or, if◌then◌else◌, is_none, slice_set}
 use Rattle.std.specs.List.{list_all, list_any, prefix_len}
 use Rattle.std.specs.Option.{option_map}
+use Rattle.std.proofs.Math.Path.{fun_ext}
 use Rattle.std.proofs.lemmas.Bool.{cases_eq, and_parts}
 use Rattle.std.proofs.lemmas.Bool.Decides.{eqb_tells, nat_tests}
 use Rattle.std.proofs.lemmas.List.{set-get_or, drop_all}
@@ -11,7 +12,7 @@ use Rattle.sa_base.specs.declared.number.SpaceNo.{SpaceNo}
 use Rattle.sa_base.specs.declared.number.ThreadNo.{ThreadNo}
 use Rattle.sa_base.specs.declared.number.ActNo.{ActNo}
 use Rattle.sa_base.specs.declared.record.Note.{Note}
-use Rattle.sa_base.specs.declared.record.Note.TheVariants.{Add, Preempted, Blocked, Unblocked}
+use Rattle.sa_base.specs.declared.record.Note.TheVariants.{Preempted}
 use Rattle.sa_base.specs.declared.record.Record.{Record}
 use Rattle.sa_base.specs.declared.record.Record.TheVariants.{Ins, Out, Run, Stop, Block, Unblock, Cont, Back, Ready, Take, Free, Up, Told, Move, Want, Aim, Line, Fetch, Fetched, GiveBack, Idle, Spin, Tick}
 use Rattle.sa_lemmas.proofs.FunctionUpdates.{put-same, put-other}
@@ -22,6 +23,7 @@ use Rattle.sa_assign.proofs.AimLemmas.{none-missing}
 use Rattle.sa_spaces.specs.Workload.{WorkloadView}
 use Rattle.sa_lemmas.proofs.Options.{none-is}
 use Rattle.sa_lemmas.proofs.Searches.{none-left}
+use Rattle.sa_devices.specs.Ios.{Io}
 use Rattle.sa_laws.specs.Event.{Event}
 use Rattle.sa_laws.specs.Life.{Life}
 use Rattle.sa_laws.specs.declared.rule.Rule.TheVariants.{Numbered, ToldInTime, WhereOwned, WantCause, SharesCovered}
@@ -64,55 +66,46 @@ quiet-cases P of_ins of_out of_run of_cont of_back of_ready of_take of_free of_i
 quiet-cases P of_ins of_out of_run of_cont of_back of_ready of_take of_free of_idle of_spin of_tick Idle h = of_idle
 quiet-cases P of_ins of_out of_run of_cont of_back of_ready of_take of_free of_idle of_spin of_tick (Spin l) h = of_spin l
 quiet-cases P of_ins of_out of_run of_cont of_back of_ready of_take of_free of_idle of_spin of_tick Tick h = of_tick
-quiet-cases P of_ins of_out of_run of_cont of_back of_ready of_take of_free of_idle of_spin of_tick (Stop s t a) h = absurd cc
-quiet-cases P of_ins of_out of_run of_cont of_back of_ready of_take of_free of_idle of_spin of_tick (Block s t a io) h = absurd cc
-quiet-cases P of_ins of_out of_run of_cont of_back of_ready of_take of_free of_idle of_spin of_tick (Unblock s t a) h = absurd cc
-quiet-cases P of_ins of_out of_run of_cont of_back of_ready of_take of_free of_idle of_spin of_tick (Up s a) h = absurd cc
-quiet-cases P of_ins of_out of_run of_cont of_back of_ready of_take of_free of_idle of_spin of_tick (Told n) h = absurd cc
-quiet-cases P of_ins of_out of_run of_cont of_back of_ready of_take of_free of_idle of_spin of_tick (Move old new) h = absurd cc
-quiet-cases P of_ins of_out of_run of_cont of_back of_ready of_take of_free of_idle of_spin of_tick (Want s n) h = absurd cc
-quiet-cases P of_ins of_out of_run of_cont of_back of_ready of_take of_free of_idle of_spin of_tick (Aim q s) h = absurd cc
-quiet-cases P of_ins of_out of_run of_cont of_back of_ready of_take of_free of_idle of_spin of_tick (Line q) h = absurd cc
-quiet-cases P of_ins of_out of_run of_cont of_back of_ready of_take of_free of_idle of_spin of_tick (Fetch s) h = absurd cc
-quiet-cases P of_ins of_out of_run of_cont of_back of_ready of_take of_free of_idle of_spin of_tick (Fetched s) h = absurd cc
-quiet-cases P of_ins of_out of_run of_cont of_back of_ready of_take of_free of_idle of_spin of_tick (GiveBack a) h = absurd cc
+quiet-cases P of_ins of_out of_run of_cont of_back of_ready of_take of_free of_idle of_spin of_tick _ h = absurd cc
 
--- what these are of is the same
-pub record IsSame (r q : Readings) : Type 0 where
-  pub demands : q.demands ≡ r.demands
-  pub under_way : q.under_way ≡ r.under_way
-  pub aims : q.aims ≡ r.aims
-  pub owners : q.state.owners ≡ r.state.owners
-  pub running : q.running ≡ r.running
-  pub lines : q.lines ≡ r.lines
-  pub untold : q.untold ≡ r.untold
-  pub spaces : (a : ActNo) → option_map (λ (x : Life). x.space) (life_of q a) ≡ option_map (λ (x : Life). x.space) (life_of r a)
-  pub idles : (a : ActNo) → option_map (λ (x : Life). x.idle) (life_of q a) ≡ option_map (λ (x : Life). x.idle) (life_of r a)
+-- what a quiet event keeps of a moment
+pub record Kept : Type 0 where
+  pub demands : List ℕ
+  pub under_way : List Io
+  pub aims : List (Option SpaceNo)
+  pub owners : List (Option SpaceNo)
+  pub running : List (Option ActNo)
+  pub lines : List (Option ℕ)
+  pub untold : List (List Note)
+  pub spaces : ℕ → Option SpaceNo
+  pub idles : ℕ → Option Bool
 
-same-itself : (r : Readings) → IsSame r r
-same-itself r = record {
-  demands = refl;
-  under_way = refl;
-  aims = refl;
-  owners = refl;
-  running = refl;
-  lines = refl;
-  untold = refl;
-  spaces = λ a. refl;
-  idles = λ a. refl;
+abbrev pub kept : Readings → Kept
+kept r = record {
+  demands = r.demands;
+  under_way = r.under_way;
+  aims = r.aims;
+  owners = r.state.owners;
+  running = r.running;
+  lines = r.lines;
+  untold = r.untold;
+  spaces = λ a. option_map (λ (x : Life). x.space) (r.lives a);
+  idles = λ a. option_map (λ (x : Life). x.idle) (r.lives a);
 }
 
-pub same-both : (r q s : Readings) → IsSame r q → IsSame q s → IsSame r s
-same-both r q s a b = record {
-  demands = b.demands ∙ a.demands;
-  under_way = b.under_way ∙ a.under_way;
-  aims = b.aims ∙ a.aims;
-  owners = b.owners ∙ a.owners;
-  running = b.running ∙ a.running;
-  lines = b.lines ∙ a.lines;
-  untold = b.untold ∙ a.untold;
-  spaces = λ act. b.spaces act ∙ a.spaces act;
-  idles = λ act. b.idles act ∙ a.idles act;
+abbrev pub IsSame : Readings → Readings → Type 0
+IsSame r q = kept q ≡ kept r
+
+-- a moment with this in place of what it had
+abbrev pub filled : Readings → Kept → Readings
+filled r k = record r {
+  demands = k.demands;
+  under_way = k.under_way;
+  aims = k.aims;
+  running = k.running;
+  lines = k.lines;
+  untold = k.untold;
+  state = record r.state { owners = k.owners };
 }
 
 -- what a change keeps of a life
@@ -130,80 +123,52 @@ life-kept f g keeps (Some b) lives a = elim (cases_eq a.0 b.0) [
   | inr other ↦ ap (option_map g) (put-other lives b.0 a.0 (option_map f (lives b.0)) other)
 ]
 
+-- where the lives alone change, and keep their spaces and idle marks
+lives-kept : (r : Readings) (lives : ℕ → Option Life)
+    → ((a : ActNo) → option_map (λ (x : Life). x.space) (lives a.0) ≡ option_map (λ (x : Life). x.space) (r.lives a.0))
+    → ((a : ActNo) → option_map (λ (x : Life). x.idle) (lives a.0) ≡ option_map (λ (x : Life). x.idle) (r.lives a.0))
+    → kept (record r { lives = lives }) ≡ kept r
+lives-kept r lives spaces idles =
+    ap (λ (f : ℕ → Option SpaceNo). record (kept (record r { lives = lives })) { spaces = f }) (fun_ext (λ a. spaces (record { 0 = a })))
+    ∙ ap (λ (f : ℕ → Option Bool). record (kept r) { idles = f }) (fun_ext (λ a. idles (record { 0 = a })))
+
+one-kept : (r : Readings) (at : Option ActNo) (f : Life → Life) → ((x : Life) → (f x).space ≡ x.space) → ((x : Life) → (f x).idle ≡ x.idle)
+    → kept (record r { lives = with_life f at r.lives }) ≡ kept r
+one-kept r at f spaces idles =
+    lives-kept r (with_life f at r.lives) (life-kept f (λ (x : Life). x.space) spaces at r.lives) (life-kept f (λ (x : Life). x.idle) idles at r.lives)
+
 module _ (w : WorkloadView) (e : ℕ) (p : ProcNo) (r : Readings) where
-  plain : (x : Record) → let q = after_record w e p r x in
-      q.demands ≡ r.demands → q.under_way ≡ r.under_way → q.aims ≡ r.aims → q.state.owners ≡ r.state.owners → q.running ≡ r.running → q.lines ≡ r.lines
-      → q.untold ≡ r.untold
-      → ((a : ActNo) → option_map (λ (x : Life). x.space) (life_of q a) ≡ option_map (λ (x : Life). x.space) (life_of r a))
-      → ((a : ActNo) → option_map (λ (x : Life). x.idle) (life_of q a) ≡ option_map (λ (x : Life). x.idle) (life_of r a)) → IsSame r q
-  plain x a b c d f g i j k = record { demands = a; under_way = b; aims = c; owners = d; running = f; lines = g; untold = i; spaces = j; idles = k }
+  own-kept : (f : Life → Life) → ((x : Life) → (f x).space ≡ x.space) → ((x : Life) → (f x).idle ≡ x.idle)
+      → kept (record r { lives = with_life f (running_of r p) r.lives }) ≡ kept r
+  own-kept = one-kept r (running_of r p)
 
   same-record : (x : Record) → is_quiet_record x ≡ true → IsSame r (after_record w e p r x)
-  same-record (Ins s t i) h =
-      plain (Ins s t i) refl refl refl refl refl refl refl (λ a. life-kept _ (λ (x : Life). x.space) (λ x. refl) (running_of r p) r.lives a)
-      (λ a. life-kept _ (λ (x : Life). x.idle) (λ x. refl) (running_of r p) r.lives a)
-  same-record (Out s t value) h = plain (Out s t value) refl refl refl refl refl refl refl (λ a. refl) (λ a. refl)
-  same-record (Run s t) h =
-      plain (Run s t) refl refl refl refl refl refl refl (λ a. life-kept _ (λ (x : Life). x.space) (λ x. refl) (running_of r p) r.lives a)
-      (λ a. life-kept _ (λ (x : Life). x.idle) (λ x. refl) (running_of r p) r.lives a)
-  same-record (Cont s None) h =
-      plain (Cont s None) refl refl refl refl refl refl refl (λ a. life-kept _ (λ (x : Life). x.space) (λ x. refl) (running_of r p) r.lives a)
-      (λ a. life-kept _ (λ (x : Life). x.idle) (λ x. refl) (running_of r p) r.lives a)
-  same-record (Cont s (Some t)) h =
-      plain (Cont s (Some t)) refl refl refl refl refl refl refl (λ a. life-kept _ (λ (x : Life). x.space) (λ x. refl) (running_of r p) r.lives a)
-      (λ a. life-kept _ (λ (x : Life). x.idle) (λ x. refl) (running_of r p) r.lives a)
-  same-record (Back s None) h =
-      plain (Back s None) refl refl refl refl refl refl refl (λ a. life-kept _ (λ (x : Life). x.space) (λ x. refl) (running_of r p) r.lives a)
-      (λ a. life-kept _ (λ (x : Life). x.idle) (λ x. refl) (running_of r p) r.lives a)
-  same-record (Back s (Some t)) h =
-      plain (Back s (Some t)) refl refl refl refl refl refl refl (λ a. life-kept _ (λ (x : Life). x.space) (λ x. refl) (running_of r p) r.lives a)
-      (λ a. life-kept _ (λ (x : Life). x.idle) (λ x. refl) (running_of r p) r.lives a)
-  same-record (Ready s t) h =
-      plain (Ready s t) refl refl refl refl refl refl refl (λ a. life-kept _ (λ (x : Life). x.space) (λ x. refl) (running_of r p) r.lives a)
-      (λ a. life-kept _ (λ (x : Life). x.idle) (λ x. refl) (running_of r p) r.lives a)
-  same-record (Take s l t) h =
-      plain (Take s l t) refl refl refl refl refl refl refl (λ a. life-kept _ (λ (x : Life). x.space) (λ x. refl) (running_of r p) r.lives a)
-      (λ a. life-kept _ (λ (x : Life). x.idle) (λ x. refl) (running_of r p) r.lives a)
-  same-record (Free s l t) h =
-      plain (Free s l t) refl refl refl refl refl refl refl (λ a. life-kept _ (λ (x : Life). x.space) (λ x. refl) (running_of r p) r.lives a)
-      (λ a. life-kept _ (λ (x : Life). x.idle) (λ x. refl) (running_of r p) r.lives a)
-  same-record Idle h = plain Idle refl refl refl refl refl refl refl (λ a. refl) (λ a. refl)
-  same-record (Spin l) h = plain (Spin l) refl refl refl refl refl refl refl (λ a. refl) (λ a. refl)
-  same-record Tick h = plain Tick refl refl refl refl refl refl refl (λ a. refl) (λ a. refl)
-  same-record (Stop s t a) h = absurd cc
-  same-record (Block s t a io) h = absurd cc
-  same-record (Unblock s t a) h = absurd cc
-  same-record (Up s a) h = absurd cc
-  same-record (Told n) h = absurd cc
-  same-record (Move old new) h = absurd cc
-  same-record (Want s n) h = absurd cc
-  same-record (Aim q s) h = absurd cc
-  same-record (Line q) h = absurd cc
-  same-record (Fetch s) h = absurd cc
-  same-record (Fetched s) h = absurd cc
-  same-record (GiveBack a) h = absurd cc
+  same-record (Ins s t i) h = own-kept _ (λ x. refl) (λ x. refl)
+  same-record (Out s t value) h = refl
+  same-record (Run s t) h = own-kept _ (λ x. refl) (λ x. refl)
+  same-record (Cont s None) h = own-kept _ (λ x. refl) (λ x. refl)
+  same-record (Cont s (Some t)) h = own-kept _ (λ x. refl) (λ x. refl)
+  same-record (Back s None) h = own-kept _ (λ x. refl) (λ x. refl)
+  same-record (Back s (Some t)) h = own-kept _ (λ x. refl) (λ x. refl)
+  same-record (Ready s t) h = own-kept _ (λ x. refl) (λ x. refl)
+  same-record (Take s l t) h = own-kept _ (λ x. refl) (λ x. refl)
+  same-record (Free s l t) h = own-kept _ (λ x. refl) (λ x. refl)
+  same-record Idle h = refl
+  same-record (Spin l) h = refl
+  same-record Tick h = refl
+  same-record _ h = absurd cc
 
 pub same-records : (w : WorkloadView) (e : ℕ) (p : ProcNo) (r : Readings) (xs : List Record) → list_all is_quiet_record xs ≡ true
     → IsSame r (after_records w e p r xs)
-same-records w e p r [] h = same-itself r
+same-records w e p r [] h = refl
 same-records w e p r (x ∷ xs) h =
     let each = and_parts (is_quiet_record x) (list_all is_quiet_record xs) h in
-    same-both r (after_record w e p r x) (after_records w e p (after_record w e p r x) xs) (same-record w e p r x each.0)
-    (same-records w e p (after_record w e p r x) xs each.1)
+    same-records w e p (after_record w e p r x) xs each.1 ∙ same-record w e p r x each.0
 
 -- the beginning of an event on a processor with a low line, and its end
 pub same-begun : (w : WorkloadView) (e : Event) (r : Readings) → line_of r e.proc ≡ None → IsSame r (event_begun w e r)
-same-begun w e r low = record {
-  demands = refl;
-  under_way = refl;
-  aims = refl;
-  owners = refl;
-  running = refl;
-  untold = refl;
-  spaces = λ a. refl;
-  idles = λ a. refl;
-  lines = ap (slice_set r.lines e.proc.0) (sym low) ∙ set-get_or r.lines e.proc.0 None;
-}
+same-begun w e r low =
+    ap (λ ls. record (kept r) { lines = ls }) (ap (slice_set r.lines e.proc.0) (sym low) ∙ set-get_or r.lines e.proc.0 None)
 
 module _ {A : Type 0} (g : Life → A) (test : Test) (w : WorkloadView) (r : Readings) (e : Event) (q : Readings)
     (steps : (first : Record) (x : Life) → g (stepped test w r e q first x) ≡ g x) (rises : (x : Life) → g (arisen test w r e q x) ≡ g x) where
@@ -229,25 +194,13 @@ pub same-event : (test : Test) (w : WorkloadView) (r : Readings) (e : Event) →
     → IsSame r (after_event test w r e)
 same-event test w r e low h =
     let q = behind_all w e r in
-    let here = same-both r (event_begun w e r) q (same-begun w e r low) (same-records w e.number e.proc (event_begun w e r) e.records h) in
-    record {
-      demands = here.demands;
-      under_way = here.under_way;
-      aims = here.aims;
-      owners = here.owners;
-      running = here.running;
-      lines = here.lines;
-      untold = here.untold;
-      spaces = λ a. end-kept (λ (x : Life). x.space) test w r e q (λ first x. refl) (λ x. refl) a ∙ here.spaces a;
-      idles = λ a. end-kept (λ (x : Life). x.idle) test w r e q (λ first x. refl) (λ x. refl) a ∙ here.idles a;
-    }
+    lives-kept q _ (end-kept (λ (x : Life). x.space) test w r e q (λ first x. refl) (λ x. refl))
+    (end-kept (λ (x : Life). x.idle) test w r e q (λ first x. refl) (λ x. refl))
+    ∙ same-records w e.number e.proc (event_begun w e r) e.records h ∙ same-begun w e r low
 
 -- where this is the same, the shares are
 same-claims : (w : WorkloadView) (r q : Readings) → IsSame r q → claims_of w q ≡ claims_of w r
-same-claims w r q same =
-    ap (λ demands. claims_of w (record r { demands = demands; under_way = q.under_way; aims = q.aims })) same.demands
-    ∙ ap (λ ios. claims_of w (record r { under_way = ios; aims = q.aims })) same.under_way
-    ∙ ap (λ aims. claims_of w (record r { aims = aims })) same.aims
+same-claims w r q same = ap (λ (k : Kept). claims_of w (filled r k)) same
 
 same-shares : (w : WorkloadView) (n m : ℕ) (r q : Readings) → first_space w m ≡ first_space w n → IsSame r q → shares_at w m q ≡ shares_at w n r
 same-shares w n m r q first same =
@@ -260,7 +213,7 @@ same-map f g same (x ∷ xs) = ap (λ y. y ∷ map f xs) (sym (same x)) ∙ ap (
 
 same-space : (r q : Readings) → IsSame r q → (a : Option ActNo) → space_of_life q a ≡ space_of_life r a
 same-space r q same None = refl
-same-space r q same (Some a) = same.spaces a
+same-space r q same (Some a) = ap (λ (k : Kept). k.spaces a.0) same
 
 -- where nothing changed that the wants depend on, they are the same
 idle-so : (l k : Option Life) → option_map (λ (x : Life). x.idle) l ≡ option_map (λ (x : Life). x.idle) k → was_idle l ≡ was_idle k
@@ -270,10 +223,8 @@ idle-so (Some l) None h = absurd cc
 idle-so (Some l) (Some k) h = cc
 
 same-hear : (r q : Readings) → IsSame r q → (n : Note) → must_hear q n ≡ must_hear r n
-same-hear r q same (Preempted a) = ap not (idle-so (life_of q a) (life_of r a) (same.idles a))
-same-hear r q same (Unblocked a) = refl
-same-hear r q same (Add p) = refl
-same-hear r q same (Blocked a) = refl
+same-hear r q same (Preempted a) = ap not (idle-so (life_of q a) (life_of r a) (ap (λ (k : Kept). k.idles a.0) same))
+same-hear r q same _ = refl
 
 same-any : (f g : Note → Bool) → ((n : Note) → g n ≡ f n) → (ns : List Note) → list_any g ns ≡ list_any f ns
 same-any f g same [] = refl
@@ -281,35 +232,24 @@ same-any f g same (n ∷ ns) = ap (λ b. b || list_any g ns) (same n) ∙ ap (λ
 
 same-want : (r q : Readings) → IsSame r q → (s : SpaceNo) → must_want q s ≡ must_want r s
 same-want r q same s =
-    ap (λ (demands : List ℕ). slice_index demands s.0 == 0 && list_any (must_hear q) (untold_of q s)) same.demands
-    ∙ ap (λ b. demand_of r s == 0 && b)
-    (same-any (must_hear r) (must_hear q) (same-hear r q same) (untold_of q s)
-    ∙ ap (λ (untold : List (List Note)). list_any (must_hear r) (slice_index_or untold s.0 [])) same.untold)
+    ap (λ (k : Kept). slice_index k.demands s.0 == 0 && list_any (must_hear q) (slice_index_or k.untold s.0 [])) same
+    ∙ ap (λ b. demand_of r s == 0 && b) (same-any (must_hear r) (must_hear q) (same-hear r q same) (untold_of r s))
 
 -- where nothing changed, what was told in time still is
 same-prompt : (r q : Readings) → IsSame r q → IsPrompt r → IsPrompt q
 same-prompt r q same prompt =
-    let a : IsPrompt (record r { untold = q.untold }) =
-    subst (λ (untold : List (List Note)). IsPrompt (record r { untold = untold })) (sym same.untold) (record { each = prompt.each }) in
-    let b : IsPrompt (record r { untold = q.untold; under_way = q.under_way }) =
-    subst (λ ios. IsPrompt (record r { untold = q.untold; under_way = ios })) (sym same.under_way) (record { each = a.each }) in
-    let c : IsPrompt (record r { untold = q.untold; under_way = q.under_way; lines = q.lines }) =
-    subst (λ lines. IsPrompt (record r { untold = q.untold; under_way = q.under_way; lines = lines })) (sym same.lines) (record { each = b.each }) in
-    let d : IsPrompt (record r { untold = q.untold; under_way = q.under_way; lines = q.lines; state = record r.state { owners = q.state.owners } }) =
-    subst (λ owners. IsPrompt (record r { untold = q.untold; under_way = q.under_way; lines = q.lines; state = record r.state { owners = owners } }))
-    (sym same.owners)
-    (record { each = c.each }) in
-    record { each = d.each }
+    let there : IsPrompt (filled r (kept q)) = subst (λ (k : Kept). IsPrompt (filled r k)) (sym same) (record { each = prompt.each }) in
+    record { each = there.each }
 
 settled-same : (w : WorkloadView) (n m : ℕ) (r q : Readings) → first_space w m ≡ first_space w n → IsSame r q → IsSettled w n r → IsSettled w m q
 settled-same w n m r q first same settled = record {
   owned =
-      same.owners ∙ settled.owned ∙ same-map (space_of_life r) (space_of_life q) (same-space r q same) r.running
-      ∙ ap (map (space_of_life q)) (sym same.running);
+      ap (λ (k : Kept). k.owners) same ∙ settled.owned ∙ same-map (space_of_life r) (space_of_life q) (same-space r q same) r.running
+      ∙ ap (map (space_of_life q)) (ap (λ (k : Kept). k.running) (sym same));
   covered = λ s.
       let before = settled.covered s in
       let shares = ap (λ list. share_at list s) (same-shares w n m r q first same) in
-      let aims = ap (aimed s) same.aims in
+      let aims = ap (λ (k : Kept). aimed s k.aims) same in
       omega (arith, before, shares, aims);
   wants = λ s. same-want r q same s ∙ settled.wants s;
   prompt = same-prompt r q same settled.prompt;
@@ -387,7 +327,7 @@ module _ (w : WorkloadView) (r : Readings) (e : Event) (numbered : e.number ≡ 
   during xs h =
       let q = after_records w e.number e.proc (event_begun w e r) xs in
       settled-same w (e.number - 1) e.number r q first.1
-      (same-both r (event_begun w e r) q (same-begun w e r low) (same-records w e.number e.proc (event_begun w e r) xs h)) before
+      (same-records w e.number e.proc (event_begun w e r) xs h ∙ same-begun w e r low) before
 
   pub quiet-aims-due : aims_in e.records ≡ aims_due w e.number (after_records w e.number e.proc (event_begun w e r) (before_aims e.records))
   quiet-aims-due =

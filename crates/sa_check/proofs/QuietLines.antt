@@ -15,22 +15,11 @@ use Rattle.sa_laws.specs.Closing.{lines_due}
 use Rattle.sa_laws.specs.Upcalls.{OwnLines, FirstLineIsAsked}
 use Rattle.sa_check.specs.Quiet.{is_quiet_record, is_quiet}
 use Rattle.sa_check.specs.Sides.{LinesAreInPlace}
-use Rattle.sa_check.proofs.QuietLemmas.{IsSame, same-both, same-begun, same-records, same-event, quiet-cases, quiet-records, quiet-low, front-whole}
+use Rattle.sa_check.proofs.QuietLemmas.{Kept, filled, IsSame, same-begun, same-records, same-event, quiet-cases, quiet-records, quiet-low, front-whole}
 
 -- where nothing changed that the lines depend on, they are the same
 same-lines : (w : WorkloadView) (r q : Readings) → IsSame r q → lines_due w q ≡ lines_due w r
-same-lines w r q same =
-    ap (λ (owners : List (Option SpaceNo)). lines_due w (record r {
-      state = record r.state { owners = owners };
-      under_way = q.under_way;
-      aims = q.aims;
-      lines = q.lines;
-      untold = q.untold;
-    })) same.owners
-    ∙ ap (λ ios. lines_due w (record r { under_way = ios; aims = q.aims; lines = q.lines; untold = q.untold })) same.under_way
-    ∙ ap (λ (aims : List (Option SpaceNo)). lines_due w (record r { aims = aims; lines = q.lines; untold = q.untold })) same.aims
-    ∙ ap (λ (lines : List (Option ℕ)). lines_due w (record r { lines = lines; untold = q.untold })) same.lines
-    ∙ ap (λ (untold : List (List Note)). lines_due w (record r { untold = untold })) same.untold
+same-lines w r q same = ap (λ (k : Kept). lines_due w (filled r k)) same
 
 -- the last lines of quiet records are none
 last-none : (xs : List Record) → list_all is_quiet_record xs ≡ true → last_lines xs ≡ []
@@ -48,7 +37,7 @@ module _ (w : WorkloadView) (r : Readings) (e : Event) (quiet : is_quiet w r e �
   quiet-lines-due calm =
       let q = after_records w e.number e.proc (event_begun w e r) (front_part e.records) in
       let front : list_all is_quiet_record (front_part e.records) ≡ true = ap (list_all is_quiet_record) (front-whole e.records records) ∙ records in
-      let same = same-both r (event_begun w e r) q (same-begun w e r (quiet-low w r e quiet)) (same-records w e.number e.proc (event_begun w e r) (front_part e.records) front) in
+      let same = same-records w e.number e.proc (event_begun w e r) (front_part e.records) front ∙ same-begun w e r (quiet-low w r e quiet) in
       ap lines_in (last-none e.records records) ∙ sym (same-lines w r q same ∙ calm)
 
   pub quiet-in-place : (Asked : OwnLines) → LinesAreInPlace Asked w r e.proc e.records

@@ -8,9 +8,9 @@ use Rattle.sa_lemmas.proofs.ListReads.{take_then_drop}
 use Rattle.sa_base.specs.declared.number.ProcNo.{ProcNo}
 use Rattle.sa_base.specs.declared.number.SpaceNo.{SpaceNo}
 use Rattle.sa_base.specs.declared.number.ActNo.{ActNo}
-use Rattle.sa_base.specs.declared.record.Note.TheVariants.{Add, Preempted, Blocked, Unblocked}
+use Rattle.sa_base.specs.declared.record.Note.TheVariants.{Preempted, Unblocked}
 use Rattle.sa_base.specs.declared.record.Record.{Record}
-use Rattle.sa_base.specs.declared.record.Record.TheVariants.{Ins, Out, Run, Stop, Block, Unblock, Cont, Back, Ready, Take, Free, Up, Told, Move, Want, Aim, Line, Fetch, Fetched, GiveBack, Idle, Spin, Tick}
+use Rattle.sa_base.specs.declared.record.Record.TheVariants.{Ins, Run, Stop, Block, Unblock, Cont, Back, Ready, Take, Free, Up, Told, Move, Fetched, GiveBack}
 use Rattle.sa_spaces.specs.Workload.{WorkloadView}
 use Rattle.sa_laws.specs.Event.{Event}
 use Rattle.sa_laws.specs.Life.{Life, inherits, bereft}
@@ -44,7 +44,6 @@ handed-space upped b (Some from) lives a =
 module _ (w : WorkloadView) (e : ℕ) (p : ProcNo) where
   one-space : (r : Readings) (x : Record) → is_of_entry x ≡ false → (a : ActNo) → space_of (life_of (after_record w e p r x) a) ≡ space_of (life_of r a)
   one-space r (Ins s t i) h a = life-kept _ (λ (x : Life). x.space) (λ x. refl) (running_of r p) r.lives a
-  one-space r (Out s t value) h a = refl
   one-space r (Run s t) h a = life-kept _ (λ (x : Life). x.space) (λ x. refl) (running_of r p) r.lives a
   one-space r (Stop s t b) h a = absurd cc
   one-space r (Block s t b io) h a = absurd cc
@@ -55,20 +54,12 @@ module _ (w : WorkloadView) (e : ℕ) (p : ProcNo) where
   one-space r (Take s l t) h a = life-kept _ (λ (x : Life). x.space) (λ x. refl) (running_of r p) r.lives a
   one-space r (Free s l t) h a = life-kept _ (λ (x : Life). x.space) (λ x. refl) (running_of r p) r.lives a
   one-space r (Up s b) h a = absurd cc
-  one-space r (Told (Add q)) h a = refl
   one-space r (Told (Preempted b)) h a = handed-space r.upped b (life_of r b) r.lives a
-  one-space r (Told (Blocked b)) h a = refl
   one-space r (Told (Unblocked b)) h a = handed-space r.upped b (life_of r b) r.lives a
   one-space r (Move from to) h a = absurd cc
-  one-space r (Want s n) h a = refl
-  one-space r (Aim q s) h a = refl
-  one-space r (Line q) h a = refl
-  one-space r (Fetch s) h a = refl
   one-space r (Fetched s) h a = absurd cc
   one-space r (GiveBack b) h a = absurd cc
-  one-space r Idle h a = refl
-  one-space r (Spin l) h a = refl
-  one-space r Tick h a = refl
+  one-space r _ h a = refl
 
   or-first : (a b : Bool) → (a || b) ≡ false → (a ≡ false) × (b ≡ false)
   or-first true b h = absurd cc

@@ -14,7 +14,7 @@ use Rattle.sa_laws.specs.Life.{Life, Lock, some_lock, has_lock, change_first, re
 use Rattle.sa_laws.specs.Record.{with_life, handed}
 use Rattle.sa_check_lives.specs.declared.life.Lost.{Lost}
 use Rattle.sa_check_lives.specs.declared.change.Change.{Change}
-use Rattle.sa_check_lives.specs.declared.change.Change.TheVariants.{Stop, Block, Unblock, Cont, Back, Ready, Run, Take, Free, Step, Arise}
+use Rattle.sa_check_lives.specs.declared.change.Change.TheVariants.{Ready, Run, Take, Free, Step, Arise}
 use Rattle.sa_check_lives.specs.Change.{changed_by, adds_lock, enters}
 use Rattle.sa_check_lives.specs.Table.{AreAmong, KeepsAll, KeepsOthers, KeepsUpped, KeepsUnless, IsThere, IsAddedTo, IsLost, is_inside}
 
@@ -50,31 +50,17 @@ some-append (x ∷ xs) ys is = inl refl
 
 -- a lock is there before, or the change adds it
 pub lock-before : (change : Change) (life : Life) → has_lock (changed_by change life) ≡ true → (has_lock life ≡ true) ⊎ (adds_lock change ≡ true)
-lock-before (Stop t) life is = inl is
-lock-before (Block t) life is = inl is
-lock-before (Unblock t) life is = inl is
-lock-before Cont life is = inl is
-lock-before (Back t) life is = inl is
 lock-before (Ready t) life is = inl (sym (some-change readied life.locks) ∙ is)
 lock-before (Run t) life is = inl (sym (some-change (ran t) life.locks) ∙ is)
 lock-before (Take lock) life is = inr refl
 lock-before Free life is = inl (some-drop life.locks is)
-lock-before (Step x) life is = inl is
-lock-before (Arise b) life is = inl is
+lock-before _ life is = inl is
 
 -- a life that is in was in before, or it enters
 pub inside-before : (change : Change) (life : Life) → is_inside (changed_by change life) ≡ true → (is_inside life ≡ true) ⊎ (enters change ≡ true)
-inside-before (Stop t) life is = inl is
-inside-before (Block t) life is = inl is
-inside-before (Unblock t) life is = inl is
-inside-before Cont life is = inl is
-inside-before (Back t) life is = inl is
-inside-before (Ready t) life is = inl is
-inside-before (Run t) life is = inl is
-inside-before (Take lock) life is = inl is
-inside-before Free life is = inl is
 inside-before (Step x) life is = inr is
 inside-before (Arise b) life is = inr is
+inside-before _ life is = inl is
 
 -- those with a lock after a change, and those that are in
 pub holders-changed : (lives : ℕ → Option Life) (change : Change) (a : ActNo) (lost : Lost) (h0 h1 h2 : List ℕ)

@@ -4,8 +4,8 @@ use Rattle.std.specs.Option.{option_map}
 use Rattle.sa_base.specs.declared.number.ProcNo.{ProcNo}
 use Rattle.sa_base.specs.declared.number.ThreadNo.{ThreadNo}
 use Rattle.sa_base.specs.declared.number.ActNo.{ActNo}
-use Rattle.sa_base.specs.declared.record.Note.TheVariants.{Add, Preempted, Blocked, Unblocked}
-use Rattle.sa_base.specs.declared.record.Record.TheVariants.{Ins, Out, Run, Stop, Block, Unblock, Cont, Back, Ready, Take, Free, Up, Told, Move, Want, Aim, Line, Fetch, Fetched, GiveBack, Idle, Spin, Tick}
+use Rattle.sa_base.specs.declared.record.Note.TheVariants.{Add}
+use Rattle.sa_base.specs.declared.record.Record.TheVariants.{Take, Told}
 use Rattle.sa_lemmas.specs.Function.{put}
 use Rattle.sa_laws.specs.Life.{Life, with_lock}
 use Rattle.sa_laws.specs.Readings.{Readings, running_of, life_if}
@@ -32,32 +32,9 @@ take-read p l t r for_push is = with_life-as (locks r p l t) (with_lock (taken_l
     (λ a life at here. ap (λ b. with_lock (taken_lock p l t b) life) (sym (is.each life (ap (life_if r) at ∙ here))))
 
 pub records-read : RecordsAreRead
-records-read w e p r (Ins s t i) for_push is = refl
-records-read w e p r (Out s t value) for_push is = refl
-records-read w e p r (Run s t) for_push is = refl
-records-read w e p r (Stop s t a) for_push is = refl
-records-read w e p r (Block s t a io) for_push is = refl
-records-read w e p r (Unblock s t a) for_push is = refl
-records-read w e p r (Cont s t) for_push is = refl
-records-read w e p r (Back s t) for_push is = refl
-records-read w e p r (Ready s t) for_push is = refl
 records-read w e p r (Take s l t) for_push is = ap (λ lives. record (read_of r) { lives = lives }) (take-read p l t r for_push is)
-records-read w e p r (Free s l t) for_push is = refl
-records-read w e p r (Up s a) for_push is = refl
 records-read w e p r (Told (Add q)) for_push is = refl
-records-read w e p r (Told (Preempted a)) for_push is = refl
-records-read w e p r (Told (Blocked a)) for_push is = refl
-records-read w e p r (Told (Unblocked a)) for_push is = refl
-records-read w e p r (Move old new) for_push is = refl
-records-read w e p r (Want s n) for_push is = refl
-records-read w e p r (Aim q s) for_push is = refl
-records-read w e p r (Line q) for_push is = refl
-records-read w e p r (Fetch s) for_push is = refl
-records-read w e p r (Fetched s) for_push is = refl
-records-read w e p r (GiveBack a) for_push is = refl
-records-read w e p r Idle for_push is = refl
-records-read w e p r (Spin l) for_push is = refl
-records-read w e p r Tick for_push is = refl
+records-read w e p r _ for_push is = refl
 
 pub steps-read : StepsAreRead
 steps-read test w before e after first a lives x said =

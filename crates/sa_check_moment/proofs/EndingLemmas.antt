@@ -35,57 +35,15 @@ use Rattle.sa_check_moment.proofs.JoinLemmas.{seen-as}
 module _ (before after : Readings) (others : List Record) where
   settles-same : (x : Record) → settles_by (lowers before (x ∷ others)) after x ≡ settles before after x
   settles-same (Ins s t i) = refl
-  settles-same (Out s t value) = refl
-  settles-same (Run s t) = refl
-  settles-same (Stop s t a) = refl
-  settles-same (Block s t a io) = refl
-  settles-same (Unblock s t a) = refl
-  settles-same (Cont s t) = refl
-  settles-same (Back s t) = refl
-  settles-same (Ready s t) = refl
-  settles-same (Take s l t) = refl
-  settles-same (Free s l t) = refl
-  settles-same (Up s a) = refl
-  settles-same (Told note) = refl
-  settles-same (Move old new) = refl
-  settles-same (Want s n) = refl
-  settles-same (Aim q s) = refl
-  settles-same (Line q) = refl
-  settles-same (Fetch s) = refl
-  settles-same (Fetched s) = refl
-  settles-same (GiveBack a) = refl
-  settles-same Idle = refl
-  settles-same (Spin l) = refl
-  settles-same Tick = refl
+  settles-same _ = refl
 
   want_scan : (low : Bool) (scans : ℕ) → scans_by (if low then Same else Over) scans ≡ (if low then scans else 0)
   want_scan true scans = refl
   want_scan false scans = refl
 
   scans-same : (x : Record) (scans : ℕ) → scans_by (scan_by (lowers before (x ∷ others)) x) scans ≡ scans_after before x scans
-  scans-same (Ins s t i) scans = refl
-  scans-same (Out s t value) scans = refl
-  scans-same (Run s t) scans = refl
-  scans-same (Stop s t a) scans = refl
-  scans-same (Block s t a io) scans = refl
-  scans-same (Unblock s t a) scans = refl
-  scans-same (Cont s t) scans = refl
-  scans-same (Back s t) scans = refl
-  scans-same (Ready s t) scans = refl
-  scans-same (Take s l t) scans = refl
-  scans-same (Free s l t) scans = refl
-  scans-same (Up s a) scans = refl
-  scans-same (Told note) scans = refl
-  scans-same (Move old new) scans = refl
   scans-same (Want s n) scans = want_scan (nat_lt n (demand_of before s)) scans
-  scans-same (Aim q s) scans = refl
-  scans-same (Line q) scans = refl
-  scans-same (Fetch s) scans = refl
-  scans-same (Fetched s) scans = refl
-  scans-same (GiveBack a) scans = refl
-  scans-same Idle scans = refl
-  scans-same (Spin l) scans = refl
-  scans-same Tick scans = refl
+  scans-same _ scans = refl
 
 -- where an event has no closing, its own part is all of it
 front-all : (n : ℕ) (xs : List Record) → drop (length (take n xs)) xs ≡ [] → take n xs ≡ xs

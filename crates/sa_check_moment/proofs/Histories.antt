@@ -1,5 +1,5 @@
 -- The ready threads of all spaces by their ranks: before any record, and after one.
-use Rattle.std.proofs.Common.{◌≡◌, ◌≢◌, ℕ, zero, suc, ◌<◌, ◌+◌, cond, inl, inr, refl, sym, ◌∙◌, ap, subst, arith, Some, None, List, [], ◌∷◌, length, true, false, map, replicate}
+use Rattle.std.proofs.Common.{◌≡◌, ◌≢◌, ℕ, zero, suc, ◌<◌, ◌+◌, cond, inl, inr, refl, sym, ◌∙◌, ap, subst, arith, Some, List, [], ◌∷◌, length, true, false, map, replicate}
 use Rattle.std.specs.Prelude.{◌==◌, get_or, slice_set}
 use Rattle.std.proofs.lemmas.Bool.{cases_eq, cases_lt, and_parts, ne_eqb}
 use Rattle.std.proofs.lemmas.List.{get_or-set_same, get_or-set_other, get_or_past, length-set, length-map, length-replicate}
@@ -7,7 +7,7 @@ use Rattle.sa_base.specs.declared.number.ProcNo.{ProcNo}
 use Rattle.sa_base.specs.declared.number.SpaceNo.{SpaceNo}
 use Rattle.sa_base.specs.declared.number.ThreadNo.{ThreadNo}
 use Rattle.sa_base.specs.declared.record.Record.{Record}
-use Rattle.sa_base.specs.declared.record.Record.TheVariants.{Ins, Out, Run, Stop, Block, Unblock, Cont, Back, Ready, Take, Free, Up, Told, Move, Want, Aim, Line, Fetch, Fetched, GiveBack, Idle, Spin, Tick}
+use Rattle.sa_base.specs.declared.record.Record.TheVariants.{Ins, Run, Stop, Block, Unblock, Cont, Back, Ready, Idle, Tick}
 use Rattle.sa_spaces.specs.Space.{SpaceView}
 use Rattle.sa_spaces.specs.Workload.{WorkloadView}
 use Rattle.sa_laws.specs.declared.place.Place.{Place}
@@ -107,11 +107,9 @@ kept-ranked r c s x v ready spaces keeps is = record {
   where
     all : (xs : List SpaceState) (i j : ℕ) → KeepsReady (get_or xs i no_threads).threads x.threads
         → KeepsReady (get_or xs j no_threads).threads (get_or (slice_set xs i x) j no_threads).threads
-    all [] i j keeps n = record { ready = refl; program = λ h. refl }
     all (y ∷ ys) zero zero keeps n = keeps n
-    all (y ∷ ys) zero (suc j) keeps n = record { ready = refl; program = λ h. refl }
-    all (y ∷ ys) (suc i) zero keeps n = record { ready = refl; program = λ h. refl }
     all (y ∷ ys) (suc i) (suc j) keeps n = all ys i j keeps n
+    all _ _ _ keeps n = record { ready = refl; program = λ h. refl }
 
 -- a thread that is somewhere was made, and so was its space
 made : (a : State) (s : SpaceNo) (t : ThreadNo) → (thread_at a s t).place ≢ place.Done → t.0 < length (space_at a s).threads
@@ -144,12 +142,8 @@ runs-at a p s t is =
     ap (λ n. (get_or (get_or a.spaces n no_threads).threads t.0 nobody).place) at ∙ found.2
 
 waiting-is : (x : Place) → is_waiting x ≡ true → (is_ready x ≡ false) × (x ≢ place.Done)
-waiting-is (place.Running p) h = absurd cc
-waiting-is place.Ready h = absurd cc
-waiting-is place.Blocked h = absurd cc
 waiting-is place.Waiting h = (refl, λ same. cc)
-waiting-is place.Carried h = absurd cc
-waiting-is place.Done h = absurd cc
+waiting-is _ h = absurd cc
 
 before-ready : (a : State) (s : SpaceNo) (t : ThreadNo) → CanBeReady a s t → (is_ready (thread_at a s t).place ≡ false) × ((thread_at a s t).place ≢ place.Done)
 before-ready a s t (inl carried) = (ap is_ready carried, λ gone. let clash : place.Carried ≡ place.Done = sym carried ∙ gone in cc)
@@ -180,38 +174,21 @@ ranked-behind w e p r (Ins s t i) old new needs read is =
     as-new (Ranked (after_record w e p r (Ins s t i))) old new read
     (kept-ranked r (after_record w e p r (Ins s t i)) s (next_effect w r.state s t).space old refl refl
     (ins-keeps x t (ap is_ready needs.runs) (next_instr w r.state s t)) is)
-ranked-behind w e p r (Stop s None b) old new needs read is = as-new (Ranked (after_record w e p r (Stop s None b))) old new read (record { listed = is.listed; rows = is.rows; each = is.each })
 ranked-behind w e p r (Stop s (Some t) b) old new needs read is =
     as-new (Ranked (after_record w e p r (Stop s (Some t) b))) old new read
     (put-ranked r (after_record w e p r (Stop s (Some t) b)) s t place.Carried old refl refl (place.Running p) (runs-at r.state p s t needs.1) refl refl is)
-ranked-behind w e p r (Block s None b io) old new needs read is = as-new (Ranked (after_record w e p r (Block s None b io))) old new read (record { listed = is.listed; rows = is.rows; each = is.each })
 ranked-behind w e p r (Block s (Some t) b io) old new needs read is =
     as-new (Ranked (after_record w e p r (Block s (Some t) b io))) old new read
     (put-ranked r (after_record w e p r (Block s (Some t) b io)) s t place.Blocked old refl refl (place.Running p) (runs-at r.state p s t needs.runs) refl refl is)
-ranked-behind w e p r (Unblock s None b) old new needs read is = as-new (Ranked (after_record w e p r (Unblock s None b))) old new read (record { listed = is.listed; rows = is.rows; each = is.each })
 ranked-behind w e p r (Unblock s (Some t) b) old new needs read is =
     as-new (Ranked (after_record w e p r (Unblock s (Some t) b))) old new read
     (put-ranked r (after_record w e p r (Unblock s (Some t) b)) s t place.Carried old refl refl place.Blocked needs.blocked refl refl is)
-ranked-behind w e p r (Cont s None) old new needs read is = as-new (Ranked (after_record w e p r (Cont s None))) old new read (record { listed = is.listed; rows = is.rows; each = is.each })
 ranked-behind w e p r (Cont s (Some t)) old new needs read is =
     as-new (Ranked (after_record w e p r (Cont s (Some t)))) old new read
     (put-ranked r (after_record w e p r (Cont s (Some t))) s t (place.Running p) old refl refl place.Carried needs.2 refl refl is)
-ranked-behind w e p r (Back s None) old new needs read is = as-new (Ranked (after_record w e p r (Back s None))) old new read (record { listed = is.listed; rows = is.rows; each = is.each })
 ranked-behind w e p r (Back s (Some t)) old new needs read is =
     as-new (Ranked (after_record w e p r (Back s (Some t)))) old new read
     (put-ranked r (after_record w e p r (Back s (Some t))) s t place.Carried old refl refl (place.Running p) (runs-at r.state p s t needs.1) refl refl is)
-ranked-behind w e p r (Out s t value) old new needs read is = as-new (Ranked (after_record w e p r (Out s t value))) old new read (record { listed = is.listed; rows = is.rows; each = is.each })
-ranked-behind w e p r (Take s l t) old new needs read is = as-new (Ranked (after_record w e p r (Take s l t))) old new read (record { listed = is.listed; rows = is.rows; each = is.each })
-ranked-behind w e p r (Free s l t) old new needs read is = as-new (Ranked (after_record w e p r (Free s l t))) old new read (record { listed = is.listed; rows = is.rows; each = is.each })
-ranked-behind w e p r (Up s b) old new needs read is = as-new (Ranked (after_record w e p r (Up s b))) old new read (record { listed = is.listed; rows = is.rows; each = is.each })
-ranked-behind w e p r (Told n) old new needs read is = as-new (Ranked (after_record w e p r (Told n))) old new read (record { listed = is.listed; rows = is.rows; each = is.each })
-ranked-behind w e p r (Move from to) old new needs read is = as-new (Ranked (after_record w e p r (Move from to))) old new read (record { listed = is.listed; rows = is.rows; each = is.each })
-ranked-behind w e p r (Want s n) old new needs read is = as-new (Ranked (after_record w e p r (Want s n))) old new read (record { listed = is.listed; rows = is.rows; each = is.each })
-ranked-behind w e p r (Aim q s) old new needs read is = as-new (Ranked (after_record w e p r (Aim q s))) old new read (record { listed = is.listed; rows = is.rows; each = is.each })
-ranked-behind w e p r (Line q) old new needs read is = as-new (Ranked (after_record w e p r (Line q))) old new read (record { listed = is.listed; rows = is.rows; each = is.each })
-ranked-behind w e p r (Fetch s) old new needs read is = as-new (Ranked (after_record w e p r (Fetch s))) old new read (record { listed = is.listed; rows = is.rows; each = is.each })
-ranked-behind w e p r (Fetched s) old new needs read is = as-new (Ranked (after_record w e p r (Fetched s))) old new read (record { listed = is.listed; rows = is.rows; each = is.each })
-ranked-behind w e p r (GiveBack b) old new needs read is = as-new (Ranked (after_record w e p r (GiveBack b))) old new read (record { listed = is.listed; rows = is.rows; each = is.each })
 ranked-behind w e p r Idle old new needs read is = as-new (Ranked (after_record w e p r Idle)) old new read (record { listed = is.listed; rows = is.rows; each = is.each })
-ranked-behind w e p r (Spin l) old new needs read is = as-new (Ranked (after_record w e p r (Spin l))) old new read (record { listed = is.listed; rows = is.rows; each = is.each })
 ranked-behind w e p r Tick old new needs read is = as-new (Ranked (after_record w e p r Tick)) old new read (record { listed = is.listed; rows = is.rows; each = is.each })
+ranked-behind w e p r x old new needs read is = as-new (Ranked (after_record w e p r x)) old new read (record { listed = is.listed; rows = is.rows; each = is.each })

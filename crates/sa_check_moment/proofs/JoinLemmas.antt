@@ -3,9 +3,9 @@ use Rattle.std.proofs.Common.{◌≡◌, ℕ, refl, sym, ◌∙◌, ap, Bool, Li
 use Rattle.sa_base.specs.declared.number.ProcNo.{ProcNo}
 use Rattle.sa_base.specs.declared.number.SpaceNo.{SpaceNo}
 use Rattle.sa_base.specs.declared.number.ThreadNo.{ThreadNo}
-use Rattle.sa_base.specs.declared.record.Note.TheVariants.{Add, Preempted, Blocked, Unblocked}
+use Rattle.sa_base.specs.declared.record.Note.TheVariants.{Add}
 use Rattle.sa_base.specs.declared.record.Record.{Record}
-use Rattle.sa_base.specs.declared.record.Record.TheVariants.{Ins, Out, Run, Stop, Block, Unblock, Cont, Back, Ready, Take, Free, Up, Told, Move, Want, Aim, Line, Fetch, Fetched, GiveBack, Idle, Spin, Tick}
+use Rattle.sa_base.specs.declared.record.Record.TheVariants.{Ready, Take, Told}
 use Rattle.sa_spaces.specs.Workload.{WorkloadView}
 use Rattle.sa_laws.specs.State.{State}
 use Rattle.sa_laws.specs.Machine.{changed}
@@ -30,32 +30,9 @@ rest w e p r x lives =
 
 parts : (w : WorkloadView) (e : ℕ) (p : ProcNo) (r : Readings) (x : Record) (for_push : Bool) → ReadsPush r p x for_push
     → after_record w e p r x ≡ rest w e p r x (recorded (roused_by w r.state x) for_push p x (read_of r))
-parts w e p r (Ins s t i) for_push is = refl
-parts w e p r (Out s t value) for_push is = refl
-parts w e p r (Run s t) for_push is = refl
-parts w e p r (Stop s t a) for_push is = refl
-parts w e p r (Block s t a io) for_push is = refl
-parts w e p r (Unblock s t a) for_push is = refl
-parts w e p r (Cont s t) for_push is = refl
-parts w e p r (Back s t) for_push is = refl
-parts w e p r (Ready s t) for_push is = refl
 parts w e p r (Take s l t) for_push is = ap (rest w e p r (Take s l t)) (records-read w e p r (Take s l t) for_push is)
-parts w e p r (Free s l t) for_push is = refl
-parts w e p r (Up s a) for_push is = refl
 parts w e p r (Told (Add q)) for_push is = refl
-parts w e p r (Told (Preempted a)) for_push is = refl
-parts w e p r (Told (Blocked a)) for_push is = refl
-parts w e p r (Told (Unblocked a)) for_push is = refl
-parts w e p r (Move old new) for_push is = refl
-parts w e p r (Want s n) for_push is = refl
-parts w e p r (Aim q s) for_push is = refl
-parts w e p r (Line q) for_push is = refl
-parts w e p r (Fetch s) for_push is = refl
-parts w e p r (Fetched s) for_push is = refl
-parts w e p r (GiveBack a) for_push is = refl
-parts w e p r Idle for_push is = refl
-parts w e p r (Spin l) for_push is = refl
-parts w e p r Tick for_push is = refl
+parts w e p r _ for_push is = refl
 
 -- a moment of these parts
 abbrev whole : Rules → WorkloadView → ℕ → State → BoardView → LivesView → PendingView → List (List Listed) → Option Record → Option SpaceNo → Seen
@@ -84,29 +61,8 @@ seen-as n rules w number state board lives pending ready last moved of a b c d f
 -- the list matters at a ready alone
 listed-as : (r : Readings) (p : ProcNo) (x : Record) (list : ProcNo) (ready : List (List Listed)) → ReadsList r p x list
     → ready_after list x ready ≡ ready_after (first_list (life_on r p) p) x ready
-listed-as r p (Ins s t i) list ready is = refl
-listed-as r p (Out s t value) list ready is = refl
-listed-as r p (Run s t) list ready is = refl
-listed-as r p (Stop s t a) list ready is = refl
-listed-as r p (Block s t a io) list ready is = refl
-listed-as r p (Unblock s t a) list ready is = refl
-listed-as r p (Cont s t) list ready is = refl
-listed-as r p (Back s t) list ready is = refl
 listed-as r p (Ready s t) list ready is = ap (λ (to : ProcNo). with_ready ready s t to) is
-listed-as r p (Take s l t) list ready is = refl
-listed-as r p (Free s l t) list ready is = refl
-listed-as r p (Up s a) list ready is = refl
-listed-as r p (Told n) list ready is = refl
-listed-as r p (Move old new) list ready is = refl
-listed-as r p (Want s n) list ready is = refl
-listed-as r p (Aim q s) list ready is = refl
-listed-as r p (Line q) list ready is = refl
-listed-as r p (Fetch s) list ready is = refl
-listed-as r p (Fetched s) list ready is = refl
-listed-as r p (GiveBack a) list ready is = refl
-listed-as r p Idle list ready is = refl
-listed-as r p (Spin l) list ready is = refl
-listed-as r p Tick list ready is = refl
+listed-as r p _ list ready is = refl
 
 -- what a record's parts are read with: for a take, for a block or a fetch, for a ready
 pub record IsReadWith (m : Kept) (p : ProcNo) (x : Record) (for_push : Bool) (new_io : Option Blocking) (list : ProcNo) : Type 0 where

@@ -40,11 +40,9 @@ pub idle : (old new : Thread) → is_ready old.place ≡ false → is_ready new.
 idle old new was now = record { ready = now ∙ sym was; program = λ h. absurd (let clash = sym h ∙ was in cc) }
 
 pub keeps-set : (xs : List Thread) (i : ℕ) (new : Thread) → SameReady (get_or xs i nobody) new → KeepsReady xs (slice_set xs i new)
-keeps-set [] i new same j = record { ready = refl; program = λ h. refl }
 keeps-set (x ∷ xs) zero new same zero = same
-keeps-set (x ∷ xs) zero new same (suc j) = record { ready = refl; program = λ h. refl }
-keeps-set (x ∷ xs) (suc i) new same zero = record { ready = refl; program = λ h. refl }
 keeps-set (x ∷ xs) (suc i) new same (suc j) = keeps-set xs i new same j
+keeps-set _ _ new same _ = record { ready = refl; program = λ h. refl }
 
 keeps-push : (xs : List Thread) (new : Thread) → is_ready new.place ≡ false → KeepsReady xs (xs ++ new ∷ [])
 keeps-push [] new now zero = idle nobody new refl now
@@ -82,19 +80,14 @@ module _ (x : SpaceState) (t : ThreadNo) (was : is_ready (thread_in x t).place �
     one false = one-set _ was
 
   pub ins-keeps : (i : Instr) → Kept (effect_of x t (thread_in x t) i).space
-  ins-keeps (instr.Load reg cell) = one-set _ was
-  ins-keeps (instr.Store reg cell) = one-set _ was
-  ins-keeps (instr.Out reg) = one-set _ was
   ins-keeps (instr.Fork reg k) = ins-forked reg k
   ins-keeps (instr.Join reg) = ins-answered _ _ was
   ins-keeps (instr.Lock m) = ins-answered _ _ was
   ins-keeps (instr.Unlock m) = ins-answered _ _ was
   ins-keeps (instr.Wait m) = ins-answered _ _ was
   ins-keeps (instr.Signal m) = ins-answered _ _ was
-  ins-keeps (instr.Io n) = one-set _ was
-  ins-keeps (instr.Touch page) = one-set _ was
   ins-keeps instr.End = one-set _ refl
-  ins-keeps i = one-set _ was
+  ins-keeps _ = one-set _ was
 
   -- it is put in another place, where it is not ready
   pub put-keeps : (to : Place) → is_ready to ≡ false → Kept (put_thread to x t)

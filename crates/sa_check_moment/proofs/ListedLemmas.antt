@@ -8,7 +8,7 @@ use Rattle.sa_base.specs.declared.number.ActNo.{ActNo}
 use Rattle.sa_base.specs.declared.record.Note.{Note}
 use Rattle.sa_base.specs.declared.record.Note.TheVariants.{Add, Preempted, Blocked, Unblocked}
 use Rattle.sa_base.specs.declared.record.Record.{Record}
-use Rattle.sa_base.specs.declared.record.Record.TheVariants.{Ins, Out, Run, Stop, Block, Unblock, Cont, Back, Ready, Take, Free, Up, Told, Move, Want, Aim, Line, Fetch, Fetched, GiveBack, Idle, Spin, Tick}
+use Rattle.sa_base.specs.declared.record.Record.TheVariants.{Stop, Block, Unblock, Cont, Back, Up, Told, Move, Want, Aim, Line, GiveBack, Idle, Spin, Tick}
 use Rattle.sa_spaces.specs.Workload.{WorkloadView}
 use Rattle.sa_laws.specs.declared.place.Place.{Place}
 use Rattle.sa_laws.specs.State.{State, placed_if}
@@ -76,9 +76,6 @@ told-long : (untold : List (List Note)) (n : Note) → length (without_note unto
 told-long untold n = length-map untold (filter (is_other_note n))
 
 kept : (w : WorkloadView) (e : ℕ) (p : ProcNo) (r : Readings) (x : Record) → AreAsLong (lists_of r) (lists_of (after_record w e p r x))
-kept w e p r (Ins s t i) = same (lists_of r)
-kept w e p r (Out s t value) = same (lists_of r)
-kept w e p r (Run s t) = same (lists_of r)
 kept w e p r (Stop s t a) = record {
   owners = as_many r.state s t _;
   aims = refl;
@@ -108,9 +105,6 @@ kept w e p r (Unblock s t a) = record {
 }
 kept w e p r (Cont s t) = record { owners = as_many r.state s t _; aims = refl; lines = refl; marks = refl; running = refl; taken = refl; untold = refl }
 kept w e p r (Back s t) = record { owners = as_many r.state s t _; aims = refl; lines = refl; marks = refl; running = refl; taken = refl; untold = refl }
-kept w e p r (Ready s t) = same (lists_of r)
-kept w e p r (Take s l t) = same (lists_of r)
-kept w e p r (Free s l t) = same (lists_of r)
 kept w e p r (Up s a) = record {
   owners = refl;
   aims = refl;
@@ -152,8 +146,6 @@ kept w e p r (Move old new) = record {
 kept w e p r (Want s n) = record { owners = refl; aims = refl; lines = refl; marks = length-set r.marks p.0 _; running = refl; taken = refl; untold = refl }
 kept w e p r (Aim q s) = record { owners = refl; aims = length-set r.aims q.0 _; lines = refl; marks = refl; running = refl; taken = refl; untold = refl }
 kept w e p r (Line q) = record { owners = refl; aims = refl; lines = length-set r.lines q.0 _; marks = refl; running = refl; taken = refl; untold = refl }
-kept w e p r (Fetch s) = same (lists_of r)
-kept w e p r (Fetched s) = same (lists_of r)
 kept w e p r (GiveBack a) = record {
   owners = refl;
   aims = refl;
@@ -163,9 +155,7 @@ kept w e p r (GiveBack a) = record {
   taken = without-length r.taken (space_of_life r (Some a)) a;
   untold = refl;
 }
-kept w e p r Idle = same (lists_of r)
-kept w e p r (Spin l) = same (lists_of r)
-kept w e p r Tick = same (lists_of r)
+kept w e p r _ = same (lists_of r)
 
 -- before any record, where an event begins, after a record, and where an event ends
 pub listed-opened : (rules : Rules) (w : WorkloadView) → IsListed (opened rules w)
@@ -187,23 +177,4 @@ pub nothing-changed : (number : ℕ) (p : ProcNo) (x : Record) (m : Seen) → ch
 nothing-changed number p Idle m is = refl
 nothing-changed number p (Spin l) m is = refl
 nothing-changed number p Tick m is = refl
-nothing-changed number p (Ins s t i) m is = cc
-nothing-changed number p (Out s t value) m is = cc
-nothing-changed number p (Run s t) m is = cc
-nothing-changed number p (Stop s t a) m is = cc
-nothing-changed number p (Block s t a io) m is = cc
-nothing-changed number p (Unblock s t a) m is = cc
-nothing-changed number p (Cont s t) m is = cc
-nothing-changed number p (Back s t) m is = cc
-nothing-changed number p (Ready s t) m is = cc
-nothing-changed number p (Take s l t) m is = cc
-nothing-changed number p (Free s l t) m is = cc
-nothing-changed number p (Up s a) m is = cc
-nothing-changed number p (Told note) m is = cc
-nothing-changed number p (Move old new) m is = cc
-nothing-changed number p (Want s n) m is = cc
-nothing-changed number p (Aim q s) m is = cc
-nothing-changed number p (Line q) m is = cc
-nothing-changed number p (Fetch s) m is = cc
-nothing-changed number p (Fetched s) m is = cc
-nothing-changed number p (GiveBack a) m is = cc
+nothing-changed number p _ m is = cc

@@ -35,22 +35,7 @@ in_range w a s t is =
 
 few : (instr : Instr) → IsInRange instr → page_in instr < PAGES
 few (instrs.Touch page) h = let most = h.0.1 in omega arith
-few instrs.Compute h = omega arith
-few (instrs.Set reg n) h = omega arith
-few (instrs.Add reg other) h = omega arith
-few (instrs.Sub reg other) h = omega arith
-few (instrs.Jnz reg place) h = omega arith
-few (instrs.Load reg cell) h = omega arith
-few (instrs.Store reg cell) h = omega arith
-few (instrs.Out reg) h = omega arith
-few (instrs.Fork reg program) h = omega arith
-few (instrs.Join reg) h = omega arith
-few (instrs.Lock mutex) h = omega arith
-few (instrs.Unlock mutex) h = omega arith
-few (instrs.Wait semaphore) h = omega arith
-few (instrs.Signal semaphore) h = omega arith
-few (instrs.Io length) h = omega arith
-few instrs.End h = omega arith
+few _ h = omega arith
 
 pub touches_few : (w : WorkloadView) (r : Readings) (s : SpaceNo) (t : Option ThreadNo) → IsWorkload w → page_touched w r s t < PAGES
 touches_few w r s None is = omega arith

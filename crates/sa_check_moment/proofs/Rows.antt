@@ -212,10 +212,7 @@ counts-at t (x ∷ xs) (suc n) at = let more = counts-at t xs n at in omega (ari
 
 last-less : (t : ThreadNo) (xs : List ThreadNo) (n : ℕ) → length xs ≡ suc n → is_newest t (slice_get xs n) ≡ true → counts t xs ≤ 1
     → take n xs ≡ filter (is_other t) xs
-last-less t [] n size at few = absurd (omega arith)
 last-less t (x ∷ []) zero size at few = sym (ap (λ b. cond (not b) (x ∷ []) []) at)
-last-less t (x ∷ []) (suc n) size at few = absurd (omega arith)
-last-less t (x ∷ y ∷ ys) zero size at few = absurd (omega arith)
 last-less t (x ∷ y ∷ ys) (suc n) size at few =
     let more = counts-at t (y ∷ ys) n at in
     elim (cases_Bool (x.0 == t.0)) [
@@ -225,6 +222,7 @@ last-less t (x ∷ y ∷ ys) (suc n) size at few =
           ap (λ zs. x ∷ zs) (last-less t (y ∷ ys) n (omega arith) at (omega (arith, few)))
           ∙ sym (ap (λ b. cond (not b) (x ∷ filter (is_other t) (y ∷ ys)) (filter (is_other t) (y ∷ ys))) other)
     ]
+last-less t _ _ size at few = absurd (omega arith)
 
 pub without-is : (t : ThreadNo) (xs : List ThreadNo) → counts t xs ≤ 1 → without t xs ≡ filter (is_other t) xs
 without-is t [] few = refl

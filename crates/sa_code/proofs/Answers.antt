@@ -5,7 +5,7 @@ use Rattle.sa_base.specs.declared.number.ProcNo.{ProcNo}
 use Rattle.sa_base.specs.declared.number.ThreadNo.{ThreadNo}
 use Rattle.sa_lists.specs.ReadyView.{ReadyView, list_of, is_locked}
 use Rattle.sa_code.specs.declared.code.Op.{Op}
-use Rattle.sa_code.specs.declared.code.Op.TheVariants.{TakePush, Push, TakePop, Pop, Free, Leave, Yield}
+use Rattle.sa_code.specs.declared.code.Op.TheVariants.{TakePush, Push, TakePop, Pop, Free}
 use Rattle.sa_base.specs.declared.limits.TheConstants.{PACKAGE_PAGE}
 use Rattle.sa_code.specs.declared.state.PackageState.{PackageState}
 use Rattle.sa_code.specs.declared.state.Frame.{Frame}
@@ -19,15 +19,13 @@ chosen-some r false l h = (_, slice_get-get_or (list_of r l) (length (list_of r 
 
 pushed-answer : (s : PackageState) (f : Frame) (held resident : Bool) (l : ProcNo) (t : Option ThreadNo) (x : ThreadNo) → t ≡ Some x
     → (pushed s f resident l t).done ≡ answer_of (Some Push) held resident
-pushed-answer s f held false l t x e = refl
 pushed-answer s f held true l None x e = absurd cc
-pushed-answer s f held true l (Some y) x e = refl
+pushed-answer s f held _ l _ x e = refl
 
 popped-answer : (s : PackageState) (f : Frame) (held resident : Bool) (l : ProcNo) (t : Option ℕ) (x : ℕ) → t ≡ Some x
     → (popped s f resident l t).done ≡ answer_of (Some Pop) held resident
-popped-answer s f held false l t x e = refl
 popped-answer s f held true l None x e = absurd cc
-popped-answer s f held true l (Some y) x e = refl
+popped-answer s f held _ l _ x e = refl
 
 taken-answer : (s : PackageState) (f : Frame) (held resident : Bool) (l : ProcNo)
     → ((taken s f l held).done ≡ answer_of (Some TakePush) held resident) × ((taken s f l held).done ≡ answer_of (Some TakePop) held resident)
@@ -42,10 +40,8 @@ micro_at-answer s f resident (Some TakePop) can = (taken-answer s f (is_locked s
 micro_at-answer s f resident (Some Pop) can =
     let some = chosen-some s.lists (takes_first s.lists f.own) (list_in f).0 can.1.some in
     popped-answer s f (is_locked s.lists (list_in f).0) resident (list_in f) (chosen s.lists (takes_first s.lists f.own) (list_in f).0) some.0 some.1
-micro_at-answer s f resident (Some Free) can = refl
-micro_at-answer s f resident (Some Leave) can = refl
-micro_at-answer s f resident (Some Yield) can = refl
 micro_at-answer s f resident None can = absurd can
+micro_at-answer s f resident _ can = refl
 
 pub micro-answer : (s : PackageState) (f : Frame) (pages : ℕ) → CanDo s f (slice_get s.code f.pc)
     → (micro s f pages).done ≡ answer_of (slice_get s.code f.pc) (is_locked s.lists (list_in f).0) (is_resident pages PACKAGE_PAGE)
@@ -74,10 +70,7 @@ micro_at-goes_on s f resident l (Some TakePush) = taken-goes_on s f l (is_locked
 micro_at-goes_on s f resident l (Some Push) = pushed-goes_on s f resident l f.pushed
 micro_at-goes_on s f resident l (Some TakePop) = taken-goes_on s f l (is_locked s.lists l.0)
 micro_at-goes_on s f resident l (Some Pop) = popped-goes_on s f resident l (chosen s.lists (takes_first s.lists f.own) l.0)
-micro_at-goes_on s f resident l (Some Free) = record { list = refl; own = refl; pc = refl }
-micro_at-goes_on s f resident l (Some Leave) = record { list = refl; own = refl; pc = refl }
-micro_at-goes_on s f resident l (Some Yield) = record { list = refl; own = refl; pc = refl }
-micro_at-goes_on s f resident l None = record { list = refl; own = refl; pc = refl }
+micro_at-goes_on s f resident l _ = record { list = refl; own = refl; pc = refl }
 
 pub micro-goes_on : (s : PackageState) (f : Frame) (pages : ℕ) → MovesOn f (micro s f pages).frame (is_did (micro s f pages).done)
 micro-goes_on s f pages = micro_at-goes_on s f (is_resident pages PACKAGE_PAGE) (list_in f) (slice_get s.code f.pc)
@@ -89,15 +82,13 @@ taken-still s f l false e = absurd cc
 
 pushed-still : (s : PackageState) (f : Frame) (resident : Bool) (l : ProcNo) (t : Option ThreadNo) → is_did (pushed s f resident l t).done ≡ false
     → IsStill s f (pushed s f resident l t)
-pushed-still s f false l t e = record { state = refl; frame = refl }
-pushed-still s f true l None e = record { state = refl; frame = refl }
 pushed-still s f true l (Some t) e = absurd cc
+pushed-still s f _ l _ e = record { state = refl; frame = refl }
 
 popped-still : (s : PackageState) (f : Frame) (resident : Bool) (l : ProcNo) (t : Option ℕ) → is_did (popped s f resident l t).done ≡ false
     → IsStill s f (popped s f resident l t)
-popped-still s f false l t e = record { state = refl; frame = refl }
-popped-still s f true l None e = record { state = refl; frame = refl }
 popped-still s f true l (Some t) e = absurd cc
+popped-still s f _ l _ e = record { state = refl; frame = refl }
 
 micro_at-still : (s : PackageState) (f : Frame) (resident : Bool) (l : ProcNo) (op : Option Op) → is_did (micro_at s f resident l op).done ≡ false
     → IsStill s f (micro_at s f resident l op)
@@ -106,9 +97,7 @@ micro_at-still s f resident l (Some Push) e = pushed-still s f resident l f.push
 micro_at-still s f resident l (Some TakePop) e = taken-still s f l (is_locked s.lists l.0) e
 micro_at-still s f resident l (Some Pop) e = popped-still s f resident l (chosen s.lists (takes_first s.lists f.own) l.0) e
 micro_at-still s f resident l (Some Free) e = absurd cc
-micro_at-still s f resident l (Some Leave) e = record { state = refl; frame = refl }
-micro_at-still s f resident l (Some Yield) e = record { state = refl; frame = refl }
-micro_at-still s f resident l None e = record { state = refl; frame = refl }
+micro_at-still s f resident l _ e = record { state = refl; frame = refl }
 
 pub micro-still : (s : PackageState) (f : Frame) (pages : ℕ) → is_did (micro s f pages).done ≡ false → IsStill s f (micro s f pages)
 micro-still s f pages e = micro_at-still s f (is_resident pages PACKAGE_PAGE) (list_in f) (slice_get s.code f.pc) e

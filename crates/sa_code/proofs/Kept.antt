@@ -1,5 +1,5 @@
 -- What every micro-operation keeps.
-use Rattle.std.proofs.Common.{◌≡◌, ℕ, zero, suc, ◌<◌, ◌≤◌, Bool, true, false, List, length, get_or, replicate, Option, Some, None, slice_get, refl, sym, ◌∙◌, subst, inl, inr, arith}
+use Rattle.std.proofs.Common.{◌≡◌, ℕ, suc, ◌<◌, ◌≤◌, Bool, true, false, List, length, get_or, replicate, Option, Some, None, slice_get, refl, sym, ◌∙◌, subst, inl, inr, arith}
 use Rattle.std.proofs.lemmas.Bool.{cases_eq}
 use Rattle.std.proofs.lemmas.Option.{same_Some}
 use Rattle.sa_base.specs.declared.number.ProcNo.{ProcNo}
@@ -10,7 +10,7 @@ use Rattle.sa_lists.specs.declared.ranks.Ranks.{Ranks}
 use Rattle.sa_lists.specs.ReadyView.{ReadyView, is_locked, with_list, IsUnlisted, IsReady}
 use Rattle.sa_lists.proofs.Changes.{ready-no_threads, ready-pushed, ready-without_newest, ready-without_oldest, ready-with_lock}
 use Rattle.sa_code.specs.declared.code.Op.{Op}
-use Rattle.sa_code.specs.declared.code.Op.TheVariants.{TakePush, Push, TakePop, Pop, Free, Leave, Yield}
+use Rattle.sa_code.specs.declared.code.Op.TheVariants.{TakePush, Push, TakePop, Pop, Free}
 use Rattle.sa_base.specs.declared.limits.TheConstants.{PACKAGE_PAGE}
 use Rattle.sa_code.specs.declared.state.PackageState.{PackageState}
 use Rattle.sa_code.specs.declared.state.Frame.{Frame}
@@ -45,14 +45,13 @@ taken-package s f l false h inside =
 
 pushed-package : (s : PackageState) (f : Frame) (resident : Bool) (l : ProcNo) (t : Option ThreadNo) (x : ThreadNo) → IsPackage s → l.0 < length s.lists.lists
     → t ≡ Some x → x.0 < s.lists.threads → IsUnlisted s.lists x.0 → IsPackage (pushed s f resident l t).state
-pushed-package s f false l t x h inside e below unlisted = h
-pushed-package s f true l None x h inside e below unlisted = h
 pushed-package s f true l (Some y) x h inside e below unlisted =
     let same : y ≡ x = same_Some y x e in
     package-changed s (pushed s f true l (Some y)).state l.0 _ (is_locked s.lists l.0) (holder_of s l.0) h (pushed-changes_only s f true l (Some y))
     (ready-pushed s.lists l.0 y.0 h.ready inside (subst (λ (z : ThreadNo). z.0 < s.lists.threads) (sym same) below)
     (subst (λ (z : ThreadNo). IsUnlisted s.lists z.0) (sym same) unlisted))
     (pushed-list s f l y inside) (h.free l.0)
+pushed-package s f _ l _ x h inside e below unlisted = h
 
 without_chosen-ready : (r : ReadyView) (own : Bool) (l : ℕ) → IsReady r → l < length r.lists → IsReady (with_list r l (without_chosen r own l))
 without_chosen-ready r true l h inside = ready-without_newest r l h inside
@@ -60,12 +59,11 @@ without_chosen-ready r false l h inside = ready-without_oldest r l h inside
 
 popped-package : (s : PackageState) (f : Frame) (resident : Bool) (l : ProcNo) (t : Option ℕ) → IsPackage s → l.0 < length s.lists.lists
     → is_locked s.lists l.0 ≡ true → IsPackage (popped s f resident l t).state
-popped-package s f false l t h inside locked = h
-popped-package s f true l None h inside locked = h
 popped-package s f true l (Some t) h inside locked =
     package-changed s (popped s f true l (Some t)).state l.0 _ (is_locked s.lists l.0) _ h (popped-changes_only s f true l (Some t))
     (without_chosen-ready s.lists (takes_first s.lists f.own) l.0 h.ready inside)
     (popped-list s f l t inside (has_holder s l.0 h inside)) (λ e. absurd cc)
+popped-package s f _ l _ h inside locked = h
 
 freed-package : (s : PackageState) (f : Frame) (l : ProcNo) → IsPackage s → l.0 < length s.lists.lists → IsPackage (freed s f l).state
 freed-package s f l h inside =
@@ -81,17 +79,14 @@ micro_at-package s f resident (Some TakePop) h can = taken-package s f (list_in 
 micro_at-package s f resident (Some Pop) h can =
     popped-package s f resident (list_in f) (chosen s.lists (takes_first s.lists f.own) (list_in f).0) h can.0.list.inside can.0.locked
 micro_at-package s f resident (Some Free) h can = freed-package s f (list_in f) h can.list.inside
-micro_at-package s f resident (Some Leave) h can = h
-micro_at-package s f resident (Some Yield) h can = h
-micro_at-package s f resident None h can = h
+micro_at-package s f resident _ h can = h
 
 pub micro-package : (s : PackageState) (f : Frame) (pages : ℕ) → IsPackage s → CanDo s f (slice_get s.code f.pc) → IsPackage (micro s f pages).state
 micro-package s f pages h can = micro_at-package s f (is_resident pages PACKAGE_PAGE) (slice_get s.code f.pc) h can
 
 no_holder : (n l : ℕ) → get_or (replicate n (let none : Option ThreadNo = None in none)) l None ≡ None
-no_holder zero l = refl
-no_holder (suc n) zero = refl
 no_holder (suc n) (suc l) = no_holder n l
+no_holder _ _ = refl
 
 -- new package states
 pub begun-package : (space : SpaceNo) (code : List Op) (lists : ℕ) (ranks : Ranks) (threads : ℕ) → lists ≤ MAX_PROCESSORS → threads ≤ MAX_THREADS

@@ -6,7 +6,7 @@ use Rattle.sa_base.specs.declared.number.ThreadNo.{ThreadNo}
 use Rattle.sa_lists.specs.ReadyView.{thread, list_of, is_locked, inserted}
 use Rattle.sa_lists.proofs.Changes.{list_of-with_list_same, list_of-with_list_other, is_locked-with_lock_same, is_locked-with_lock_other}
 use Rattle.sa_code.specs.declared.code.Op.{Op}
-use Rattle.sa_code.specs.declared.code.Op.TheVariants.{TakePush, Push, TakePop, Pop, Free, Leave, Yield}
+use Rattle.sa_code.specs.declared.code.Op.TheVariants.{TakePush, Push, TakePop, Pop, Free}
 use Rattle.sa_base.specs.declared.limits.TheConstants.{PACKAGE_PAGE}
 use Rattle.sa_code.specs.declared.state.PackageState.{PackageState}
 use Rattle.sa_code.specs.declared.state.Frame.{Frame}
@@ -43,8 +43,6 @@ taken-changes_only s f l false = record {
 
 pub pushed-changes_only : (s : PackageState) (f : Frame) (resident : Bool) (l : ProcNo) (t : Option ThreadNo)
     → ChangesOnly l.0 s (pushed s f resident l t).state
-pushed-changes_only s f false l t = changes_only-refl l.0 s
-pushed-changes_only s f true l None = changes_only-refl l.0 s
 pushed-changes_only s f true l (Some t) = record {
   others = λ m ne. record { threads = list_of-with_list_other s.lists l.0 m (inserted s.lists.ranks t.0 (list_of s.lists l.0)) ne; lock = refl; holder = refl };
   lists = length-set s.lists.lists l.0 (inserted s.lists.ranks t.0 (list_of s.lists l.0));
@@ -55,10 +53,9 @@ pushed-changes_only s f true l (Some t) = record {
   space = refl;
   code = refl;
 }
+pushed-changes_only s f _ l _ = changes_only-refl l.0 s
 
 pub popped-changes_only : (s : PackageState) (f : Frame) (resident : Bool) (l : ProcNo) (t : Option ℕ) → ChangesOnly l.0 s (popped s f resident l t).state
-popped-changes_only s f false l t = changes_only-refl l.0 s
-popped-changes_only s f true l None = changes_only-refl l.0 s
 popped-changes_only s f true l (Some t) =
     let left = without_chosen s.lists (takes_first s.lists f.own) l.0 in
     record {
@@ -76,6 +73,7 @@ popped-changes_only s f true l (Some t) =
       space = refl;
       code = refl;
     }
+popped-changes_only s f _ l _ = changes_only-refl l.0 s
 
 pub freed-changes_only : (s : PackageState) (f : Frame) (l : ProcNo) → ChangesOnly l.0 s (freed s f l).state
 freed-changes_only s f l = record {
@@ -96,9 +94,7 @@ micro_at-changes_only s f resident l (Some Push) = pushed-changes_only s f resid
 micro_at-changes_only s f resident l (Some TakePop) = taken-changes_only s f l (is_locked s.lists l.0)
 micro_at-changes_only s f resident l (Some Pop) = popped-changes_only s f resident l (chosen s.lists (takes_first s.lists f.own) l.0)
 micro_at-changes_only s f resident l (Some Free) = freed-changes_only s f l
-micro_at-changes_only s f resident l (Some Leave) = changes_only-refl l.0 s
-micro_at-changes_only s f resident l (Some Yield) = changes_only-refl l.0 s
-micro_at-changes_only s f resident l None = changes_only-refl l.0 s
+micro_at-changes_only s f resident l _ = changes_only-refl l.0 s
 
 pub micro-changes_only : (s : PackageState) (f : Frame) (pages : ℕ) → ChangesOnly (list_in f).0 s (micro s f pages).state
 micro-changes_only s f pages = micro_at-changes_only s f (is_resident pages PACKAGE_PAGE) (list_in f) (slice_get s.code f.pc)

@@ -6,7 +6,7 @@ use Rattle.std.proofs.lemmas.Option.{none-some, same_Some, slice_get_within}
 use Rattle.sa_spaces.specs.Workload.{WorkloadView}
 use Rattle.sa_base.specs.declared.record.Item.{Item}
 use Rattle.sa_laws.specs.declared.rule.Rule.{Rule}
-use Rattle.sa_laws.specs.declared.rule.Rule.TheVariants.{Numbered, Stepwise, ToldOnce, ToldInTime, WhereOwned, AllTold, UpcallGiven, InterruptNext, LineCause, WantCause, SharesCovered, DemandAnnounced, TurnsTaken, LocksKept, OrderKept, EndTold}
+use Rattle.sa_laws.specs.declared.rule.Rule.TheVariants.{Numbered}
 use Rattle.sa_laws.specs.Event.{Event, events_of}
 use Rattle.sa_laws.specs.Readings.{Readings}
 use Rattle.sa_laws.specs.Ends.{LastLine}
@@ -15,21 +15,7 @@ use Rattle.sa_laws.specs.Legal.{before, BreaksAt, FirstBreak, FirstBreakIn, IsRi
 
 at-place : (rule : Rule) → slice_get rules (rule_place rule) ≡ Some rule
 at-place Numbered = refl
-at-place Stepwise = refl
-at-place ToldOnce = refl
-at-place ToldInTime = refl
-at-place WhereOwned = refl
-at-place AllTold = refl
-at-place UpcallGiven = refl
-at-place InterruptNext = refl
-at-place LineCause = refl
-at-place WantCause = refl
-at-place SharesCovered = refl
-at-place DemandAnnounced = refl
-at-place TurnsTaken = refl
-at-place LocksKept = refl
-at-place OrderKept = refl
-at-place EndTold = refl
+at-place _ = refl
 
 -- one of rules that all hold
 holds-one : (u : UserRules) (w : WorkloadView) (list : List Rule) (r : Readings) (e : Event) (last : Option LastLine) (k : ℕ) (rule : Rule)

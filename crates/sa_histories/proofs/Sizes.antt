@@ -70,10 +70,8 @@ ready-length p r x = refl
 pub taken-length : (r : Readings) (x : Record) → length (taken_after r x) ≡ length r.taken
 taken-length r (Told (note.Preempted a)) = with-length r.taken (space_of_life r (Some a)) a
 taken-length r (Told (note.Unblocked a)) = with-length r.taken (space_of_life r (Some a)) a
-taken-length r (Told (note.Add q)) = refl
-taken-length r (Told (note.Blocked a)) = refl
 taken-length r (GiveBack a) = without-length r.taken (space_of_life r (Some a)) a
-taken-length r x = refl
+taken-length r _ = refl
 
 -- the resident pages
 over-length : (pages : List ℕ) (o : Option Io) → length (with_page pages o) ≡ length pages

@@ -95,12 +95,10 @@ module _ {C : Type 0} where
 
   pub sizes-stopped : (e : ℕ) (p : ProcNo) (o : Option SpaceNo) (l : Option ActNo) (held : Option (Stopped C)) (x : Scene C)
       → sizes_of (stopped e p o l held x).state ≡ sizes_of x.state
-  sizes-stopped e p None l held x = refl
-  sizes-stopped e p (Some s) None held x = refl
-  sizes-stopped e p (Some s) (Some a) None x = refl
   sizes-stopped e p (Some s) (Some a) (Some h) x =
       let noted = untold_of x.state s.0 ++ Preempted a ∷ [] in
       λ i. record (sizes_of x.state) { lives = length-set x.state.lives p.0 None i; untold = length-set x.state.untold s.0 noted i }
+  sizes-stopped e p _ _ _ x = refl
 
   pub sizes-begun : (e : ℕ) (p : ProcNo) (s : SpaceNo) (a : ActNo) (held : Stopped C) (len : ℕ) (page : Option ℕ) (x : Scene C)
       → sizes_of (block_begun e p s a held len page x).state ≡ sizes_of x.state

@@ -84,10 +84,8 @@ module _ {C : Type 0} where
 
   unused-stopped : (e : ℕ) (p : ProcNo) (o : Option SpaceNo) (l : Option ActNo) (held : Option (Stopped C)) (x : Scene C) (n : ℕ)
       → (stopped e p o l held x).state.acts n ≡ None → x.state.acts n ≡ None
-  unused-stopped e p None l held x n none = none
-  unused-stopped e p (Some s) None held x n none = none
-  unused-stopped e p (Some s) (Some a) None x n none = none
   unused-stopped e p (Some s) (Some a) (Some h) x n none = unused-held x.state.acts a.0 n h none
+  unused-stopped e p _ _ _ x n none = none
 
   upcalls-same : (k m : KernelState C) (aim : Option SpaceNo) → k.pages ≡ m.pages → upcalls_for k aim ≡ upcalls_for m aim
   upcalls-same k m None same = refl
@@ -177,10 +175,8 @@ count-noted untold s note = elim (cases_lt s (length untold)) [
 module _ {C : Type 0} where
   pub count-stopped : (e : ℕ) (p : ProcNo) (o : Option SpaceNo) (l : Option ActNo) (held : Option (Stopped C)) (x : Scene C)
       → untold_count (stopped e p o l held x).state ≤ untold_count x.state + 1
-  count-stopped e p None l held x = omega arith
-  count-stopped e p (Some s) None held x = omega arith
-  count-stopped e p (Some s) (Some a) None x = omega arith
   count-stopped e p (Some s) (Some a) (Some h) x = count-noted x.state.untold s.0 (Preempted a)
+  count-stopped e p _ _ _ x = omega arith
 
   -- what a block leaves to be told of a space
   pub few-begun : (e : ℕ) (p : ProcNo) (s : SpaceNo) (a : ActNo) (held : Stopped C) (len : ℕ) (page : Option ℕ) (old mid : Scene C)

@@ -5,7 +5,7 @@ use Rattle.sa_base.specs.declared.limits.TheConstants.{MAX_SPACES}
 use Rattle.sa_base.specs.declared.number.SpaceNo.{SpaceNo}
 use Rattle.sa_base.specs.declared.number.ActNo.{ActNo}
 use Rattle.sa_base.specs.declared.record.Note.{Note}
-use Rattle.sa_base.specs.declared.record.Note.TheVariants.{Add, Preempted, Blocked, Unblocked}
+use Rattle.sa_base.specs.declared.record.Note.TheVariants.{Preempted, Unblocked}
 use Rattle.sa_base.specs.declared.context.Stopped.{Stopped}
 use Rattle.sa_acts.specs.Table.{held_of}
 use Rattle.sa_kernel.specs.declared.parts.Parts.{Parts}
@@ -27,11 +27,9 @@ module _ {C : Type 0} where
   low-handed (Some held) a k lows is = is
 
   low-after_fetch : (notes : List Note) (k : KernelState C) (lows : List ℕ) → AreLow k lows → AreLow (after_fetch notes k) lows
-  low-after_fetch [] k lows is = is
-  low-after_fetch (Add p ∷ notes) k lows is = is
-  low-after_fetch (Blocked a ∷ notes) k lows is = is
   low-after_fetch (Preempted a ∷ notes) k lows is = low-handed (held_of (k.acts a.0)) a (record k { telling = notes }) lows is
   low-after_fetch (Unblocked a ∷ notes) k lows is = low-handed (held_of (k.acts a.0)) a (record k { telling = notes }) lows is
+  low-after_fetch _ k lows is = is
 
   pub low-fetch : (m new : Parts C) (lows : List ℕ) → state_of new ≡ after_fetch (state_of m).telling (state_of m) → AreLow (state_of m) lows
       → AreLow (state_of new) lows

@@ -11,7 +11,7 @@ use Rattle.sa_base.specs.declared.number.SpaceNo.{SpaceNo}
 use Rattle.sa_base.specs.declared.number.ActNo.{ActNo}
 use Rattle.sa_base.specs.declared.context.Stopped.{Stopped}
 use Rattle.sa_base.specs.declared.record.Note.{Note}
-use Rattle.sa_base.specs.declared.record.Note.TheVariants.{Add, Preempted, Blocked, Unblocked}
+use Rattle.sa_base.specs.declared.record.Note.TheVariants.{Add, Preempted, Unblocked}
 use Rattle.sa_lemmas.proofs.FunctionUpdates.{put-other}
 use Rattle.sa_acts.specs.declared.acts.Act.{Act}
 use Rattle.sa_acts.specs.Table.{held_of, taken_from}
@@ -146,10 +146,9 @@ module _ {C : Type 0} where
 
   held_for-same : (k m : KernelState C) (a : ℕ) (note : Note) → ((n : ℕ) → n ≢ a → m.acts n ≡ k.acts n) → note_claim a note ≡ 0
       → answer_in m note ≡ answer_in k note
-  held_for-same k m a (Add p) same none = refl
-  held_for-same k m a (Blocked b) same none = refl
   held_for-same k m a (Preempted b) same none = ap (λ x. Some (Preempted b, held_of x)) (same b.0 (apart-from a b none))
   held_for-same k m a (Unblocked b) same none = ap (λ x. Some (Unblocked b, held_of x)) (same b.0 (apart-from a b none))
+  held_for-same k m a _ same none = refl
 
   answers-same : (k m : KernelState C) (a : ℕ) (notes : List Note) → ((n : ℕ) → n ≢ a → m.acts n ≡ k.acts n) → sum_by (note_claim a) notes ≡ 0
       → map (answer_in m) notes ≡ map (answer_in k) notes
@@ -167,9 +166,7 @@ module _ {C : Type 0} where
 
   same-answer : (k : KernelState C) (notes : List Note) (note : Note) → answer_in (record k { telling = notes }) note ≡ answer_in k note
   same-answer k notes (Add p) = refl
-  same-answer k notes (Blocked a) = refl
-  same-answer k notes (Preempted a) = refl
-  same-answer k notes (Unblocked a) = refl
+  same-answer k notes _ = refl
 
   -- after a notice that hands a context over, the others answer what they did
   behind : (k : KernelState C) (t : ℕ) (note : Note) (a : ActNo) (notes : List Note) → note ∷ notes ≡ k.telling → note_claim a.0 note ≡ bit_of (eqb a.0 a.0)
@@ -185,12 +182,11 @@ module _ {C : Type 0} where
 
   after-one : (k : KernelState C) (t : ℕ) (note : Note) (notes : List Note) → note ∷ notes ≡ k.telling → AreClaimed k t
       → (map (answer_in (after_fetch (note ∷ notes) k)) notes ≡ map (answer_in k) notes) × ((after_fetch (note ∷ notes) k).telling ≡ notes)
-  after-one k t (Add p) notes is claimed = (answers-kept k (record k { telling = notes }) notes (same-answer k notes), refl)
-  after-one k t (Blocked a) notes is claimed = (answers-kept k (record k { telling = notes }) notes (same-answer k notes), refl)
   after-one k t (Preempted a) notes is claimed =
       (behind k t (Preempted a) a notes is refl claimed, telling-handed (held_of (k.acts a.0)) a (record k { telling = notes }))
   after-one k t (Unblocked a) notes is claimed =
       (behind k t (Unblocked a) a notes is refl claimed, telling-handed (held_of (k.acts a.0)) a (record k { telling = notes }))
+  after-one k t _ notes is claimed = (answers-kept k (record k { telling = notes }) notes (same-answer k notes), refl)
 
   handed-out : (notes : List Note) (k : KernelState C) (t : ℕ) → notes ≡ k.telling → AreClaimed k t → answers (length notes) k ≡ map (answer_in k) notes
   handed-out [] k t is claimed = refl

@@ -3,20 +3,6 @@
 -- those on folds over `++` in its `Sums` and `Folds`.
 use Rattle.std.proofs.Common.{◌≡◌, ◌≢◌, ℕ, zero, suc, ◌<◌, Some, List, [], ◌∷◌, ◌++◌, length, slice_get, slice_set, ◌⊎◌, inl, inr, refl, ap, arith}
 
--- at the place itself, within the list
-pub slice_get-set_same : {A : Type 0} (xs : List A) (i : ℕ) (x : A) → i < length xs → slice_get (slice_set xs i x) i ≡ Some x
-slice_get-set_same [] i x within = absurd (omega arith)
-slice_get-set_same (y ∷ xs) zero x within = refl
-slice_get-set_same (y ∷ xs) (suc i) x within = slice_get-set_same xs i x (omega arith)
-
--- at another place
-pub slice_get-set_other : {A : Type 0} (xs : List A) (i j : ℕ) (x : A) → j ≢ i → slice_get (slice_set xs i x) j ≡ slice_get xs j
-slice_get-set_other [] i j x apart = refl
-slice_get-set_other (y ∷ xs) zero zero x apart = absurd (apart refl)
-slice_get-set_other (y ∷ xs) zero (suc j) x apart = refl
-slice_get-set_other (y ∷ xs) (suc i) zero x apart = refl
-slice_get-set_other (y ∷ xs) (suc i) (suc j) x apart = slice_get-set_other xs i j x (λ e. apart (ap suc e))
-
 -- an item after an update is the new one or an old one
 pub slice_get-set_cases : {A : Type 0} (xs : List A) (i j : ℕ) (x y : A) → slice_get (slice_set xs i x) j ≡ Some y
     → ((j ≡ i) × (y ≡ x)) ⊎ ((j ≢ i) × (slice_get xs j ≡ Some y))
@@ -28,12 +14,6 @@ slice_get-set_cases (z ∷ xs) (suc i) (suc j) x y is = elim (slice_get-set_case
   | inl at ↦ inl (ap suc at.0, at.1)
   | inr other ↦ inr ((λ e. other.0 cc), other.1)
 ]
-
--- an item put in at its own place changes nothing
-pub set-slice_get : {A : Type 0} (xs : List A) (i : ℕ) (x : A) → slice_get xs i ≡ Some x → slice_set xs i x ≡ xs
-set-slice_get [] i x is = refl
-set-slice_get (y ∷ xs) zero x is = cc
-set-slice_get (y ∷ xs) (suc i) x is = ap (λ rest. y ∷ rest) (set-slice_get xs i x is)
 
 -- the items of a list keep their places where others come after them
 pub slice_get-append_left : {A : Type 0} (xs ys : List A) (i : ℕ) → i < length xs → slice_get (xs ++ ys) i ≡ slice_get xs i

@@ -5,7 +5,7 @@ use Rattle.sa_base.specs.declared.limits.TheConstants.{MAX_EVENTS}
 use Rattle.sa_base.specs.declared.context.Seen.{Seen}
 use Rattle.sa_base.specs.declared.context.Stopped.{Stopped}
 use Rattle.sa_base.specs.declared.record.Note.{Note}
-use Rattle.sa_base.specs.declared.record.Note.TheVariants.{Add, Preempted, Blocked, Unblocked}
+use Rattle.sa_base.specs.declared.record.Note.TheVariants.{Preempted, Unblocked}
 use Rattle.sa_abstract.specs.Setting.{Setting}
 use Rattle.sa_abstract.specs.Calls.{Contexts}
 use Rattle.sa_abstract.specs.Keeps.{IsSeen, IsHandedOver, IsHanded, StaysLocal}
@@ -85,7 +85,6 @@ module _ (s : Setting) (e : ℕ) (u : Package) (cs : Contexts Context) (h : IsSt
       (take_over_can s e u cs h a b c handed.stopped.ctx is handed.theirs handed.differ)
 
   pub told_can : (note : Note) (held : Option (Stopped Context)) → IsHanded cs a note held → CanBeTold u c note held
-  told_can (Add p) held handed = tt
-  told_can (Blocked b) held handed = tt
   told_can (Preempted b) held handed = handed_can b.0 held handed
   told_can (Unblocked b) held handed = handed_can b.0 held handed
+  told_can _ held handed = tt

@@ -12,7 +12,7 @@ use Rattle.sa_spaces.specs.Space.{SpaceView, IsSpace}
 use Rattle.sa_instr.specs.Program.{IsProgram}
 use Rattle.sa_instr.specs.declared.instr.Reg.{Reg}
 use Rattle.sa_instr.specs.declared.instr.Instr.{Instr}
-use Rattle.sa_instr.specs.declared.instr.Instr.TheVariants.{Compute, Set, Add, Sub, Jnz, Load, Store, Out, Fork, Join, Lock, Unlock, Wait, Signal, Io, Touch, End}
+use Rattle.sa_instr.specs.declared.instr.Instr.TheVariants.{Fork, Join, Lock, Unlock, Wait, Signal, Io, Touch, End}
 use Rattle.sa_abstract.specs.Setting.{Setting}
 use Rattle.sa_abstract.specs.Walk.{program_at}
 use Rattle.sa_abstract.specs.Keeps.{IsAsked}
@@ -27,7 +27,7 @@ use Rattle.sa_code.specs.Micro.{Micro, micro, is_resident}
 use Rattle.sa_fast.specs.declared.threads.Block.{Block}
 use Rattle.sa_fast.specs.declared.shared.Shared.{Shared}
 use Rattle.sa_fast.specs.declared.instruction.Ran.{Ran}
-use Rattle.sa_fast.specs.declared.instruction.Ran.TheVariants.{Goes, Leaves, Blocks}
+use Rattle.sa_fast.specs.declared.instruction.Ran.TheVariants.{Goes, Blocks}
 use Rattle.sa_fast.specs.Hints.{usable, more_owed, idle_owed}
 use Rattle.sa_fast.specs.Threads.{block_at}
 use Rattle.sa_fast.specs.Instruction.{told_by, forked, touched, outcome_of, instr_of, IsAt}
@@ -64,8 +64,7 @@ CanBlock _ = Unit {0}
 
 told_blocks : (x : Shared) (w : Option ThreadNo) (t : ThreadNo) (b : Block) (a : SyncAnswer) → CanBlock (told_by x w t b a).answer
 told_blocks x w t b answer.Goes = tt
-told_blocks x w t b answer.Waits = tt
-told_blocks x w t b (answer.Wakes u) = tt
+told_blocks x w t b _ = tt
 
 forked_blocks : (x : Shared) (w : Option ThreadNo) (t : ThreadNo) (b : Block) (reg : Reg) (program : ℕ) (made : Option ℕ)
     → CanBlock (forked x w t b reg program made).answer
@@ -79,14 +78,6 @@ touched_blocks x w t b fetch page false some few first last = (some, omega arith
 
 blocks : (fetch pages : ℕ) (x : Shared) (w : Option ThreadNo) (t : ThreadNo) (b : Block) (i : Instr) → 1 ≤ fetch → fetch ≤ MAX_FETCH → IsInRange i
     → CanBlock (outcome_of fetch pages x w t b i).answer
-blocks fetch pages x w t b Compute some few range = tt
-blocks fetch pages x w t b (Set reg n) some few range = tt
-blocks fetch pages x w t b (Add reg other) some few range = tt
-blocks fetch pages x w t b (Sub reg other) some few range = tt
-blocks fetch pages x w t b (Jnz reg place) some few range = tt
-blocks fetch pages x w t b (Load reg cell) some few range = tt
-blocks fetch pages x w t b (Store reg cell) some few range = tt
-blocks fetch pages x w t b (Out reg) some few range = tt
 blocks fetch pages x w t b (Fork reg program) some few range = forked_blocks x w t b reg program (next_made x.state.lists)
 blocks fetch pages x w t b (Join reg) some few range = told_blocks _ w t _ _
 blocks fetch pages x w t b (Lock m) some few range = told_blocks _ w t _ _
@@ -95,7 +86,7 @@ blocks fetch pages x w t b (Wait k) some few range = told_blocks _ w t _ _
 blocks fetch pages x w t b (Signal k) some few range = told_blocks _ w t _ _
 blocks fetch pages x w t b (Io length) some few range = (range.0.0, range.0.1, tt)
 blocks fetch pages x w t b (Touch page) some few range = touched_blocks x w t b fetch page (is_resident pages page) some few range.0.0 range.0.1
-blocks fetch pages x w t b End some few range = tt
+blocks fetch pages x w t b _ some few range = tt
 
 -- an instruction of a space is in its range
 in_range : (def : SpaceView) (b : Block) → IsSpace def → IsAt def b → IsInRange (instr_of def b)
@@ -112,40 +103,29 @@ module _ (s : Setting) (u : Package) (seen : Seen) (made : IsMadeFor s u) where
   few_fetch = subst (λ n. n ≤ MAX_FETCH) (sym made.fetch) made.setting.short_fetch
 
   coded_asks : (c : Context) (f : Frame) (op : Option Op) (m : Micro) (done : MicroDone) → IsAsked s seen (coded_by u seen c f op m done).answer
-  coded_asks c f op m micros.Did = tt
-  coded_asks c f op m micros.Spun = tt
   coded_asks c f op m micros.Faulted = let some = some_fetch in let few = few_fetch in (some, omega arith, (omega arith, omega arith))
-  coded_asks c f op m micros.Left = tt
-  coded_asks c f op m micros.Yielded = tt
+  coded_asks c f op m _ = tt
 
   pushing_asks : (c : Context) (first : ThreadNo) (m : Micro) (done : MicroDone) → IsAsked s seen (pushing_by u c first m done).answer
   pushing_asks c first m micros.Did = tt
-  pushing_asks c first m micros.Spun = tt
-  pushing_asks c first m micros.Faulted = tt
-  pushing_asks c first m micros.Left = tt
-  pushing_asks c first m micros.Yielded = tt
+  pushing_asks c first m _ = tt
 
   popping_asks : (c : Context) (m : Micro) (done : MicroDone) → IsAsked s seen (popping_by u c m done).answer
   popping_asks c m micros.Did = tt
-  popping_asks c m micros.Spun = tt
-  popping_asks c m micros.Faulted = tt
-  popping_asks c m micros.Left = tt
-  popping_asks c m micros.Yielded = tt
+  popping_asks c m _ = tt
 
   worked_asks : (c : Context) (f : Option Frame) (first : Option ThreadNo) → IsAsked s seen (worked u seen c f first).answer
-  worked_asks c (Some f) first = tt
   worked_asks c None (Some first) = let m = micro u.shared.state (push_of seen.proc (own_list u seen.proc) first (carried_by c.state)) seen.pages in
       pushing_asks c first m m.done
-  worked_asks c None None = tt
+  worked_asks c _ _ = tt
 
   hinted_asks : (c : Context) (more : Option ℕ) → owed u seen ≡ more → IsAsked s seen (hinted u c more).answer
   hinted_asks c (Some n) e = let fits = owed_fits seen.demand u.processors (load u) n e in (fits.0, subst (λ p. seen.demand + n ≤ p) made.processors fits.1)
   hinted_asks c None e = tt
 
   used_asks : (v : Package) (c : Context) (t : ThreadNo) (a : Ran) (says : List Record) → CanBlock a → IsAsked s seen (used_by v seen c t a says).answer
-  used_asks v c t Goes says h = tt
-  used_asks v c t Leaves says h = tt
   used_asks v c t (Blocks length page) says h = h
+  used_asks v c t _ says h = tt
 
   looked_asks : (c : Context) (looks : ℕ) (idle : Bool) (l : Option ℕ) → is_idle u seen looks ≡ idle → IsAsked s seen (looked_by u seen c looks idle l).answer
   looked_asks c looks idle (Some l) e = let m = micro u.shared.state (pop_of seen.proc l) seen.pages in popping_asks c m m.done
@@ -173,12 +153,9 @@ module _ (s : Setting) (u : Package) (seen : Seen) (made : IsMadeFor s u) where
   bulk_bulk c false e h = settled_bulk None (is_left c) (is_some (owed u seen)) (has_bulk seen) refl
 
   resettled_bulk : (c : Context) (state : ContextState) → c.state ≡ state → IsBulk (resettled u seen c state).state
-  resettled_bulk c (Code f) e = subst IsBulk (sym e) tt
-  resettled_bulk c (Work t) e = subst IsBulk (sym e) tt
   resettled_bulk c (Hint t) e = owed_bulk c t (owed u seen) (subst IsBulk (sym e) tt)
   resettled_bulk c Return e = bulk_bulk c (has_bulk seen) refl (λ many. subst IsBulk (sym e) many)
-  resettled_bulk c (User t) e = subst IsBulk (sym e) tt
-  resettled_bulk c (Look looks) e = subst IsBulk (sym e) tt
+  resettled_bulk c _ e = subst IsBulk (sym e) tt
 
   asks_at : (c : Context) (state : ContextState) → IsBulk state → CanAct u c state → IsAsked s seen (stepped_at u seen c state).answer
   asks_at c (Code f) bulk act = let m = micro u.shared.state f seen.pages in coded_asks c f (slice_get u.shared.state.code f.pc) m m.done

@@ -1,5 +1,5 @@
 -- All stands at the opening, stays so at later events, with a fresh context, and where a context settles.
-use Rattle.std.proofs.Common.{◌≡◌, ◌≢◌, ℕ, zero, suc, ◌+◌, ◌≤◌, Bool, true, false, cond, List, [], length, map, set, replicate, get_or, Some, None, refl, sym, ap, ◌∙◌, subst, inl, inr, arith}
+use Rattle.std.proofs.Common.{◌≡◌, ◌≢◌, ℕ, suc, ◌+◌, ◌≤◌, Bool, true, false, cond, List, [], length, map, set, replicate, get_or, Some, None, refl, sym, ap, ◌∙◌, subst, inl, inr, arith}
 use Rattle.std.specs.Prelude.{All}
 use Rattle.std.proofs.lemmas.Bool.{cases_eq, cases_lt}
 use Rattle.std.proofs.lemmas.Bool.Decides.{nat_tests}
@@ -36,7 +36,7 @@ use Rattle.sa_fast.proofs.SyncSteps.{holds-set}
 use Rattle.sa_fast.proofs.RunSteps.{unmade_above}
 use Rattle.sa_package_model.specs.declared.context.Context.{Context}
 use Rattle.sa_package_model.specs.declared.context.ContextState.{ContextState}
-use Rattle.sa_package_model.specs.declared.context.ContextState.TheVariants.{Code, Work, Hint, Return, User, Look}
+use Rattle.sa_package_model.specs.declared.context.ContextState.TheVariants.{Code, Look}
 use Rattle.sa_package_model.specs.declared.package.Package.{Package}
 use Rattle.sa_package_model.specs.Context.{fresh, carried_by, section_in, stands_between}
 use Rattle.sa_package_model.specs.Rules.{settled}
@@ -49,14 +49,12 @@ use Rattle.sa_package_model.proofs.WorkRule.{settled-change}
 
 -- THE OPENING
 all_false : (n i : ℕ) → get_or (replicate n false) i false ≡ false
-all_false zero i = refl
-all_false (suc n) zero = refl
 all_false (suc n) (suc i) = all_false n i
+all_false _ _ = refl
 
 all_unmade : (n t : ℕ) → block_at (replicate n unmade) t ≡ unmade
-all_unmade zero t = refl
-all_unmade (suc n) zero = refl
 all_unmade (suc n) (suc t) = all_unmade n t
+all_unmade _ _ = refl
 
 -- there are some lists, and as many as there may be
 some_lists : (ranks : Ranks) (processors : ℕ) → 1 ≤ processors → 1 ≤ lists_for ranks processors
@@ -257,11 +255,8 @@ module _ (s : Setting) (e : ℕ) (u : Package) (cs : Contexts Context) (h : IsSt
 
   answered-by : (state : ContextState) → c.state ≡ state → IsChange s e u u (Some c) (cond (stands_between state) (settled u seen c (carried_by c.state)) c)
   answered-by (Code f) at = still-change s e u cs h a c is
-  answered-by (Work t) at = settles (ap section_in at)
-  answered-by (Hint t) at = settles (ap section_in at)
-  answered-by Return at = settles (ap section_in at)
-  answered-by (User t) at = settles (ap section_in at)
   answered-by (Look looks) at = still-change s e u cs h a c is
+  answered-by _ at = settles (ap section_in at)
 
   pub answers : IsStanding s e (answered u seen c).0 (put cs a (Some (answered u seen c).1))
   answers = change-stands s e u cs h e a u (Some c) (answered u seen c).1 is (answered-by c.state refl)

@@ -10,7 +10,7 @@ use Rattle.sa_links.specs.Lists.{list_at, count_in}
 use Rattle.sa_lists.specs.ReadyView.{ReadyView, list_of}
 use Rattle.sa_base.specs.declared.number.ThreadNo.{ThreadNo}
 use Rattle.sa_code.specs.declared.code.Op.{Op}
-use Rattle.sa_code.specs.declared.code.Op.TheVariants.{TakePush, Push, TakePop, Pop, Free, Leave, Yield}
+use Rattle.sa_code.specs.declared.code.Op.TheVariants.{Push, Pop, Free}
 use Rattle.sa_code.specs.declared.state.Frame.{Frame}
 use Rattle.sa_code.specs.Micro.{list_in}
 use Rattle.sa_copies.specs.Copies.{package_ops}
@@ -28,14 +28,10 @@ use Rattle.sa_package_model.proofs.OnePlace.{moves, joins}
 
 -- sections stay sections where their lists stay
 fits_kept : (r s : ReadyView) (f : Frame) (op : Option Op) → list_of s (list_in f).0 ≡ list_of r (list_in f).0 → FitsOperation r f op → FitsOperation s f op
-fits_kept r s f None same h = absurd h
-fits_kept r s f (Some TakePush) same h = absurd h
 fits_kept r s f (Some Push) same h = h
-fits_kept r s f (Some TakePop) same h = absurd h
 fits_kept r s f (Some Pop) same h = (h.0, h.1, h.2, subst (λ (xs : List ℕ). 0 < length xs) (sym same) h.3)
 fits_kept r s f (Some Free) same h = h
-fits_kept r s f (Some Leave) same h = absurd h
-fits_kept r s f (Some Yield) same h = absurd h
+fits_kept r s f _ same h = absurd h
 
 pub sections_kept : (r s : ReadyView) (fs : List Frame) → ((l : ℕ) → 1 ≤ locks_in fs l → list_of s l ≡ list_of r l) → AreSections r fs → AreSections s fs
 sections_kept r s [] same h = tt

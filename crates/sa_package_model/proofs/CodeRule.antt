@@ -43,14 +43,11 @@ use Rattle.sa_package_model.proofs.Parts.{parts_placed, parts_state, parts_works
 
 -- where a context is in the code
 place_cases : (f : Frame) (op : Option Op) → StandsAt f op → (is_section_op op ≡ true) ⊎ ((op ≡ Some Yield) × (f.pushed ≡ None))
-place_cases f None h = absurd h
-place_cases f (Some TakePush) h = absurd h
 place_cases f (Some Push) h = inl refl
-place_cases f (Some TakePop) h = absurd h
 place_cases f (Some Pop) h = inl refl
 place_cases f (Some Free) h = inl refl
-place_cases f (Some Leave) h = absurd h
 place_cases f (Some Yield) h = inr (refl, h)
+place_cases f _ h = absurd h
 
 some_pushed : (t : Option ThreadNo) → IsSome t → (n : ThreadNo) × (t ≡ Some n)
 some_pushed None h = absurd cc
@@ -129,14 +126,10 @@ module _ (s : Setting) (e : ℕ) (u : Package) (cs : Contexts Context) (h : IsSt
         }
 
     can_in_section : (op : Option Op) → FitsOperation u.shared.state.lists f op → CanDo u.shared.state f op
-    can_in_section None fits = absurd fits
-    can_in_section (Some TakePush) fits = absurd fits
     can_in_section (Some Push) fits = (can_change fits.0, can_push fits.1)
-    can_in_section (Some TakePop) fits = absurd fits
     can_in_section (Some Pop) fits = (can_change fits.0, record { some = fits.3; carries = fits.2 })
     can_in_section (Some Free) fits = can_change fits.0
-    can_in_section (Some Leave) fits = absurd fits
-    can_in_section (Some Yield) fits = absurd fits
+    can_in_section _ fits = absurd fits
 
     section_can : CanCode u f
     section_can = record {

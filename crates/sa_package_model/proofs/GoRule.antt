@@ -24,7 +24,7 @@ use Rattle.sa_fast.specs.Rest.{AgreesBy, place_at, done_at, unmade_at, is_carrie
 use Rattle.sa_fast.proofs.SyncSteps.{holds-set}
 use Rattle.sa_package_model.specs.declared.context.Context.{Context}
 use Rattle.sa_package_model.specs.declared.context.ContextState.{ContextState}
-use Rattle.sa_package_model.specs.declared.context.ContextState.TheVariants.{Code, Work, Hint, Return, User, Look}
+use Rattle.sa_package_model.specs.declared.context.ContextState.TheVariants.{User}
 use Rattle.sa_package_model.specs.declared.package.Package.{Package}
 use Rattle.sa_package_model.specs.Context.{carried_by, stands_inside}
 use Rattle.sa_package_model.specs.Rules.{with_shared}
@@ -49,14 +49,10 @@ module _ (s : Setting) (e : ℕ) (u : Package) (cs : Contexts Context) (h : IsSt
   -- WHERE IT STANDS
   seat_by : (state : ContextState) → c.state ≡ state
       → IsSeat s (local_at u state) × (is_away (local_at u state) ≡ (stands_inside state || is_none (carried_by state)))
-  seat_by (Code f) at = (tt, refl)
-  seat_by (Work t) at = (tt, refl)
-  seat_by (Hint t) at = (tt, refl)
-  seat_by Return at = (tt, refl)
   seat_by (User t) at =
       let there : IsAt s.def (block_at u.shared.threads t.0) = subst (λ d. IsAt d (block_at u.shared.threads t.0)) h.made.def (user_at t at) in
       ((h.made.space, there.program, there.pc), refl)
-  seat_by (Look looks) at = (tt, refl)
+  seat_by _ at = (tt, refl)
 
   pub seats : IsSeat s (local_at u c.state) × (is_away (local_at u c.state) ≡ (stands_inside c.state || is_none (carried_by c.state)))
   seats = seat_by c.state refl
@@ -103,10 +99,6 @@ module _ (s : Setting) (e : ℕ) (u : Package) (cs : Contexts Context) (h : IsSt
 
   gone_by : (seen : Seen) (n : ℕ) (state : ContextState) → e < seen.event → c.state ≡ state → StaysLocal s n (local_at u state)
       → IsGone fast_calls fast_stands s seen cs a n (local_at u state) (gone_at u c n state)
-  gone_by seen n (Code f) later at local = absurd local
-  gone_by seen n (Work t) later at local = absurd local
-  gone_by seen n (Hint t) later at local = absurd local
-  gone_by seen n Return later at local = absurd local
   gone_by seen n (User t) later at local =
       let b : Block = block_at u.shared.threads t.0 in
       let there : IsAt u.def b = user_at t at in
@@ -125,7 +117,7 @@ module _ (s : Setting) (e : ℕ) (u : Package) (cs : Contexts Context) (h : IsSt
             ap (local_at v) at ∙ ap (stands_at v t) (get_or-set_same u.shared.threads t.0 after unmade (omega (arith, below, h.parts.blocks)))
             ∙ ap (λ d. moved_to u.shared.state.space t b.program (after_many (program_at d.programs b.program) n (spot_of b))) h.made.def;
       }
-  gone_by seen n (Look looks) later at local = absurd local
+  gone_by seen n _ later at local = absurd local
 
   pub goes : (seen : Seen) (n : ℕ) → e < seen.event → StaysLocal s n (local_at u c.state)
       → IsGone fast_calls fast_stands s seen cs a n (local_at u c.state) (went u seen c n)

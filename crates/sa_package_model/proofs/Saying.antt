@@ -8,7 +8,7 @@ use Rattle.sa_base.specs.declared.context.Seen.{Seen}
 use Rattle.sa_base.specs.declared.record.Record.{Record}
 use Rattle.sa_base.specs.declared.record.Record.TheVariants.{Ins}
 use Rattle.sa_instr.specs.declared.instr.Instr.{Instr}
-use Rattle.sa_instr.specs.declared.instr.Instr.TheVariants.{Compute, Set, Add, Sub, Jnz, Load, Store, Out, Fork, Join, Lock, Unlock, Wait, Signal, Io, Touch, End}
+use Rattle.sa_instr.specs.declared.instr.Instr.TheVariants.{Out, Touch}
 use Rattle.sa_abstract.specs.Setting.{Setting}
 use Rattle.sa_abstract.specs.Keeps.{IsOwn}
 use Rattle.sa_lists.specs.ReadyView.{is_locked, sought}
@@ -20,7 +20,7 @@ use Rattle.sa_code.specs.declared.state.MicroDone.TheVariants as micros
 use Rattle.sa_code.specs.Micro.{Micro, micro, micro_at, taken, pushed, popped, takes_first, chosen, list_in, is_resident}
 use Rattle.sa_fast.specs.declared.threads.Block.{Block}
 use Rattle.sa_fast.specs.declared.instruction.Ran.{Ran}
-use Rattle.sa_fast.specs.declared.instruction.Ran.TheVariants.{Goes, Leaves, Blocks}
+use Rattle.sa_fast.specs.declared.instruction.Ran.TheVariants.{Goes}
 use Rattle.sa_fast.specs.Threads.{block_at}
 use Rattle.sa_fast.specs.Instruction.{says_of, instr_of}
 use Rattle.sa_package_model.specs.declared.context.Context.{Context}
@@ -50,48 +50,36 @@ module _ (s : Setting) (u : Package) (seen : Seen) (made : IsMadeFor s u) where
   taken_own f l false = one _ made.space
 
   pushed_own : (f : Frame) (there : Bool) (l : ProcNo) (t : Option ThreadNo) → Own (pushed u.shared.state f there l t).says
-  pushed_own f false l t = none
-  pushed_own f true l None = none
   pushed_own f true l (Some t) = one _ made.space
+  pushed_own f _ l _ = none
 
   popped_own : (f : Frame) (there : Bool) (l : ProcNo) (t : Option ℕ) → Own (popped u.shared.state f there l t).says
-  popped_own f false l t = none
-  popped_own f true l None = none
   popped_own f true l (Some t) = one _ made.space
+  popped_own f _ l _ = none
 
   micro_at_own : (f : Frame) (there : Bool) (l : ProcNo) (op : Option Op) → Own (micro_at u.shared.state f there l op).says
-  micro_at_own f there l (Some ops.TakePush) = taken_own f l (is_locked u.shared.state.lists l.0)
   micro_at_own f there l (Some ops.Push) = pushed_own f there l f.pushed
-  micro_at_own f there l (Some ops.TakePop) = taken_own f l (is_locked u.shared.state.lists l.0)
   micro_at_own f there l (Some ops.Pop) = popped_own f there l (chosen u.shared.state.lists (takes_first u.shared.state.lists f.own) l.0)
   micro_at_own f there l (Some ops.Free) = one _ made.space
   micro_at_own f there l (Some ops.Leave) = none
   micro_at_own f there l (Some ops.Yield) = one _ made.space
   micro_at_own f there l None = none
+  micro_at_own f there l _ = taken_own f l (is_locked u.shared.state.lists l.0)
 
   micro_own : (f : Frame) → Own (micro u.shared.state f seen.pages).says
   micro_own f = micro_at_own f (is_resident seen.pages PACKAGE_PAGE) (list_in f) (slice_get u.shared.state.code f.pc)
 
   coded_own : (c : Context) (f : Frame) (op : Option Op) (m : Micro) (done : MicroDone) → Own m.says → Own (coded_by u seen c f op m done).says
   coded_own c f op m micros.Did h = h
-  coded_own c f op m micros.Spun h = h
-  coded_own c f op m micros.Faulted h = h
-  coded_own c f op m micros.Left h = h
-  coded_own c f op m micros.Yielded h = h
+  coded_own c f op m _ h = h
 
   pushing_own : (c : Context) (first : ThreadNo) (m : Micro) (done : MicroDone) → Own m.says → Own (pushing_by u c first m done).says
   pushing_own c first m micros.Did h = h
-  pushing_own c first m micros.Spun h = h
-  pushing_own c first m micros.Faulted h = h
-  pushing_own c first m micros.Left h = h
-  pushing_own c first m micros.Yielded h = h
+  pushing_own c first m _ h = h
 
   popping_own : (c : Context) (m : Micro) (done : MicroDone) → Own m.says → Own (popping_by u c m done).says
   popping_own c m micros.Did h = h
-  popping_own c m micros.Spun h = h
-  popping_own c m micros.Faulted h = h
-  popping_own c m micros.Left h = h
-  popping_own c m micros.Yielded h = h
+  popping_own c m _ h = h
 
   worked_own : (c : Context) (f : Option Frame) (first : Option ThreadNo) → Own (worked u seen c f first).says
   worked_own c (Some f) first = one _ made.space
@@ -109,28 +97,13 @@ module _ (s : Setting) (u : Package) (seen : Seen) (made : IsMadeFor s u) where
   touched_own t b false = none
 
   says_own : (t : ThreadNo) (b : Block) (i : Instr) → Own (says_of u.shared.state.space t b seen.pages i)
-  says_own t b Compute = one _ made.space
-  says_own t b (Set reg n) = one _ made.space
-  says_own t b (Add reg other) = one _ made.space
-  says_own t b (Sub reg other) = one _ made.space
-  says_own t b (Jnz reg place) = one _ made.space
-  says_own t b (Load reg cell) = one _ made.space
-  says_own t b (Store reg cell) = one _ made.space
   says_own t b (Out reg) = two _ _ made.space made.space
-  says_own t b (Fork reg program) = one _ made.space
-  says_own t b (Join reg) = one _ made.space
-  says_own t b (Lock m) = one _ made.space
-  says_own t b (Unlock m) = one _ made.space
-  says_own t b (Wait k) = one _ made.space
-  says_own t b (Signal k) = one _ made.space
-  says_own t b (Io length) = one _ made.space
   says_own t b (Touch page) = touched_own t b (is_resident seen.pages page)
-  says_own t b End = one _ made.space
+  says_own t b _ = one _ made.space
 
   used_own : (v : Package) (c : Context) (t : ThreadNo) (a : Ran) (says : List Record) → Own says → Own (used_by v seen c t a says).says
   used_own v c t Goes says h = h
-  used_own v c t Leaves says h = h
-  used_own v c t (Blocks length page) says h = h
+  used_own v c t _ says h = h
 
   looked_own : (c : Context) (looks : ℕ) (idle : Bool) (l : Option ℕ) → Own (looked_by u seen c looks idle l).says
   looked_own c looks idle (Some l) = let f = pop_of seen.proc l in let m = micro u.shared.state f seen.pages in popping_own c m m.done (micro_own f)

@@ -4,7 +4,7 @@ use Rattle.sa_base.specs.declared.number.ThreadNo.{ThreadNo}
 use Rattle.sa_base.specs.declared.context.Seen.{Seen}
 use Rattle.sa_package_model.specs.declared.context.Context.{Context}
 use Rattle.sa_package_model.specs.declared.context.ContextState.{ContextState}
-use Rattle.sa_package_model.specs.declared.context.ContextState.TheVariants.{Code, Work, Hint, Return, User, Look}
+use Rattle.sa_package_model.specs.declared.context.ContextState.TheVariants.{Hint, Return}
 use Rattle.sa_package_model.specs.declared.package.Package.{Package}
 use Rattle.sa_package_model.specs.Context.{is_left, settled_to, has_bulk}
 use Rattle.sa_package_model.specs.Conditions.{CanWork, CanSettle, CanAct, CanStep}
@@ -41,12 +41,9 @@ can-if_bulk u seen c true can h = can
 can-if_bulk u seen c false can h = can-settled u seen c None can h
 
 can-at : (u : Package) (seen : Seen) (c : Context) (s : ContextState) → CanAct u c s → CanStep u seen c → CanStep u seen (resettled u seen c s)
-can-at u seen c (Code f) act can = can
-can-at u seen c (Work t) act can = can
 can-at u seen c (Hint t) act can = can-if_owed u seen c t (owed u seen) can act
 can-at u seen c Return act can = can-if_bulk u seen c (has_bulk seen) can act
-can-at u seen c (User t) act can = can
-can-at u seen c (Look looks) act can = can
+can-at u seen c _ act can = can
 
 pub can-resettled : (u : Package) (seen : Seen) (c : Context) → CanStep u seen c → CanStep u seen (resettled u seen c c.state)
 can-resettled u seen c can = can-at u seen c c.state can.acts can

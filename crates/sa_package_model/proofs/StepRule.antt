@@ -6,7 +6,7 @@ use Rattle.sa_base.specs.declared.limits.TheConstants.{MAX_EVENTS}
 use Rattle.sa_base.specs.declared.context.Seen.{Seen}
 use Rattle.sa_base.specs.declared.context.Stopped.{Stopped}
 use Rattle.sa_base.specs.declared.record.Note.{Note}
-use Rattle.sa_base.specs.declared.record.Note.TheVariants.{Add, Preempted, Blocked, Unblocked}
+use Rattle.sa_base.specs.declared.record.Note.TheVariants.{Preempted, Unblocked}
 use Rattle.sa_instr.specs.declared.limits.TheConstants.{MAX_PATIENCE}
 use Rattle.sa_abstract.specs.Setting.{Setting}
 use Rattle.sa_abstract.specs.Calls.{Contexts, Stepped}
@@ -53,12 +53,9 @@ module _ (s : Setting) (e : ℕ) (u : Package) (cs : Contexts Context) (h : IsSt
   bulk_change seen at false = settled-change s e u cs h a c is None (ap section_in at) (ap carried_by at) seen
 
   resettled_stands : (seen : Seen) (state : ContextState) → c.state ≡ state → IsStanding s e u (put cs a (Some (resettled u seen c state)))
-  resettled_stands seen (Code f) at = change-stands s e u cs h e a u (Some c) c is stays
-  resettled_stands seen (Work t) at = change-stands s e u cs h e a u (Some c) c is stays
   resettled_stands seen (Hint t) at = change-stands s e u cs h e a u (Some c) (if_owed u seen c t (owed u seen)) is (owed_change seen t at (owed u seen))
   resettled_stands seen Return at = change-stands s e u cs h e a u (Some c) (if_bulk u seen c (has_bulk seen)) is (bulk_change seen at (has_bulk seen))
-  resettled_stands seen (User t) at = change-stands s e u cs h e a u (Some c) c is stays
-  resettled_stands seen (Look looks) at = change-stands s e u cs h e a u (Some c) c is stays
+  resettled_stands seen _ at = change-stands s e u cs h e a u (Some c) c is stays
 
   -- a change, and then a later event
   then_later : (f : ℕ) (v : Package) (new : Context) → e ≤ f → IsChange s e u v (Some c) new → IsStanding s f v (put cs a (Some new))
@@ -151,7 +148,6 @@ module _ (s : Setting) (e : ℕ) (u : Package) (cs : Contexts Context) (h : IsSt
 
   pub told_stands : (note : Note) (held : Option (Stopped Context)) → IsHanded cs a note held
       → IsStanding s e (told u c note held).0 (told_contexts cs a (told u c note held).1 note)
-  told_stands (Add p) held handed = unchanged_stands
-  told_stands (Blocked b) held handed = unchanged_stands
   told_stands (Preempted b) held handed = over_stands b.0 held handed
   told_stands (Unblocked b) held handed = over_stands b.0 held handed
+  told_stands _ held handed = unchanged_stands

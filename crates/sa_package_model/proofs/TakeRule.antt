@@ -49,10 +49,8 @@ length_before None fs = omega arith
 length_before (Some f) fs = omega arith
 
 apart_by : (w v : Option ThreadNo) → ((n m : ThreadNo) → w ≡ Some n → v ≡ Some m → n.0 ≢ m.0) → AreApart w v
-apart_by None None h = tt
-apart_by None (Some m) h = tt
-apart_by (Some n) None h = tt
 apart_by (Some n) (Some m) h = h n m refl refl
+apart_by _ _ h = tt
 
 alone_due : (x : Shared) (own : Option Frame) (t : Option ThreadNo) → CanBeDue x t → CanBeDue x (thread_alone own t)
 alone_due x None t due = due

@@ -14,7 +14,7 @@ use Rattle.sa_fast.specs.Work.{work_of}
 use Rattle.sa_fast.specs.Rest.{one_if, one_of}
 use Rattle.sa_package_model.specs.declared.context.Context.{Context}
 use Rattle.sa_package_model.specs.declared.context.ContextState.{ContextState}
-use Rattle.sa_package_model.specs.declared.context.ContextState.TheVariants.{Code, Work, Hint, Return, User, Look}
+use Rattle.sa_package_model.specs.declared.context.ContextState.TheVariants.{Code}
 use Rattle.sa_package_model.specs.Context.{carried_by, section_in, before_all, at_copy, settled_to}
 use Rattle.sa_package_model.specs.Rules.{thread_alone}
 use Rattle.sa_package_model.specs.Hands.{sections_of, locks_in, locks_of, threads_in, threads_of}
@@ -139,8 +139,4 @@ carried_at f fs x (Some k) = omega arith
 pub carried_less : (state : ContextState) (fs : List Frame) (x : ℕ)
     → one_of (carried_by state) x ≤ threads_in (before_all (section_in state) fs) x + one_of (thread_alone (section_in state) (carried_by state)) x
 carried_less (Code f) fs x = carried_at f fs x (copy_at f.pc)
-carried_less (Work t) fs x = omega arith
-carried_less (Hint t) fs x = omega arith
-carried_less Return fs x = omega arith
-carried_less (User t) fs x = omega arith
-carried_less (Look looks) fs x = omega arith
+carried_less _ fs x = omega arith

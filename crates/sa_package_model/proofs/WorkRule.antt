@@ -12,7 +12,7 @@ use Rattle.sa_links.proofs.Counting.{first_counted}
 use Rattle.sa_lists.specs.ReadyView.{ReadyView, list_of, is_locked, processor}
 use Rattle.sa_lists.specs.ReadyView as ready
 use Rattle.sa_code.specs.declared.code.Op.{Op}
-use Rattle.sa_code.specs.declared.code.Op.TheVariants.{TakePush, Push, TakePop, Pop, Free, Leave, Yield}
+use Rattle.sa_code.specs.declared.code.Op.TheVariants.{TakePush, Push, TakePop, Pop, Free}
 use Rattle.sa_code.specs.declared.state.Frame.{Frame}
 use Rattle.sa_code.specs.Micro.{micro_at, taken, is_resident, list_in, HasList, CanDo}
 use Rattle.sa_code.specs.Changes.{IsPackage}
@@ -40,14 +40,10 @@ use Rattle.sa_package_model.proofs.Parts.{length_placed, parts_placed, parts_sta
 
 -- a section can be in the code
 fits_stands : (r : ReadyView) (f : Frame) (op : Option Op) → FitsOperation r f op → StandsAt f op
-fits_stands r f None h = absurd h
-fits_stands r f (Some TakePush) h = absurd h
 fits_stands r f (Some Push) h = tt
-fits_stands r f (Some TakePop) h = absurd h
 fits_stands r f (Some Pop) h = tt
 fits_stands r f (Some Free) h = tt
-fits_stands r f (Some Leave) h = absurd h
-fits_stands r f (Some Yield) h = absurd h
+fits_stands r f _ h = absurd h
 
 -- a list that has a first
 first_of : (fs : List Frame) (f : Frame) → slice_get fs 0 ≡ Some f → fs ≡ f ∷ drop 1 fs

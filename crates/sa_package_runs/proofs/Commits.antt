@@ -32,7 +32,7 @@ use Rattle.sa_core_model.proofs.Phases.{IsAt, at-owned}
 use Rattle.sa_core_model.proofs.Runs.{local-is, runs-stand}
 use Rattle.sa_package_model.specs.declared.context.Context.{Context}
 use Rattle.sa_package_model.specs.declared.context.ContextState.{ContextState}
-use Rattle.sa_package_model.specs.declared.context.ContextState.TheVariants.{Code, Work, Hint, Return, User, Look}
+use Rattle.sa_package_model.specs.declared.context.ContextState.TheVariants.{User}
 use Rattle.sa_package_model.specs.declared.package.Package.{Package}
 use Rattle.sa_package_model.specs.Context.{has_some}
 use Rattle.sa_package_model.specs.Rules.{with_shared}
@@ -115,17 +115,13 @@ module _ (w : WorkloadView) (s : SpaceNo) (def : SpaceView) (of : slice_get w.sp
       ∙ ap (λ (d : SpaceView). d.programs) (sym h.made.def)
 
   steps-by : (state : ContextState) → c.state ≡ state → AreNextLocal w n (local_at u state) → AreSteps fast_calls n u c
-  steps-by (Code f) at local = absurd local
-  steps-by (Work t) at local = absurd local
-  steps-by (Hint t) at local = absurd local
-  steps-by Return at local = absurd local
-  steps-by (Look looks) at local = absurd local
   steps-by (User t) at local =
       let b = block_at u.shared.threads t.0 in
       let below : t.0 < length u.shared.threads =
       omega (arith, h.parts.blocks, own_below (setting w s.0 def) e u cs h a c is t.0 (user_has u.shared.works c t at)) in
       subst (AreSteps fast_calls n u) (sym (nothing-left c t at left))
       (are-steps n u t below (subst (λ (ps : List (List Instr)). AreLocal (program_at ps b.program) n (spot_of b)) programs local))
+  steps-by _ at local = absurd local
 
 -- THE CONTEXT ON A PROCESSOR of a machine that was reached
 pub local-instructions-are-steps : (w : WorkloadView) (m : FastMachine) (p : ProcNo) (n : ℕ) → IsWorkload w → IsReached w m

@@ -4,7 +4,7 @@ use Rattle.std.specs.Prelude.{MatchOption}
 use Rattle.sa_base.specs.declared.number.ProcNo.{ProcNo}
 use Rattle.sa_debug.specs.declared.script.command.Point.{Point}
 use Rattle.sa_debug.specs.declared.script.command.DebugCommand.{DebugCommand}
-use Rattle.sa_debug.specs.declared.script.command.DebugCommand.TheVariants.{Break, Clear, Halt, Go, Step, Run, Show}
+use Rattle.sa_debug.specs.declared.script.command.DebugCommand.TheVariants.{Break, Clear, Step, Run}
 use Rattle.sa_debug.specs.declared.script.reply.Reply.{Reply}
 use Rattle.sa_debug.specs.declared.script.reply.Reply.TheVariants.{AtBreak}
 use Rattle.sa_debug.specs.Session.{Watched, Session, with_point, without_point, has_point, with_halt, next, point_at}
@@ -62,23 +62,16 @@ module _ {M : Type 0} (o : Watched M) (P : M → Type 0) (keeps : (m : M) (p : P
   pub does : (c : DebugCommand) (s t : Session M) (reply : Reply) → Does o c s t reply → P s.machine → P t.machine
   does (Break point) s t reply done held = same s t (ap (λ (x : Session M). x.machine) done.0 ∙ point-machine s point (has_point s point) _) held
   does (Clear point) s t reply done held = same s t (ap (λ (x : Session M). x.machine) done.0 ∙ clear-machine s point (has_point s point)) held
-  does (Halt p) s t reply done held = same s t (ap (λ (x : Session M). x.machine) done.0) held
-  does (Go p) s t reply done held = same s t (ap (λ (x : Session M). x.machine) done.0) held
   does (Step p) s t reply done held = elim done [
     | inl says ↦ ended s t reply says held
     | inr steps ↦ turned s t p steps.turns held
   ]
   does (Run n) s t reply done held = ran n s t reply done held
-  does (Show space thread) s t reply done held = same s t (ap (λ (x : Session M). x.machine) done.0) held
+  does _ s t reply done held = same s t (ap (λ (x : Session M). x.machine) done.0) held
 
   pub does-so_far : (c : DebugCommand) (s t : Session M) → DoesSoFar o c s t → P s.machine → P t.machine
-  does-so_far (Break point) s t done held = same s t (ap (λ (x : Session M). x.machine) done) held
-  does-so_far (Clear point) s t done held = same s t (ap (λ (x : Session M). x.machine) done) held
-  does-so_far (Halt p) s t done held = same s t (ap (λ (x : Session M). x.machine) done) held
-  does-so_far (Go p) s t done held = same s t (ap (λ (x : Session M). x.machine) done) held
-  does-so_far (Step p) s t done held = same s t (ap (λ (x : Session M). x.machine) done) held
   does-so_far (Run n) s t done held = came n s t done held
-  does-so_far (Show space thread) s t done held = same s t (ap (λ (x : Session M). x.machine) done) held
+  does-so_far _ s t done held = same s t (ap (λ (x : Session M). x.machine) done) held
 
   pub does-all : (cs : List DebugCommand) (s t : Session M) (replies : List Reply) → DoAll o cs s t replies → P s.machine → P t.machine
   does-all [] s t replies done held = subst (λ (x : Session M). P x.machine) (sym done.0) held

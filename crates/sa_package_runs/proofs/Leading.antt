@@ -50,9 +50,8 @@ get-push (q ∷ ps) p (suc k) inside = get-push ps p k (omega arith)
 
 get-last : (ps : List ProcNo) (p : ProcNo) (k : ℕ) → k ≡ length ps → slice_get (ps ++ p ∷ []) k ≡ Some p
 get-last [] p zero is = refl
-get-last [] p (suc k) is = absurd (omega arith)
-get-last (q ∷ ps) p zero is = absurd (omega arith)
 get-last (q ∷ ps) p (suc k) is = get-last ps p k (omega arith)
+get-last _ p _ is = absurd (omega arith)
 
 pub processor-at : (order : Order) (processors n k : ℕ) → k < n
     → slice_get (processors_of (turns_by order processors n)) k ≡ Some (proc_no (processor_at order processors (k + 1)))

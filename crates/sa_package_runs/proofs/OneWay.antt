@@ -20,22 +20,19 @@ Begins items x = (more : List Event) × (events_of x ≡ events_of items ++ more
 
 -- A history has one end.
 one-end : (budget n : ℕ) (r : Readings) (one other : Option End) → EndsWith budget r n one → EndsWith budget r n other → one ≡ other
-one-end budget n r (Some AllDone) (Some AllDone) a b = refl
 one-end budget n r (Some AllDone) (Some Stuck) a b = absurd (b.some a)
 one-end budget n r (Some AllDone) (Some Budget) a b = absurd (b.0.done a)
 one-end budget n r (Some AllDone) None a b = absurd (b.0.done a)
 one-end budget n r (Some Stuck) (Some AllDone) a b = absurd (a.some b)
-one-end budget n r (Some Stuck) (Some Stuck) a b = refl
 one-end budget n r (Some Stuck) (Some Budget) a b = absurd (b.0.stuck a)
 one-end budget n r (Some Stuck) None a b = absurd (b.0.stuck a)
 one-end budget n r (Some Budget) (Some AllDone) a b = absurd (a.0.done b)
 one-end budget n r (Some Budget) (Some Stuck) a b = absurd (a.0.stuck b)
-one-end budget n r (Some Budget) (Some Budget) a b = refl
 one-end budget n r (Some Budget) None a b = absurd (b.1 a.1)
 one-end budget n r None (Some AllDone) a b = absurd (a.0.done b)
 one-end budget n r None (Some Stuck) a b = absurd (a.0.stuck b)
 one-end budget n r None (Some Budget) a b = absurd (a.1 b.1)
-one-end budget n r None None a b = refl
+one-end budget n r _ _ a b = refl
 
 module _ (u : UserRules) (w : WorkloadView) (budget : ℕ) where
   -- Two turns after one history, with both of which a longer one begins, leave the same history.

@@ -6,7 +6,7 @@ use Rattle.sa_base.specs.declared.number.ProcNo.{ProcNo}
 use Rattle.sa_base.specs.declared.record.End.{End}
 use Rattle.sa_debug.specs.declared.script.command.Point.{Point}
 use Rattle.sa_debug.specs.declared.script.command.DebugCommand.{DebugCommand}
-use Rattle.sa_debug.specs.declared.script.command.DebugCommand.TheVariants.{Break, Clear, Halt, Go, Step, Run, Show}
+use Rattle.sa_debug.specs.declared.script.command.DebugCommand.TheVariants.{Step, Run}
 use Rattle.sa_debug.specs.declared.script.reply.Reply.{Reply}
 use Rattle.sa_debug.specs.declared.script.reply.Reply.TheVariants.{Event, Ended, AtBreak}
 use Rattle.sa_debug.specs.Session.{Watched, Session, Gives, with_halt, with_machine, next, point_at}
@@ -127,10 +127,6 @@ module _ {N : Type 0} (q : Watched N) (Before : N → N → Type 0) (goes : Goes
   -- COMMANDS
   both-do : (c : DebugCommand) (s t z : Session N) (reply other : Reply) (x : N) → Does q c s t reply → Does q c s z other → Before t.machine x
       → Before z.machine x → Same t reply z other
-  both-do (Break point) s t z reply other x one two before after = given _ t z reply other one two
-  both-do (Clear point) s t z reply other x one two before after = given _ t z reply other one two
-  both-do (Halt p) s t z reply other x one two before after = given _ t z reply other one two
-  both-do (Go p) s t z reply other x one two before after = given _ t z reply other one two
   both-do (Step p) s t z reply other x one two before after = elim one [
     | inl says ↦ elim two [
       | inl also ↦ both-ended s t z reply other says also
@@ -142,7 +138,7 @@ module _ {N : Type 0} (q : Watched N) (Before : N → N → Type 0) (goes : Goes
     ]
   ]
   both-do (Run n) s t z reply other x one two before after = both-run n s t z reply other x one two before after
-  both-do (Show space thread) s t z reply other x one two before after = given _ t z reply other one two
+  both-do _ s t z reply other x one two before after = given _ t z reply other one two
 
   -- To two sessions from which the thing can come to one and the same state; so to two with one state of the thing.
   pub only-before : (cs : List DebugCommand) (s t z : Session N) (replies others : List Reply) (x : N) → DoAll q cs s t replies → DoAll q cs s z others

@@ -2,7 +2,7 @@
 use Rattle.std.proofs.Common.{◌≡◌, ℕ, zero, suc, ◌≤◌, List, [], ◌∷◌, take, drop, inl, inr, refl, sym, ap, ◌∙◌, subst}
 use Rattle.std.proofs.lemmas.List.{take-take}
 use Rattle.sa_debug.specs.declared.script.command.DebugCommand.{DebugCommand}
-use Rattle.sa_debug.specs.declared.script.command.DebugCommand.TheVariants.{Break, Clear, Halt, Go, Step, Run, Show}
+use Rattle.sa_debug.specs.declared.script.command.DebugCommand.TheVariants.{Run}
 use Rattle.sa_debug.specs.declared.script.reply.Reply.{Reply}
 use Rattle.sa_debug.specs.Session.{Watched, Session, with_machine, RunsSoFar, DoesSoFar, DoAll}
 use Rattle.sa_package_runs.specs.Told.{CameSoFar}
@@ -22,13 +22,8 @@ module _ {N : Type 0} (q : Watched N) where
   ]
 
   so-far-alike : (c : DebugCommand) (s t : Session N) → DoesSoFar q c s t → t ≡ with_machine s t.machine
-  so-far-alike (Break point) s t comes = alike s t comes
-  so-far-alike (Clear point) s t comes = alike s t comes
-  so-far-alike (Halt p) s t comes = alike s t comes
-  so-far-alike (Go p) s t comes = alike s t comes
-  so-far-alike (Step p) s t comes = alike s t comes
   so-far-alike (Run n) s t comes = run-alike n s t comes
-  so-far-alike (Show space thread) s t comes = alike s t comes
+  so-far-alike _ s t comes = alike s t comes
 
   came-alike : (cs : List DebugCommand) (s t : Session N) (came : CameSoFar q cs s t) → t ≡ with_machine came.between t.machine
   came-alike cs s t came = elim came.last [

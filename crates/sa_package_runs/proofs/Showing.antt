@@ -7,7 +7,7 @@ use Rattle.sa_base.specs.declared.number.ThreadNo.{ThreadNo}
 use Rattle.sa_base.specs.declared.record.End.{End}
 use Rattle.sa_debug.specs.declared.script.command.Point.{Point}
 use Rattle.sa_debug.specs.declared.script.command.DebugCommand.{DebugCommand}
-use Rattle.sa_debug.specs.declared.script.command.DebugCommand.TheVariants.{Break, Clear, Halt, Go, Step, Run, Show}
+use Rattle.sa_debug.specs.declared.script.command.DebugCommand.TheVariants.{Break, Clear, Step, Run, Show}
 use Rattle.sa_debug.specs.declared.script.reply.View.{View}
 use Rattle.sa_debug.specs.declared.script.reply.Reply.{Reply}
 use Rattle.sa_debug.specs.declared.script.reply.Reply.TheVariants.{Event, AtBreak}
@@ -160,8 +160,6 @@ module _ {M N : Type 0} (o : Watched M) (q : Watched N) (f : M → N) (P : M →
   pub does-seen : (c : DebugCommand) (s t : Session M) (reply : Reply) → Does o c s t reply → P s.machine → Does q c (seen s) (seen t) reply
   does-seen (Break point) s t reply done held = point-seen s t point reply (has_point s point) (nat_le MAX_POINTS (length s.points)) done
   does-seen (Clear point) s t reply done held = clear-seen s t point reply (has_point s point) done
-  does-seen (Halt p) s t reply done held = (ap seen done.0, done.1)
-  does-seen (Go p) s t reply done held = (ap seen done.0, done.1)
   does-seen (Step p) s t reply done held = elim done [
     | inl says ↦ inl (ended-seen s t reply says held)
     | inr steps ↦ inr (steps-seen s t p reply steps held)
@@ -169,15 +167,11 @@ module _ {M N : Type 0} (o : Watched M) (q : Watched N) (f : M → N) (P : M →
   does-seen (Run n) s t reply done held = runs-seen n s t reply done held
   does-seen (Show space thread) s t reply done held =
       (ap seen done.0, done.1 ∙ ap (λ (v : Option View). shown v) (sym (shows.view s.machine space thread held)))
+  does-seen _ s t reply done held = (ap seen done.0, done.1)
 
   pub so-far-seen : (c : DebugCommand) (s t : Session M) → DoesSoFar o c s t → P s.machine → DoesSoFar q c (seen s) (seen t)
-  so-far-seen (Break point) s t comes held = ap seen comes
-  so-far-seen (Clear point) s t comes held = ap seen comes
-  so-far-seen (Halt p) s t comes held = ap seen comes
-  so-far-seen (Go p) s t comes held = ap seen comes
-  so-far-seen (Step p) s t comes held = ap seen comes
   so-far-seen (Run n) s t comes held = came-seen n s t comes held
-  so-far-seen (Show space thread) s t comes held = ap seen comes
+  so-far-seen _ s t comes held = ap seen comes
 
   pub all-seen : (cs : List DebugCommand) (s t : Session M) (replies : List Reply) → DoAll o cs s t replies → P s.machine
       → DoAll q cs (seen s) (seen t) replies

@@ -18,7 +18,7 @@ use Rattle.sa_package_model.specs.Stands.{IsStanding}
 use Rattle.sa_package_model.specs.Step.{fast_calls, local_at}
 use Rattle.sa_package_model.specs.declared.context.Context.{Context}
 use Rattle.sa_package_model.specs.declared.context.ContextState.{ContextState}
-use Rattle.sa_package_model.specs.declared.context.ContextState.TheVariants.{Code, Work, Hint, Return, User, Look}
+use Rattle.sa_package_model.specs.declared.context.ContextState.TheVariants.{User}
 use Rattle.sa_package_model.specs.declared.package.Package.{Package}
 use Rattle.sa_laws.specs.Event.{Event}
 use Rattle.sa_laws.specs.Life.{Life}
@@ -56,14 +56,10 @@ carried-fits set e u cs s r a c t h k is carries =
 at-instruction : (u : Package) (a : Abstract) (s : SpaceNo) (state : ContextState) → u.shared.state.space ≡ s
     → ((t : ThreadNo) → carried_by state ≡ Some t → FitsThread (block_at u.shared.threads t.0) (thread_at a s t))
     → (if stands_inside state then None else option_map (point_of a) (runner_of s (carried_by state))) ≡ point_in (local_at u state)
-at-instruction u a s (Code f) space fits = refl
-at-instruction u a s (Work t) space fits = refl
-at-instruction u a s (Hint t) space fits = refl
-at-instruction u a s Return space fits = refl
 at-instruction u a s (User t) space fits =
     ap (λ (n : ℕ). Some (record { space = s; thread = t; place = n })) (fits t refl).pc
     ∙ ap (λ (z : SpaceNo). Some (record { space = z; thread = t; place = (block_at u.shared.threads t.0).pc })) (sym space)
-at-instruction u a s (Look looks) space fits = refl
+at-instruction u a s _ space fits = refl
 
 module _ (w : WorkloadView) (events : List Event) (m : FastMachine) (p : ProcNo) (c : IsComposed fast_level w events m) where
   abbrev r : Readings

@@ -1,5 +1,5 @@
 -- The calls but the step keep all standing.
-use Rattle.std.proofs.Common.{◌≡◌, ℕ, zero, suc, ◌+◌, ◌-◌, ◌≤◌, ◌<◌, Bool, true, false, replicate, Option, Some, None, refl, sym, ap, ◌∙◌, subst, arith}
+use Rattle.std.proofs.Common.{◌≡◌, ℕ, suc, ◌+◌, ◌-◌, ◌≤◌, ◌<◌, Bool, true, false, replicate, Option, Some, None, refl, sym, ap, ◌∙◌, subst, arith}
 use Rattle.std.specs.Prelude.{◌||◌, if◌then◌else◌, is_none}
 use Rattle.std.specs.Option.{option_map}
 use Rattle.std.proofs.lemmas.List.{length-set, length-replicate}
@@ -40,9 +40,8 @@ abbrev nobody : Option ThreadNo
 nobody = None
 
 none_on : (n q : ℕ) → slice_index_or (replicate n nobody) q nobody ≡ nobody
-none_on zero q = refl
-none_on (suc n) zero = refl
 none_on (suc n) (suc q) = none_on n q
+none_on _ _ = refl
 
 pub prio_starts : (s : Setting) → IsSetting s → IsPrioStanding s 0 (started s) (λ a. None)
 prio_starts s h = record {
@@ -96,26 +95,23 @@ module _ (s : Setting) (e : ℕ) (v : Prio) (cs : Contexts PrioContext) (h : IsP
     }
 
     pub base_handed : (note : Note) (held : Option (Stopped PrioContext)) → IsHanded cs a note held → IsHanded (bases cs) a note (option_map base_of held)
-    base_handed (Add p) held handed = ap (option_map base_of) handed
-    base_handed (Blocked b) held handed = ap (option_map base_of) handed
     base_handed (Preempted b) held handed = handed_base b.0 held handed
     base_handed (Unblocked b) held handed = handed_base b.0 held handed
+    base_handed _ held handed = ap (option_map base_of) handed
 
     gone_bases : (b : ℕ) (d : PrioContext) → bases (put (put cs a (Some d)) b None) ≡ put (put (bases cs) a (Some d.base)) b None
     gone_bases b d = bases-put (put cs a (Some d)) b None ∙ ap (λ xs. put xs b None) (bases-put cs a (Some d))
 
     told_bases : (note : Note) (d : PrioContext) → bases (told_contexts cs a d note) ≡ told_contexts (bases cs) a d.base note
-    told_bases (Add p) d = bases-put cs a (Some d)
-    told_bases (Blocked b) d = bases-put cs a (Some d)
     told_bases (Preempted b) d = gone_bases b.0 d
     told_bases (Unblocked b) d = gone_bases b.0 d
+    told_bases _ d = bases-put cs a (Some d)
 
     -- a context that is told is inside, or is marked as it was
     told_marks : (note : Note) (d : PrioContext) → IsMarkedWell d → (b : ℕ) (x : PrioContext) → told_contexts cs a d note b ≡ Some x → IsMarkedWell x
-    told_marks (Add p) d well = marks-put cs a d h.marks well
-    told_marks (Blocked n) d well = marks-put cs a d h.marks well
     told_marks (Preempted n) d well = marks-gone (put cs a (Some d)) n.0 (marks-put cs a d h.marks well)
     told_marks (Unblocked n) d well = marks-gone (put cs a (Some d)) n.0 (marks-put cs a d h.marks well)
+    told_marks _ d well = marks-put cs a d h.marks well
 
     same_state : (note : Note) (held : Option (Stopped Context)) → (fast.told v.base c.base note held).1.state ≡ c.base.state
     same_state (Add p) held = refl

@@ -177,9 +177,8 @@ first_rests def zero p runs = let both : places.Ready ≡ places.Running p = run
 first_rests def (suc t) p runs = let both : places.Done ≡ places.Running p = runs in cc
 
 get_or-replicate : (n i : ℕ) → get_or {A = Option Runner} (replicate n None) i None ≡ None
-get_or-replicate zero i = refl
-get_or-replicate (suc n) zero = refl
 get_or-replicate (suc n) (suc i) = get_or-replicate n i
+get_or-replicate _ _ = refl
 
 -- and each space has what the workload declares
 opening_has : (def : SpaceView) → HasDeclared def (opening_space def).sync

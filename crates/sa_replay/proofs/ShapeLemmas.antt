@@ -49,13 +49,12 @@ own x t place after goes = alone x t place after x.sync goes (λ u waits. inl wa
 told : (x : SpaceState) (t : ThreadNo) (place : Place) (thread : Thread) (sync : Sync) (answer : SyncAnswer) → thread.place ≡ place
     → ((u : ℕ) → waits_of sync u + woken answer u ≡ waits_of x.sync u + joining answer t.0 u) → SameNumbers x.sync sync
     → IsShaped x t place (answered (with_sync x sync) t thread answer).space
-told x t place thread sync answers.Goes is tells numbers = alone x t place thread sync (inl is) (λ u waits. inl (omega (arith, tells u, waits))) numbers
 told x t place thread sync answers.Waits is tells numbers =
     alone x t place (record thread { place = places.Waiting }) sync (inr refl) (λ u waits. elim (cases_eq t.0 u) [
       | inl same ↦ inr (sym same, refl)
       | inr other ↦ inl (let none : joining answers.Waits t.0 u ≡ 0 = ap (λ b. cond b 1 0) (ne_eqb t.0 u other) in omega (arith, tells u, none, waits))
     ]) numbers
-told x t place thread sync (answers.Wakes w) is tells numbers = alone x t place thread sync (inl is) (λ u waits. inl (omega (arith, tells u, waits))) numbers
+told x t place thread sync _ is tells numbers = alone x t place thread sync (inl is) (λ u waits. inl (omega (arith, tells u, waits))) numbers
 
 synced : (x : SpaceState) (t : ThreadNo) (place : Place) (thread : Thread) (change : Change) → thread.place ≡ place → TellsWhoWaits x.sync t.0 change
     → SameNumbers x.sync change.state

@@ -53,9 +53,8 @@ some_after cause number (line ∷ lines) bad h = (let e : _ ≡ bad = same_Some 
 pub same_after : (cause : ℕ → LineText → Cause) (number : ℕ) (others lines : List LineText) → take 1 others ≡ take 1 lines
     → bad_after cause number others ≡ bad_after cause number lines
 same_after cause number [] [] h = refl
-same_after cause number [] (line ∷ lines) h = absurd cc
-same_after cause number (other ∷ others) [] h = absurd cc
 same_after cause number (other ∷ others) (line ∷ lines) h = ap (λ l. bad_after cause number (l ∷ [])) (same_cons other line [] [] h).0
+same_after cause number _ _ h = absurd cc
 
 -- the counts of few items are small
 pub all-of : {A : Type 0} (P : A → Type 0) (xs : List A) → ((x : A) → P x) → All P xs

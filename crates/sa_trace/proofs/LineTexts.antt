@@ -65,12 +65,11 @@ fine-decimal n ps small h = fine-cons (decimal n) ps (decimal-printed n small) (
 
 fine-fields : (fields : List Field) (vs : List (Option ℕ)) → AllFit fields vs → AreFine (map piece vs)
 fine-fields [] [] h = fine-nil
-fine-fields [] (v ∷ vs) h = absurd h
-fine-fields (f ∷ fields) [] h = absurd h
 fine-fields (f ∷ fields) (None ∷ vs) h = fine-cons (codes "-") (map piece vs) refl (lacks_by_test 32 (codes "-") refl) (fine-fields fields vs h.1)
 fine-fields (f ∷ fields) (Some n ∷ vs) h =
     let fits : n ≤ (range_of f).greatest = h.0 in
     fine-decimal n (map piece vs) (omega (arith, greatest-small f)) (fine-fields fields vs h.1)
+fine-fields _ _ h = absurd h
 
 words-printed : (kind : Kind) → list_all is_printed (word_pieces kind) ≡ true
 words-printed Ins = refl

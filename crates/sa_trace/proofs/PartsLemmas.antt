@@ -173,9 +173,8 @@ remade (Line p) h = ap (λ o. option_map Line o) (processor.forth p h.0)
 remade (Fetch s) h = ap (λ o. option_map Fetch o) (space.forth s h.0)
 remade (Fetched s) h = ap (λ o. option_map Fetched o) (space.forth s h.0)
 remade (GiveBack a) h = ap (λ o. option_map GiveBack o) (activation.forth a h.0)
-remade Idle h = refl
 remade (Spin l) h = ap (λ o. option_map Spin o) (processor.forth l h.0)
-remade Tick h = refl
+remade _ h = refl
 
 -- what is made has the kind and the fields that made it
 made-parts : (kind : Kind) (f : List (Option ℕ)) (o : Option Record) (r : Record) → IsMaking (form_of kind).fields kind f o → o ≡ Some r

@@ -59,8 +59,6 @@ wrong_or-none (Err cause) later h = absurd cc
 pub wrong_count-none : (counts : List ℕ) (pieces : List (List ℕ)) → wrong_count counts pieces ≡ None
     → (pieces ≡ map decimal counts) × All (λ n. n < 2 ^ 64) counts
 wrong_count-none [] [] h = (refl, All-nil (λ n. n < 2 ^ 64))
-wrong_count-none [] (piece ∷ rest) h = absurd cc
-wrong_count-none (count ∷ counts) [] h = absurd cc
 wrong_count-none (count ∷ counts) (piece ∷ rest) h =
     let first = wrong_or-none (number_in count count piece) (wrong_count counts rest) h in
     let read = number_in-ok count count piece first.0 first.1 in
@@ -69,6 +67,7 @@ wrong_count-none (count ∷ counts) (piece ∷ rest) h =
       ap (λ p. p ∷ rest) (read.0 ∙ ap decimal same) ∙ ap (λ r. decimal count ∷ r) others.0,
       All-cons (λ n. n < 2 ^ 64) count counts (subst (λ n. n < 2 ^ 64) same read.1) others.1,
     )
+wrong_count-none _ _ h = absurd cc
 
 pub wrong_count-decimals : (counts : List ℕ) → All (λ n. n < 2 ^ 64) counts → wrong_count counts (map decimal counts) ≡ None
 wrong_count-decimals [] small = refl
@@ -124,8 +123,6 @@ field_in-piece field (Some n) h =
 
 pub fields_in-ok : (fields : List Field) (ps : List (List ℕ)) (vs : List (Option ℕ)) → fields_in fields ps ≡ Ok vs → (ps ≡ map piece vs) × AllFit fields vs
 fields_in-ok [] [] vs h = subst (λ ws. ([] ≡ map piece ws) × AllFit [] ws) (same_Ok [] vs h) (refl, tt)
-fields_in-ok [] (p ∷ ps) vs h = absurd cc
-fields_in-ok (field ∷ fields) [] vs h = absurd cc
 fields_in-ok (field ∷ fields) (p ∷ ps) vs h =
     let one = and_then-ok (field_in field p) (λ value. and_then (fields_in fields ps) (λ values. Ok (value ∷ values))) vs h in
     let more = and_then-ok (fields_in fields ps) (λ values. Ok (one.0 ∷ values)) vs one.2 in
@@ -133,11 +130,11 @@ fields_in-ok (field ∷ fields) (p ∷ ps) vs h =
     let rest = fields_in-ok fields ps more.0 more.1 in
     subst (λ ws. (p ∷ ps ≡ map piece ws) × AllFit (field ∷ fields) ws) (same_Ok (one.0 ∷ more.0) vs more.2)
     (ap (λ x. x ∷ ps) first.0 ∙ ap (λ xs. piece one.0 ∷ xs) rest.0, (first.1, rest.1))
+fields_in-ok _ _ vs h = absurd cc
 
 pub fields_in-pieces : (fields : List Field) (vs : List (Option ℕ)) → AllFit fields vs → fields_in fields (map piece vs) ≡ Ok vs
 fields_in-pieces [] [] h = refl
-fields_in-pieces [] (v ∷ vs) h = absurd h
-fields_in-pieces (field ∷ fields) [] h = absurd h
 fields_in-pieces (field ∷ fields) (v ∷ vs) h =
     ap (λ r. and_then r (λ value. and_then (fields_in fields (map piece vs)) (λ values. Ok (value ∷ values)))) (field_in-piece field v h.0)
     ∙ ap (λ r. and_then r (λ values. Ok (v ∷ values))) (fields_in-pieces fields vs h.1)
+fields_in-pieces _ _ h = absurd h

@@ -40,9 +40,8 @@ lines_from w m s n = filter_map (line_due w m) (filter (must_interrupt w m) (spa
 
 -- that of one space
 abbrev one_line : Bool → Option ℕ → List Record
-one_line false o = []
-one_line true None = []
 one_line true (Some q) = Line (proc_no q) ∷ []
+one_line _ _ = []
 
 front : (w : WorkloadView) (m : Readings) (b : Bool) (o : Option ℕ) (s : ℕ) (ss : List SpaceNo) → least_below w.processors (can_be_raised m (space_no s)) ≡ o
     → filter_map (line_due w m) (cond b (space_no s ∷ ss) ss) ≡ one_line b o ++ filter_map (line_due w m) ss
@@ -106,25 +105,22 @@ raised-for w m s q is =
 must-other : (w : WorkloadView) (e : ℕ) (p : ProcNo) (m : Readings) (b : Bool) (o : Option ℕ) (s t : ℕ) → t ≢ s
     → least_below w.processors (can_be_raised m (space_no s)) ≡ o
     → must_interrupt w (after_records w e p m (one_line b o)) (space_no t) ≡ must_interrupt w m (space_no t)
-must-other w e p m false o s t apart is = refl
-must-other w e p m true None s t apart is = refl
 must-other w e p m true (Some q) s t apart is =
     ap (λ f. has_untold (untold_at m (space_no t)) && not (fetching_at m (space_no t)) && is_none (least_below w.processors f))
     (will-same w e p m q s t apart (raised-for w m s q is).owner)
+must-other w e p m _ _ s t apart is = refl
 
 due-other : (w : WorkloadView) (e : ℕ) (p : ProcNo) (m : Readings) (b : Bool) (o : Option ℕ) (s t : ℕ) → t ≢ s
     → least_below w.processors (can_be_raised m (space_no s)) ≡ o → line_due w (after_records w e p m (one_line b o)) (space_no t) ≡ line_due w m (space_no t)
-due-other w e p m false o s t apart is = refl
-due-other w e p m true None s t apart is = refl
 due-other w e p m true (Some q) s t apart is =
     ap (λ f. option_map (λ i. Line (proc_no i)) (least_below w.processors f)) (can-same w e p m q s t apart (raised-for w m s q is).owner)
+due-other w e p m _ _ s t apart is = refl
 
 one-lawful : (w : WorkloadView) (e : ℕ) (p : ProcNo) (m : Readings) (b : Bool) (o : Option ℕ) (s : ℕ) (rest : List Record)
     → least_below w.processors (can_be_raised m (space_no s)) ≡ o → AreLawful w e p (after_records w e p m (one_line b o)) rest
     → AreLawful w e p m (one_line b o ++ rest)
-one-lawful w e p m false o s rest is law = law
-one-lawful w e p m true None s rest is law = law
 one-lawful w e p m true (Some q) s rest is law = (record { once = tt; named = tt; all = tt; gives = tt; raises = (raised-for w m s q is).low }, law)
+one-lawful w e p m _ _ s rest is law = law
 
 abbrev pub AreLines : List Record → Type 0
 AreLines xs = list_all is_line xs ≡ true

@@ -8,7 +8,7 @@ use Rattle.sa_base.specs.declared.number.SpaceNo.{SpaceNo}
 use Rattle.sa_base.specs.declared.number.ActNo.{ActNo}
 use Rattle.sa_base.specs.declared.context.Stopped.{Stopped}
 use Rattle.sa_base.specs.declared.record.Note.{Note}
-use Rattle.sa_base.specs.declared.record.Note.TheVariants.{Add, Preempted, Blocked, Unblocked}
+use Rattle.sa_base.specs.declared.record.Note.TheVariants.{Preempted, Unblocked}
 use Rattle.sa_base.specs.declared.record.Item.{Item}
 use Rattle.sa_base.specs.Items.{items_at}
 use Rattle.sa_lemmas.proofs.Options.{none-is}
@@ -26,18 +26,14 @@ use Rattle.sa_kernel_model.proofs.sound.Prompt.{IsEven, even-interrupt_one, size
 
 -- a raised line stays raised, and a low one was low, where another is raised
 raised-stays : (xs : List (Option ℕ)) (q r e : ℕ) → is_some (get_or xs r None) ≡ true → is_some (get_or (slice_set xs q (Some e)) r None) ≡ true
-raised-stays [] q r e h = h
 raised-stays (x ∷ xs) zero zero e h = refl
-raised-stays (x ∷ xs) zero (suc r) e h = h
-raised-stays (x ∷ xs) (suc q) zero e h = h
 raised-stays (x ∷ xs) (suc q) (suc r) e h = raised-stays xs q r e h
+raised-stays _ _ _ e h = h
 
 low-before : (xs : List (Option ℕ)) (q r e : ℕ) → is_none (get_or (slice_set xs q (Some e)) r None) ≡ true → is_none (get_or xs r None) ≡ true
-low-before [] q r e h = h
 low-before (x ∷ xs) zero zero e h = absurd cc
-low-before (x ∷ xs) zero (suc r) e h = h
-low-before (x ∷ xs) (suc q) zero e h = h
 low-before (x ∷ xs) (suc q) (suc r) e h = low-before xs q r e h
+low-before _ _ _ e h = h
 
 -- the parts of what is true of all
 both-last : (b c d : Bool) → (c ≡ true → d ≡ true) → (b && c) ≡ true → (b && d) ≡ true
@@ -169,8 +165,6 @@ module _ {C : Type 0} where
   rests-handed (Some held) a k none = none
 
   pub rests-fetched : (notes : List Note) (k : KernelState C) → NoLineIsDue k → NoLineIsDue (after_fetch notes k)
-  rests-fetched [] k none = none
-  rests-fetched (Add p ∷ notes) k none = none
-  rests-fetched (Blocked a ∷ notes) k none = none
   rests-fetched (Preempted a ∷ notes) k none = rests-handed (held_of (k.acts a.0)) a (record k { telling = notes }) none
   rests-fetched (Unblocked a ∷ notes) k none = rests-handed (held_of (k.acts a.0)) a (record k { telling = notes }) none
+  rests-fetched _ k none = none

@@ -8,7 +8,7 @@ use Rattle.std.proofs.lemmas.List.Elements.{Contains-append_right}
 use Rattle.sa_base.specs.declared.number.SpaceNo.{SpaceNo}
 use Rattle.sa_base.specs.declared.number.ProcNo.{ProcNo}
 use Rattle.sa_base.specs.declared.record.Note.{Note}
-use Rattle.sa_base.specs.declared.record.Note.TheVariants.{Add, Preempted, Blocked, Unblocked}
+use Rattle.sa_base.specs.declared.record.Note.TheVariants.{Preempted}
 use Rattle.sa_base.specs.declared.record.Record.{Record}
 use Rattle.sa_base.specs.declared.record.Record.TheVariants.{Want}
 use Rattle.sa_base.specs.Items.{items_at}
@@ -142,10 +142,8 @@ none-wanted w e p m n t demands untold = elim (cases_lt t n) [
 
 module _ {C : Type 0} where
   pub heard : (k : KernelState C) (m : Readings) (s : ℕ) → IdleAlike k m → (n : Note) → Contains (untold_of k s) n → must_hear m n ≡ calls_for k n
-  heard k m s idle (Add q) has = refl
   heard k m s idle (Preempted a) has = ap not (idle s a has)
-  heard k m s idle (Blocked a) has = refl
-  heard k m s idle (Unblocked a) has = refl
+  heard k m s idle _ has = refl
 
   pub must-same : (k : KernelState C) (m : Readings) (s : ℕ) → overview m ≡ read_off k → IdleAlike k m → must_want m (space_no s) ≡ must_in k s
   must-same k m s reads idle =

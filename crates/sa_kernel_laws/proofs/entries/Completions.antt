@@ -318,16 +318,13 @@ give-laws w e p r s (a ∷ ids) rest has distinct within is law =
     )
 
 take-set : (n : ℕ) (xs : List (List ActNo)) (i : ℕ) (x : List ActNo) → take n (slice_set xs i x) ≡ slice_set (take n xs) i x
-take-set zero xs i x = refl
-take-set (suc n) [] i x = refl
-take-set (suc n) (y ∷ xs) zero x = refl
 take-set (suc n) (y ∷ xs) (suc i) x = ap (λ ys. y ∷ ys) (take-set n xs i x)
+take-set _ _ _ x = refl
 
 take-at : (n : ℕ) (xs : List (List ActNo)) (i : ℕ) → i < n → get_or (take n xs) i [] ≡ get_or xs i []
 take-at zero xs i below = absurd (omega arith)
-take-at (suc n) [] i below = refl
-take-at (suc n) (y ∷ xs) zero below = refl
 take-at (suc n) (y ∷ xs) (suc i) below = take-at n xs i (omega arith)
+take-at (suc n) _ _ below = refl
 
 give-own : (ids : List ActNo) → AreOwn (map GiveBack ids)
 give-own [] = refl

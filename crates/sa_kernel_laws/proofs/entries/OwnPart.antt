@@ -100,8 +100,7 @@ own-others (x ∷ xs) own = (and_parts (is_own x) (list_all is_own xs) own).1
 
 own-one : (x : Record) → is_own x ≡ true → is_no_aim x ≡ true
 own-one (Aim q (Some s)) own = absurd (cc)
-own-one (Aim q None) own = refl
-own-one x own = refl
+own-one _ own = refl
 
 pub own-no_aim : (xs : List Record) → AreOwn xs → list_all is_no_aim xs ≡ true
 own-no_aim [] own = refl

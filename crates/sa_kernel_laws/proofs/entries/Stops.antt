@@ -83,9 +83,8 @@ note-number a b is = cc
 
 -- a passage is an interrupt that stops nobody
 passage-interrupt : (xs : List Record) → IsPassage xs → IsInterrupt xs
-passage-interrupt [] passes = passes
 passage-interrupt (Stop s t a ∷ xs) passes = absurd passes
-passage-interrupt (x ∷ xs) passes = passes
+passage-interrupt _ passes = passes
 
 -- a life was idle where it was stopped, as its context says
 abbrev pub WasStopped : {C : Type 0} → Readings → ActNo → Stopped C → Type 0

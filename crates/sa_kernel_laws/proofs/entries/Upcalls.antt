@@ -6,7 +6,7 @@ use Rattle.sa_base.specs.declared.number.SpaceNo.{SpaceNo}
 use Rattle.sa_base.specs.declared.number.ProcNo.{ProcNo}
 use Rattle.sa_base.specs.declared.number.ActNo.{ActNo}
 use Rattle.sa_base.specs.declared.record.Note.{Note}
-use Rattle.sa_base.specs.declared.record.Note.TheVariants.{Add, Preempted, Blocked, Unblocked}
+use Rattle.sa_base.specs.declared.record.Note.TheVariants.{Add}
 use Rattle.sa_base.specs.declared.record.Record.{Record}
 use Rattle.sa_base.specs.declared.record.Record.TheVariants.{Told}
 use Rattle.sa_spaces.specs.Workload.{WorkloadView}
@@ -44,9 +44,7 @@ untold-head r s us n ns within is =
 
 tells-head : (r : Readings) (s : SpaceNo) (n : Note) → Contains (untold_of r s) n → IsUntoldTo r (Some s) n
 tells-head r s (Add q) has = tt
-tells-head r s (Preempted a) has = has
-tells-head r s (Blocked a) has = has
-tells-head r s (Unblocked a) has = has
+tells-head r s _ has = has
 
 pub told-lawful : (w : WorkloadView) (e : ℕ) (p : ProcNo) (r : Readings) (s : SpaceNo) (a : ActNo) (us : List (List Note)) (ns : List Note) (rest : List Record)
     → s.0 < length us → r.untold ≡ slice_set us s.0 ns → AreOnce (slice_set us s.0 ns) → r.upped ≡ Some a → (overview r).spaces a.0 ≡ Some s

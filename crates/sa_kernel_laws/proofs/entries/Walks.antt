@@ -67,9 +67,8 @@ items-both e p x y z xs ys one two =
 
 -- the closing's records after a run of others
 pub closing-told : (xs : List Record) → AreClosing xs → told_run xs ≡ []
-closing-told [] is = refl
 closing-told (Told n ∷ xs) is = absurd (cc)
-closing-told (x ∷ xs) is = refl
+closing-told _ is = refl
 
 pub told-behind : (ns : List Note) (xs : List Record) → AreClosing xs → told_run (map Told ns ++ xs) ≡ ns
 told-behind [] xs is = closing-told xs is

@@ -44,10 +44,9 @@ idles-handed upped a (Some from) lives =
     idles-with (inherits from) upped (with_life bereft (Some a) lives) (λ l. refl) ∙ idles-with bereft (Some a) lives (λ l. refl)
 
 told-idles : (w : WorkloadView) (e : ℕ) (p : ProcNo) (r : Readings) (n : Note) → idles (after_record w e p r (Told n)).lives ≡ idles r.lives
-told-idles w e p r (note.Add q) = refl
 told-idles w e p r (note.Preempted a) = idles-handed r.upped a (life_of r a) r.lives
-told-idles w e p r (note.Blocked a) = refl
 told-idles w e p r (note.Unblocked a) = idles-handed r.upped a (life_of r a) r.lives
+told-idles w e p r _ = refl
 
 pub told-all_idles : (w : WorkloadView) (e : ℕ) (p : ProcNo) (r : Readings) (ns : List Note) → idles (after_records w e p r (map Told ns)).lives ≡ idles r.lives
 told-all_idles w e p r [] = refl
@@ -101,19 +100,15 @@ idles-ended test w before e after =
     idles-risen test w before e after _ (with_step test w before e after e.records after.lives) ∙ idles-stepped test w before e after e.records after.lives
 
 pub contains-emptied : (us : List (List Note)) (s t : ℕ) (n : Note) → Contains (get_or (slice_set us s []) t []) n → Contains (get_or us t []) n
-contains-emptied [] s t n has = has
 contains-emptied (u ∷ us) zero zero n has = absurd (contains-nil n has)
-contains-emptied (u ∷ us) zero (suc t) n has = has
-contains-emptied (u ∷ us) (suc s) zero n has = has
 contains-emptied (u ∷ us) (suc s) (suc t) n has = contains-emptied us s t n has
+contains-emptied _ _ _ n has = has
 
 pub contains-noted : (us : List (List Note)) (s t : ℕ) (m n : Note) → Contains (get_or (slice_set us s (get_or us s [] ++ m ∷ [])) t []) n
     → Contains (get_or us t []) n ⊎ (m ≡ n)
-contains-noted [] s t m n has = inl has
 contains-noted (u ∷ us) zero zero m n has = Contains-push_cases u m n has
-contains-noted (u ∷ us) zero (suc t) m n has = inl has
-contains-noted (u ∷ us) (suc s) zero m n has = inl has
 contains-noted (u ∷ us) (suc s) (suc t) m n has = contains-noted us s t m n has
+contains-noted _ _ _ m n has = inl has
 
 some-in : (ns : List Note) (m n : Note) → same_note m n ≡ true → Contains ns m → 1 ≤ copies_in n ns
 some-in [] m n same has = absurd (contains-nil m has)

@@ -90,37 +90,27 @@ less-by n f less [] = omega arith
 less-by n f less (m ∷ ms) = let all = sum_by-cons f m ms in let here = less m in let rest = less-by n f less ms in omega arith
 
 stop-less : (a : ActNo) (m : Note) → once_if (same_note m (Preempted a)) ≤ note_claim a.0 m
-stop-less a (Add p) = omega arith
 stop-less a (Preempted b) = flipped b.0 a.0
-stop-less a (Blocked b) = omega arith
-stop-less a (Unblocked b) = omega arith
+stop-less a _ = omega arith
 
 back-less : (a : ActNo) (m : Note) → once_if (same_note m (Unblocked a)) ≤ note_claim a.0 m
-back-less a (Add p) = omega arith
-back-less a (Preempted b) = omega arith
-back-less a (Blocked b) = omega arith
 back-less a (Unblocked b) = flipped b.0 a.0
+back-less a _ = omega arith
 
 block-less : (a : ActNo) (m : Note) → once_if (same_note m (Blocked a)) ≤ block_claim a.0 m
-block-less a (Add p) = omega arith
-block-less a (Preempted b) = omega arith
 block-less a (Blocked b) = flipped b.0 a.0
-block-less a (Unblocked b) = omega arith
+block-less a _ = omega arith
 
 add-less : (p : ProcNo) (m : Note) → once_if (same_note m (Add p)) ≤ add_claim m
 add-less p (Add q) = few (q.0 == p.0) where
   few : (b : Bool) → once_if b ≤ 1
   few true = omega arith
   few false = omega arith
-add-less p (Preempted b) = omega arith
-add-less p (Blocked b) = omega arith
-add-less p (Unblocked b) = omega arith
+add-less p _ = omega arith
 
 pub back-note : (a : ℕ) (m : Note) → back_claim a m ≤ note_claim a m
 back-note a (Add p) = omega arith
-back-note a (Preempted b) = omega arith
-back-note a (Blocked b) = omega arith
-back-note a (Unblocked b) = omega arith
+back-note a _ = omega arith
 
 -- the number of an activation that a notice is of; none where it says of a processor that it was added
 abbrev act_of : Note → Option ℕ

@@ -152,10 +152,9 @@ back-record w e p r s t a =
     (spaces-with (with_hand (one_thread t)) (Some a) r.lives (λ l. refl))
 
 pub told-spaces : (w : WorkloadView) (e : ℕ) (p : ProcNo) (r : Readings) (n : Note) → (overview (after_record w e p r (Told n))).spaces ≡ (overview r).spaces
-told-spaces w e p r (note.Add q) = refl
 told-spaces w e p r (note.Preempted a) = spaces-handed r.upped a (life_of r a) r.lives
-told-spaces w e p r (note.Blocked a) = refl
 told-spaces w e p r (note.Unblocked a) = spaces-handed r.upped a (life_of r a) r.lives
+told-spaces w e p r _ = refl
 
 pub give-record : (w : WorkloadView) (e : ℕ) (p : ProcNo) (r : Readings) (a : ActNo)
     → (overview (after_record w e p r (GiveBack a))).spaces ≡ put (overview r).spaces a.0 None

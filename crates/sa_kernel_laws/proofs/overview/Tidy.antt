@@ -25,11 +25,10 @@ pub record AreTidy (untold : List (List Note)) (ios : List Io) : Type 0 where
 
 -- a list of notices that are told
 emptied : (us : List (List Note)) (s t : ℕ) → (get_or (slice_set us s []) t [] ≡ []) ⊎ (get_or (slice_set us s []) t [] ≡ get_or us t [])
-emptied [] s t = inl refl
-emptied (u ∷ us) zero zero = inl refl
 emptied (u ∷ us) zero (suc t) = inr refl
 emptied (u ∷ us) (suc s) zero = inr refl
 emptied (u ∷ us) (suc s) (suc t) = emptied us s t
+emptied _ _ _ = inl refl
 
 pub tidy-emptied : (us : List (List Note)) (ios : List Io) (s : ℕ) → AreTidy us ios → AreTidy (slice_set us s []) ios
 tidy-emptied us ios s tidy = record {
@@ -46,11 +45,10 @@ tidy-emptied us ios s tidy = record {
 
 -- Lists of activations that are given back stay distinct.
 pub distinct-emptied : (ts : List (List ActNo)) (s : ℕ) → ((t : ℕ) → AreDistinct (get_or ts t [])) → (t : ℕ) → AreDistinct (get_or (slice_set ts s []) t [])
-distinct-emptied [] s distinct t = tt
-distinct-emptied (u ∷ ts) zero distinct zero = tt
 distinct-emptied (u ∷ ts) zero distinct (suc t) = distinct (suc t)
 distinct-emptied (u ∷ ts) (suc s) distinct zero = distinct 0
 distinct-emptied (u ∷ ts) (suc s) distinct (suc t) = distinct-emptied ts s (λ i. distinct (suc i)) t
+distinct-emptied _ _ distinct _ = tt
 
 -- a notice more
 pub noted-cases : (us : List (List Note)) (s t : ℕ) (n : Note) → s < length us
@@ -58,12 +56,11 @@ pub noted-cases : (us : List (List Note)) (s t : ℕ) (n : Note) → s < length 
     ⊎ ((t ≡ s) × (get_or (slice_set us s (get_or us s [] ++ n ∷ [])) t [] ≡ get_or us t [] ++ n ∷ []))
 noted-cases [] s t n within = absurd (omega arith)
 noted-cases (u ∷ us) zero zero n within = inr (refl, refl)
-noted-cases (u ∷ us) zero (suc t) n within = inl ((λ is. omega arith), refl)
-noted-cases (u ∷ us) (suc s) zero n within = inl ((λ is. omega arith), refl)
 noted-cases (u ∷ us) (suc s) (suc t) n within = elim (noted-cases us s t n (omega arith)) [
   | inl other ↦ inl ((λ is. other.0 (omega arith)), other.1)
   | inr same ↦ inr (ap suc same.0, same.1)
 ]
+noted-cases (u ∷ us) _ _ n within = inl ((λ is. omega arith), refl)
 
 pub tidy-noted : (us : List (List Note)) (ios new : List Io) (s : ℕ) (n : Note) → s < length us → add_claim n ≡ 0
     → ((a : ℕ) → block_claim a n + sum_by (io_claim s a) ios ≤ sum_by (io_claim s a) new + back_claim a n)

@@ -3,7 +3,7 @@ use Rattle.std.proofs.Common.{◌≡◌, ℕ, zero, suc, ◌<◌, ◌≤◌, ◌
 use Rattle.std.specs.Prelude.{Bool, not, if◌then◌else◌, slice_set, filter}
 use Rattle.sa_base.specs.declared.number.ProcNo.{ProcNo}
 use Rattle.sa_base.specs.declared.record.Note.{Note}
-use Rattle.sa_base.specs.declared.record.Note.TheVariants.{Add, Preempted, Blocked, Unblocked}
+use Rattle.sa_base.specs.declared.record.Note.TheVariants.{Preempted, Unblocked}
 use Rattle.sa_base.specs.declared.record.Record.TheVariants.{Told}
 use Rattle.sa_spaces.specs.Workload.{WorkloadView}
 use Rattle.sa_laws.specs.Readings.{Readings}
@@ -68,9 +68,8 @@ tell-one n (u ∷ us) (suc s) ns within once =
     λ i. here i ∷ rest i
 
 less-set : (n m : Note) (us : List (List Note)) (s : ℕ) (ns : List Note) → copies n (slice_set us s ns) ≤ copies n (slice_set us s (m ∷ ns))
-less-set n m [] s ns = omega arith
-less-set n m (u ∷ us) zero ns = omega arith
 less-set n m (u ∷ us) (suc s) ns = let rest = less-set n m us s ns in omega arith
+less-set n m _ _ ns = omega arith
 
 pub told-left : (n : Note) (us : List (List Note)) (s : ℕ) (ns : List Note) (untold : List (List Note)) → s < length us → untold ≡ slice_set us s (n ∷ ns)
     → AreOnce (slice_set us s (n ∷ ns)) → without_note untold n ≡ slice_set us s ns
@@ -82,14 +81,13 @@ once-left n us s ns once m = omega (arith, less-set m n us s ns, once m)
 -- one told record
 told-one : (w : WorkloadView) (e : ℕ) (p : ProcNo) (r : Readings) (us : List (List Note)) (n : Note) → without_note r.untold n ≡ us
     → overview (after_record w e p r (Told n)) ≡ (record (overview r) { untold = us; taken = taken_by (overview r).spaces n r.taken })
-told-one w e p r us (Add q) is = λ i. record (overview r) { untold = is i }
 told-one w e p r us (Preempted a) is =
     let spaces = told-spaces w e p r (Preempted a) in
     λ i. record (overview r) { spaces = spaces i; untold = is i; taken = taken_by (overview r).spaces (Preempted a) r.taken }
-told-one w e p r us (Blocked a) is = λ i. record (overview r) { untold = is i }
 told-one w e p r us (Unblocked a) is =
     let spaces = told-spaces w e p r (Unblocked a) in
     λ i. record (overview r) { spaces = spaces i; untold = is i; taken = taken_by (overview r).spaces (Unblocked a) r.taken }
+told-one w e p r us _ is = λ i. record (overview r) { untold = is i }
 
 -- all of a space's notices, in order
 pub told-run : (w : WorkloadView) (e : ℕ) (p : ProcNo) (r : Readings) (us : List (List Note)) (s : ℕ) (ns : List Note) → s < length us

@@ -9,7 +9,7 @@ use Rattle.std.proofs.lemmas.Bool.{and_parts}
 use Rattle.sa_base.specs.declared.number.SpaceNo.{SpaceNo}
 use Rattle.sa_base.specs.declared.number.ProcNo.{ProcNo}
 use Rattle.sa_base.specs.declared.record.Note.{Note}
-use Rattle.sa_base.specs.declared.record.Note.TheVariants.{Add, Preempted, Blocked, Unblocked}
+use Rattle.sa_base.specs.declared.record.Note.TheVariants.{Preempted}
 use Rattle.sa_base.specs.declared.record.Record.{Record}
 use Rattle.sa_base.specs.declared.record.Record.TheVariants.{Line}
 use Rattle.sa_spaces.specs.Workload.{WorkloadView}
@@ -40,10 +40,8 @@ use Rattle.sa_kernel_laws.proofs.rules.Upcalls.{each-of}
 
 -- a space must be told alike where demands, notices and idle stops are alike
 hear-alike : (c d : Readings) → idles d.lives ≡ idles c.lives → (n : Note) → must_hear d n ≡ must_hear c n
-hear-alike c d same (Add q) = refl
 hear-alike c d same (Preempted a) = ap (λ f. not (f a.0)) same
-hear-alike c d same (Blocked a) = refl
-hear-alike c d same (Unblocked a) = refl
+hear-alike c d same _ = refl
 
 must-alike : (c d : Readings) (s : SpaceNo) → d.demands ≡ c.demands → d.untold ≡ c.untold → idles d.lives ≡ idles c.lives → must_want d s ≡ must_want c s
 must-alike c d s demands untold idle =

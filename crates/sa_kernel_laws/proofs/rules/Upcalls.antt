@@ -27,12 +27,11 @@ use Rattle.sa_kernel_laws.proofs.turns.Kept.{reads-after, turn-keeps, prompt-in}
 pub owned-map : (owners : List (Option SpaceNo)) (lives : List (Option ActNo)) (f : Option ActNo → Option SpaceNo) → length owners ≡ length lives
     → ((p : ℕ) → get_or owners p None ≡ f (get_or lives p None)) → owners ≡ map f lives
 owned-map [] [] f len same = refl
-owned-map [] (l ∷ lives) f len same = absurd (omega arith)
-owned-map (o ∷ owners) [] f len same = absurd (omega arith)
 owned-map (o ∷ owners) (l ∷ lives) f len same =
     let one = same 0 in
     let rest = owned-map owners lives f (omega arith) (λ p. same (suc p)) in
     λ i. one i ∷ rest i
+owned-map _ _ f len same = absurd (omega arith)
 
 begins-own : (xs rest : List Record) → xs ≢ [] → BeginsAsInterrupt (xs ++ rest) → BeginsAsInterrupt xs
 begins-own [] rest some begins = absurd (some refl)

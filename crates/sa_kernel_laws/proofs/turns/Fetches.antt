@@ -34,18 +34,14 @@ use Rattle.sa_kernel_laws.proofs.overview.Once.{one-held, held-few}
 push-cases : (ts : List (List ActNo)) (s t : ℕ) (a : ActNo)
     → (get_or (slice_set ts s (get_or ts s [] ++ a ∷ [])) t [] ≡ get_or ts t [])
     ⊎ (get_or (slice_set ts s (get_or ts s [] ++ a ∷ [])) t [] ≡ get_or ts t [] ++ a ∷ [])
-push-cases [] s t a = inl refl
 push-cases (u ∷ ts) zero zero a = inr refl
-push-cases (u ∷ ts) zero (suc t) a = inl refl
-push-cases (u ∷ ts) (suc s) zero a = inl refl
 push-cases (u ∷ ts) (suc s) (suc t) a = push-cases ts s t a
+push-cases _ _ _ a = inl refl
 
 take-push : (n : ℕ) (ts : List (List ActNo)) (s : ℕ) (a : ActNo)
     → slice_set (take n ts) s (get_or (take n ts) s [] ++ a ∷ []) ≡ take n (slice_set ts s (get_or ts s [] ++ a ∷ []))
-take-push zero ts s a = refl
-take-push (suc n) [] s a = refl
-take-push (suc n) (u ∷ ts) zero a = refl
 take-push (suc n) (u ∷ ts) (suc s) a = ap (λ xs. u ∷ xs) (take-push n ts s a)
+take-push _ _ _ a = refl
 
 distinct-push : (ids : List ActNo) (a : ActNo) → ((b : ActNo) → Contains ids b → b.0 ≢ a.0) → AreDistinct ids → AreDistinct (ids ++ a ∷ [])
 distinct-push [] a apart distinct = ((λ b has. absurd (let below = has.1 in omega arith)), tt)

@@ -15,7 +15,7 @@ use Rattle.sa_assign.specs.Aims.{is_aim, least_below}
 use Rattle.sa_assign.specs.Reaim.{reaim_records}
 use Rattle.sa_batch.specs.Notices.{notes_told}
 use Rattle.sa_devices.specs.declared.kind.IoKind.{IoKind}
-use Rattle.sa_devices.specs.declared.kind.IoKind.TheVariants.{Plain, Page, Upcall}
+use Rattle.sa_devices.specs.declared.kind.IoKind.TheVariants.{Plain, Upcall}
 use Rattle.sa_kernel_model.specs.declared.entry.Entry.{Entry}
 use Rattle.sa_kernel_model.specs.declared.entry.Entry.TheVariants as entry
 use Rattle.sa_kernel_model.specs.State.{KernelState, Scene, owner_of, life_of, aim_of, untold_of, is_fetching, can_upcall, says}
@@ -74,11 +74,9 @@ module _ {C : Type 0} where
 
   framed-stopped : (past : List Item) (e : ℕ) (p : ProcNo) (o : Option SpaceNo) (l : Option ActNo) (held : Option (Stopped C)) (x : Scene C)
       → stopped e p o l held (behind past x) ≡ behind past (stopped e p o l held x)
-  framed-stopped past e p None l held x = refl
-  framed-stopped past e p (Some s) None held x = refl
-  framed-stopped past e p (Some s) (Some a) None x = refl
   framed-stopped past e p (Some s) (Some a) (Some h) x =
       framed-says past e p (Stop s h.thread a) (record x { state = put_aside p s a (Preempted a) h x.state })
+  framed-stopped past e p _ _ _ x = refl
 
   framed-aim : (past : List Item) (e : ℕ) (p : ProcNo) (fresh : ActNo) (o : Option SpaceNo) (x : Scene C)
       → go_to_aim e p fresh o (behind past x) ≡ behind past (go_to_aim e p fresh o x)
@@ -99,20 +97,18 @@ module _ {C : Type 0} where
 
   framed-blocked : (past : List Item) (e : ℕ) (p : ProcNo) (fresh : ActNo) (o : Option SpaceNo) (l : Option ActNo) (held : Stopped C) (len : ℕ)
       (page : Option ℕ) (x : Scene C) → blocked_by e p fresh o l held len page (behind past x) ≡ behind past (blocked_by e p fresh o l held len page x)
-  framed-blocked past e p fresh None l held len page x = refl
-  framed-blocked past e p fresh (Some s) None held len page x = refl
   framed-blocked past e p fresh (Some s) (Some a) held len page x =
       let io : IoNo = record { 0 = x.state.io_count } in
       let aside : Scene C = record x { state = put_aside p s a (Blocked a) held (with_io (io_for s a page) (e + len) x.state) } in
       ap (told_or_left e p s fresh (can_upcall x.state s)) (framed-says past e p (BlockRecord s held.thread a io) aside)
       ∙ framed-told past e p s fresh (can_upcall x.state s) (block_begun e p s a held len page x)
+  framed-blocked past e p fresh _ _ held len page x = refl
 
   framed-over : (past : List Item) (e : ℕ) (p : ProcNo) (io : IoNo) (kind : Option IoKind) (x : Scene C)
       → over e p io kind (behind past x) ≡ behind past (over e p io kind x)
   framed-over past e p io None x = refl
   framed-over past e p io (Some (Plain s a)) x = framed-says past e p _ _
-  framed-over past e p io (Some (Page s a k)) x = framed-says past e p _ _
-  framed-over past e p io (Some (Upcall s)) x = framed-says past e p _ _
+  framed-over past e p io _ x = framed-says past e p _ _
 
   framed-more : (past : List Item) (e : ℕ) (p : ProcNo) (n : ℕ) (o : Option SpaceNo) (x : Scene C) → more e p n o (behind past x) ≡ behind past (more e p n o x)
   framed-more past e p n None x = refl

@@ -70,8 +70,7 @@ line-want x line = refl
 
 line-aim : (x : Record) → is_line x ≡ true → is_no_aim x ≡ true
 line-aim (Aim q (Some s)) line = absurd (cc)
-line-aim (Aim q None) line = refl
-line-aim x line = refl
+line-aim _ line = refl
 
 pub own-wants : (xs : List Record) → AreOwn xs → list_all is_no_want xs ≡ true
 own-wants xs own = all-weaker is_own is_no_want own-want xs own
@@ -208,10 +207,8 @@ last-no-aim l (x ∷ xs) none all =
     last-no-aim (Some x) xs (and_parts (is_no_aim x) (list_all is_no_aim xs) all).0 (and_parts (is_no_aim x) (list_all is_no_aim xs) all).1
 
 no-aim-high : (lines : List (Option ℕ)) (l : Option Record) → IsNoAim l → IsHigh lines l
-no-aim-high lines None none q low = refl
 no-aim-high lines (Some (Aim p (Some s))) none q low = absurd (cc)
-no-aim-high lines (Some (Aim p None)) none q low = refl
-no-aim-high lines (Some x) none q low = refl
+no-aim-high lines _ none q low = refl
 
 nothing-more : (l : Option Record) (ll : List Record) (lines : List (Option ℕ)) → IsHigh lines l
     → ((q : ℕ) (others : List Record) → ll ≡ Line (proc_no q) ∷ others → line_at lines q ≡ None) → AreLines ll → before_lines l ll ≡ []

@@ -110,8 +110,6 @@ module _ {C : Type 0} where
     pub aimed_is : aimed ≡ after_records w e p wanted (records_of e wanted.lines (aims_due w e wanted))
     pub lined_is : lined ≡ after_records w e p aimed (lines_due w aimed)
     pub adds : (closed e p y).items ≡ y.items ++ items_at e p (wants_due w m ++ (records_of e wanted.lines (aims_due w e wanted) ++ lines_due w aimed))
-    pub reads_wanted : overview wanted ≡ read_off (wants e p y).state
-    pub reads_aimed : overview aimed ≡ read_off (aims e p (wants e p y)).state
     pub reads : overview lined ≡ read_off (closed e p y).state
     pub fixed : (closed e p y).state.fixed ≡ y.state.fixed
     pub lawful : AreLawful w e p m (wants_due w m ++ (records_of e wanted.lines (aims_due w e wanted) ++ lines_due w aimed))
@@ -163,8 +161,6 @@ module _ {C : Type 0} where
         aimed_is = refl;
         lined_is = refl;
         adds = items-both e p y.items y1.items y3.items wl (al ++ ll) one.adds (items-both e p y1.items y2.items y3.items al ll two.adds three.adds);
-        reads_wanted = one.reads;
-        reads_aimed = two.reads;
         reads = three.reads;
         fixed = three.fixed ∙ one.fixed;
         lawful = wants-lawful w e p m (filter (must_want m) (spaces_of w)) (al ++ ll) (aims-lawful w e p m1 (aims_due w e m1) ll lawful_lines);

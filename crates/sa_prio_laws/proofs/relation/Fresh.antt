@@ -1,5 +1,5 @@
 -- A context with the mark has just come to its instruction or look.
-use Rattle.std.proofs.Common.{◌≡◌, ◌⊎◌, ℕ, zero, suc, Bool, true, false, not, ◌&&◌, ◌||◌, refl, ap, ◌∙◌, inl, inr}
+use Rattle.std.proofs.Common.{◌≡◌, ◌⊎◌, ℕ, zero, Bool, true, false, not, ◌&&◌, ◌||◌, refl, ap, ◌∙◌, inl, inr}
 use Rattle.std.specs.Prelude.{if◌then◌else◌}
 use Rattle.sa_base.specs.declared.record.Record.{Record}
 use Rattle.sa_base.specs.declared.record.Record.TheVariants as records
@@ -18,8 +18,7 @@ fresh-when true looks none = ap (is_fresh true) (none refl)
 
 pub fresh-is : (urge : Bool) (looks : ℕ) (more : Bool) → (is_fresh urge looks && more) ≡ true → urge ≡ true → looks ≡ 0
 fresh-is true zero more both is = refl
-fresh-is true (suc n) more both is = absurd cc
-fresh-is false looks more both is = absurd cc
+fresh-is _ _ more both is = absurd cc
 
 -- a record that settles its life ends its scans
 pub settles-scans : (r last : Readings) (x : Record) (n : ℕ) → settles r last x ≡ true → scans_after r x n ≡ 0

@@ -34,9 +34,8 @@ use Rattle.sa_prio_laws.specs.Ready.{FitsRanked}
 
 -- where there is one list, a thread is in that or in none
 one-list : (ls : List (List ℕ)) (t : ℕ) → length ls ≡ 1 → count_in_all t ls ≡ count_in t (slice_index_or ls 0 [])
-one-list [] t one = absurd (omega arith)
 one-list (xs ∷ []) t one = let sum = sum_by-cons (count_in t) xs [] in let none : sum_by (count_in t) [] ≡ 0 = refl in omega arith
-one-list (xs ∷ ys ∷ ls) t one = absurd (omega arith)
+one-list _ t one = absurd (omega arith)
 
 -- where a thread is Ready in the history, the package keeps it so
 stage-unready : (g : Stage) (y : ProcNo) → is_ready (place_of g y) ≡ false

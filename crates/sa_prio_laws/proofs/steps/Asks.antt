@@ -132,9 +132,8 @@ module _ (set : Setting) (e : ℕ) (v : Prio) (cs : Contexts PrioContext) (w : W
         (i.others y d l ne mine (sym (t.lives y d mine) ∙ sym (ap (λ (f : ℕ → Option Life). f y.0) lives) ∙ is))
 
     or-more : (b z y : Bool) → (b || z) ≡ true → (b || (z || y)) ≡ true
-    or-more true z y some = refl
-    or-more false true y some = refl
     or-more false false y none = absurd cc
+    or-more _ _ y some = refl
 
     pub ask-legal : IsLegalAsk prio_calls prio_threads prio_fits w set r p seen.event a cs (record { user = now; ctx = asking; says = []; answer = answer })
     ask-legal = record {
