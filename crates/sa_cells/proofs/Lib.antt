@@ -2,3 +2,4 @@ mod Joined
 mod PlainPieces
 mod PlainWords
 mod Plain
+mod Holders

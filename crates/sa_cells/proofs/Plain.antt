@@ -1,5 +1,5 @@
 -- The names and texts of cells hold no sign of markup.
-use Rattle.std.proofs.Common.{◌≡◌, ℕ, Bool, true, List, [], ◌++◌, length, Option, Some, None, refl}
+use Rattle.std.proofs.Common.{◌≡◌, ℕ, ◌-◌, Bool, true, List, [], ◌∷◌, ◌++◌, length, Option, Some, None, refl}
 use Rattle.std.specs.Prelude.{codes, decimal, nat_lt, ◌==◌, if◌then◌else◌, slice_index}
 use Rattle.std.specs.List.{flat_map}
 use Rattle.sa_base.specs.declared.number.ProcNo.{ProcNo}
@@ -9,6 +9,7 @@ use Rattle.sa_base.specs.declared.number.ActNo.{ActNo}
 use Rattle.sa_base.specs.declared.record.Note.{Note}
 use Rattle.sa_base.specs.declared.record.Note.TheVariants as note
 use Rattle.sa_instr.specs.declared.instr.Instr.{Instr}
+use Rattle.sa_instr.specs.declared.instr.Instr.TheVariants as instr
 use Rattle.sa_instr.specs.declared.operand.Operand.{Operand}
 use Rattle.sa_instr.specs.declared.operand.Operand.TheVariants as operand
 use Rattle.sa_instr.specs.declared.operation.Operation.{Operation}
@@ -20,7 +21,7 @@ use Rattle.sa_workload_lines.specs.Text.{operand_word}
 use Rattle.sa_sync.specs.Sync.{Sync, Mutex, Semaphore, mutex_at, semaphore_at}
 use Rattle.sa_laws.specs.declared.place.Place.{Place}
 use Rattle.sa_laws.specs.declared.place.Place.TheVariants as place
-use Rattle.sa_laws.specs.State.{State, SpaceState, space_at, thread_at, instr_of, is_due}
+use Rattle.sa_laws.specs.State.{State, SpaceState, space_at, thread_at, instr_of}
 use Rattle.sa_laws.specs.Life.{Life, Lock}
 use Rattle.sa_laws.specs.Readings.{Readings, Listed, life_of, life_on, line_of, owner_of, aim_of, running_of, demand_of, untold_of, ready_of, counts}
 use Rattle.sa_laws.specs.Step.{has_io}
@@ -33,7 +34,7 @@ use Rattle.sa_cells.specs.Name.{of_space, name_of}
 use Rattle.sa_cells.specs.Processor.{line_text, handler_text, copy_text, thread_text as thread_in_text, carrying_text, runs_in, carried_on}
 use Rattle.sa_cells.specs.Space.{note_text, listed_in, held_or, held_if, lock_at, first_holder}
 use Rattle.sa_cells.specs.Life.{is_on, is_untold, off_text, resting_text, on_or_off, place_text as life_place, lock_text, hand_thread, hand_text, locks_text, of_life}
-use Rattle.sa_cells.specs.Thread.{operand_text, instr_text, place_text, next_text, going_text, made_text, is_made}
+use Rattle.sa_cells.specs.Thread.{operand_text, instr_text, place_text, next_text, going_text, standing_text, held_by, awaited_text, waiting_text, waits, made_text, is_made}
 use Rattle.sa_cells.specs.Sync.{queue_text, holder_text, mutex_text, semaphore_text, mutex_in, semaphore_in, cell_in, of_sync}
 use Rattle.sa_cells.specs.Text.{text_of}
 use Rattle.sa_svg.proofs.Plain.{plain-append}
@@ -168,13 +169,13 @@ plain-instr i =
     plain-append (form_of (parts_of i).operation).word (flat_map operand_text (parts_of i).operands) (plain-operation (parts_of i).operation)
     (plain-each operand_text (λ o. plain-append (codes " ") (operand_word o) refl (plain-operand o)) (parts_of i).operands)
 
-plain-standing : (p : Place) (due : Bool) → is_plain (place_text p due) ≡ true
-plain-standing (place.Running p) due = plain-numbered (codes "runs on processor ") p.0 refl
-plain-standing place.Ready due = refl
-plain-standing place.Blocked due = refl
-plain-standing place.Waiting due = plain-choice due (codes "to be made ready") (codes "waits") refl refl
-plain-standing place.Carried due = refl
-plain-standing place.Done due = refl
+plain-place-of : (p : Place) → is_plain (place_text p) ≡ true
+plain-place-of (place.Running p) = plain-numbered (codes "runs on processor ") p.0 refl
+plain-place-of place.Ready = refl
+plain-place-of place.Blocked = refl
+plain-place-of place.Waiting = refl
+plain-place-of place.Carried = refl
+plain-place-of place.Done = refl
 
 plain-next : (pc : ℕ) (i : Instr) → is_plain (next_text pc i) ≡ true
 unfolding next_text
@@ -182,22 +183,36 @@ plain-next pc i =
     plain-append (one (codes ", at ") pc (codes ": ")) (instr_text i) (plain-one (codes ", at ") pc (codes ": ") refl refl) (plain-instr i)
 
 plain-going : (p : Place) (pc : ℕ) (i : Instr) → is_plain (going_text p pc i) ≡ true
-plain-going (place.Running p) pc i = plain-next pc i
-plain-going place.Ready pc i = plain-next pc i
-plain-going place.Blocked pc i = plain-next pc i
-plain-going place.Waiting pc i = plain-next pc i
-plain-going place.Carried pc i = plain-next pc i
 plain-going place.Done pc i = refl
+plain-going p pc i = plain-next pc i
 
-plain-made : (p : Place) (due : Bool) (pc : ℕ) (i : Instr) → is_plain (made_text p due pc i) ≡ true
-unfolding made_text
-plain-made p due pc i = plain-append (place_text p due) (going_text p pc i) (plain-standing p due) (plain-going p pc i)
+plain-standing : (p : Place) (pc : ℕ) (i : Instr) → is_plain (standing_text p pc i) ≡ true
+unfolding standing_text
+plain-standing p pc i = plain-append (place_text p) (going_text p pc i) (plain-place-of p) (plain-going p pc i)
+
+plain-held-by : (t : Option ℕ) → is_plain (held_by t) ≡ true
+plain-held-by None = refl
+plain-held-by (Some t) = plain-one (codes ", which thread ") t (codes " holds") refl refl
+
+plain-awaited : (x : Sync) (i : Instr) → is_plain (awaited_text x i) ≡ true
+plain-awaited x (instr.Lock m) =
+    plain-append (numbered (codes ", for mutex ") m) (held_by (mutex_at x m).holder) (plain-numbered (codes ", for mutex ") m refl)
+    (plain-held-by (mutex_at x m).holder)
+plain-awaited x (instr.Wait k) = plain-numbered (codes ", for semaphore ") k refl
+plain-awaited x (instr.Join r) = refl
+plain-awaited x _ = refl
+
+plain-waiting : (x : Sync) (i : Instr) → is_plain (waiting_text x i) ≡ true
+unfolding waiting_text
+plain-waiting x i =
+    plain-append (codes "waits in " ++ instr_text i) (awaited_text x i) (plain-append (codes "waits in ") (instr_text i) refl (plain-instr i)) (plain-awaited x i)
 
 -- of what is waited on
 plain-queue : (queue : List ℕ) → is_plain (queue_text queue) ≡ true
-plain-queue queue =
-    plain-append (codes ", queue") (flat_map (numbered (codes " ")) queue) refl
-    (plain-each (numbered (codes " ")) (λ n. plain-numbered (codes " ") n refl) queue)
+plain-queue [] = refl
+plain-queue (t ∷ ts) =
+    plain-append (codes ", queue") (flat_map (numbered (codes " ")) (t ∷ ts)) refl
+    (plain-each (numbered (codes " ")) (λ n. plain-numbered (codes " ") n refl) (t ∷ ts))
 
 plain-holding : (t : Option ℕ) → is_plain (holder_text t) ≡ true
 plain-holding None = refl
@@ -215,34 +230,36 @@ plain-semaphore k =
 plain-of : (text : Sync → List ℕ) → ((x : Sync) → is_plain (text x) ≡ true) → (a : State) (s : SpaceNo) → is_plain (of_sync text a s) ≡ true
 plain-of text p a s = plain-choice (nat_lt s.0 (length a.spaces)) (text (space_at a s).sync) (codes "-") (p (space_at a s).sync) refl
 
-pub plain-text : (m : Seen) (c : Cell) → is_plain (text_of m c) ≡ true
-plain-text m (Owner p) = plain-space (owner_of m.readings p)
-plain-text m (Aim p) = plain-space (aim_of m.readings p)
-plain-text m (Line p) = plain-line (line_of m.readings p)
-plain-text m (Activation p) = plain-act (running_of m.readings p)
-plain-text m (Runs p) = plain-runs (life_on m.readings p) (carried_on m.readings p)
-plain-text m (Demand s) = plain-decimal (demand_of m.readings s)
-plain-text m (Untold s) = plain-each note_text plain-note (untold_of m.readings s)
-plain-text m (Holder s l) = plain-holder m.readings s l (first_holder m.readings s l)
-plain-text m (ListOf s l) = plain-each (listed_in l) (plain-listed l) (ready_of m.readings s)
-plain-text m (Thread s t) =
+pub plain-text : (ups : List ActNo) (m : Seen) (c : Cell) → is_plain (text_of ups m c) ≡ true
+plain-text ups m (Owner p) = plain-space (owner_of m.readings p)
+plain-text ups m (Aim p) = plain-space (aim_of m.readings p)
+plain-text ups m (Line p) = plain-line (line_of m.readings p)
+plain-text ups m (Activation p) = plain-act (running_of m.readings p)
+plain-text ups m (Runs p) = plain-runs (life_on m.readings p) (carried_on m.readings p)
+plain-text ups m (Demand s) = plain-decimal (demand_of m.readings s)
+plain-text ups m (Untold s) = plain-each note_text plain-note (untold_of m.readings s)
+plain-text ups m (Holder s l) = plain-holder m.readings s l (first_holder m.readings ups s l)
+plain-text ups m (ListOf s l) = plain-each (listed_in l) (plain-listed l) (ready_of m.readings s)
+plain-text ups m (Thread s t) =
     let a = m.readings.state in
     let thread = thread_at a s t in
+    let x = (space_at a s).sync in
     let i = instr_of m.workload a s t thread.pc in
-    plain-choice (is_made a s t) (made_text thread.place (is_due (space_at a s) t) thread.pc i) (codes "-")
-    (plain-made thread.place (is_due (space_at a s) t) thread.pc i) refl
-plain-text m (MutexOf s k) =
+    let j = instr_of m.workload a s t (thread.pc - 1) in
+    plain-choice (is_made a s t) (made_text m.workload a s t) (codes "-")
+    (plain-choice (waits a s t) (waiting_text x j) (standing_text thread.place thread.pc i) (plain-waiting x j) (plain-standing thread.place thread.pc i)) refl
+plain-text ups m (MutexOf s k) =
     plain-of (λ x. mutex_in x k) (λ x. plain-choice (nat_lt k (length x.mutexes)) (mutex_text (mutex_at x k)) (codes "-") (plain-mutex (mutex_at x k)) refl)
     m.readings.state s
-plain-text m (SemaphoreOf s k) =
+plain-text ups m (SemaphoreOf s k) =
     plain-of (λ x. semaphore_in x k)
     (λ x. plain-choice (nat_lt k (length x.semaphores)) (semaphore_text (semaphore_at x k)) (codes "-") (plain-semaphore (semaphore_at x k)) refl)
     m.readings.state s
-plain-text m (Shared s c) =
+plain-text ups m (Shared s c) =
     plain-of (λ x. cell_in x c) (λ x. plain-choice (nat_lt c (length x.cells)) (decimal (slice_index x.cells c)) (codes "-") (plain-decimal (slice_index x.cells c)) refl)
     m.readings.state s
-plain-text m (Where a) = plain-life (life_place m.readings a) (plain-place m.readings a) (life_of m.readings a)
-plain-text m (Locks a) = plain-life (λ (life : Life). locks_text life.locks) (λ life. plain-each lock_text plain-lock life.locks) (life_of m.readings a)
-plain-text m (Hand a) =
+plain-text ups m (Where a) = plain-life (life_place m.readings a) (plain-place m.readings a) (life_of m.readings a)
+plain-text ups m (Locks a) = plain-life (λ (life : Life). locks_text life.locks) (λ life. plain-each lock_text plain-lock life.locks) (life_of m.readings a)
+plain-text ups m (Hand a) =
     plain-life (hand_text m.readings) (λ life. plain-each (hand_thread (space_at m.readings.state life.space)) (plain-hand (space_at m.readings.state life.space)) life.hand)
     (life_of m.readings a)

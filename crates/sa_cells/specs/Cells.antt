@@ -76,6 +76,14 @@ each_once found (a ∷ acts) = each_once (with_act found a) acts
 abbrev pub acts_of : Seen → List Record → List ActNo
 acts_of before records = each_once [] (all_acts before records)
 
+-- the activations of the ups of records
+abbrev pub up_in : Record → List ActNo
+up_in (the.Up s a) = a ∷ []
+up_in other = []
+
+abbrev pub ups_in : List Record → List ActNo
+ups_in records = flat_map up_in records
+
 -- the cells of a moment behind an event with these records, and the moment before it
 unfoldable pub cells_of : Seen → Seen → List Record → List Cell
 cells_of before m records =

@@ -2,6 +2,7 @@
 use Rattle.std.specs.Prelude.{ℕ, List, [], ◌++◌, codes, decimal, if◌then◌else◌}
 use Rattle.std.specs.List.{flat_map}
 use Rattle.std.specs.Str.{bytes_eq}
+use Rattle.sa_base.specs.declared.number.ActNo.{ActNo}
 use Rattle.sa_base.specs.declared.record.Record.{Record}
 use Rattle.sa_check_moment.specs.Seen.{Seen}
 use Rattle.sa_cells.specs.declared.cell.Cell.{Cell}
@@ -15,17 +16,17 @@ cell_line time name text = time ++ codes " " ++ name ++ codes " " ++ text ++ cod
 
 -- before any event
 abbrev pub opening_line : Seen → Cell → List ℕ
-opening_line m c = cell_line (codes "-") (name_of c) (text_of m c)
+opening_line m c = cell_line (codes "-") (name_of c) (text_of [] m c)
 
 unfoldable pub opening_lines : Seen → List ℕ
 opening_lines m = flat_map (opening_line m) (cells_of m m [])
 
--- behind an event: the cell, where its text is another one than before
+-- after an event, with all ups up to then: the cell, if its text is another one than before
 abbrev pub changed_line : ℕ → List ℕ → List ℕ → List ℕ → List ℕ
 changed_line event name old new = if bytes_eq old new then [] else cell_line (decimal event) name new
 
-abbrev pub change_line : ℕ → Seen → Seen → Cell → List ℕ
-change_line event before m c = changed_line event (name_of c) (text_of before c) (text_of m c)
+abbrev pub change_line : ℕ → List ActNo → Seen → Seen → Cell → List ℕ
+change_line event ups before m c = changed_line event (name_of c) (text_of ups before c) (text_of ups m c)
 
-unfoldable pub change_lines : ℕ → Seen → Seen → List Record → List ℕ
-change_lines event before m records = flat_map (change_line event before m) (cells_of before m records)
+unfoldable pub change_lines : ℕ → List ActNo → Seen → Seen → List Record → List ℕ
+change_lines event ups before m records = flat_map (change_line event ups before m) (cells_of before m records)

@@ -1,6 +1,7 @@
 -- What holds of every text that is written of cells and records.
-use Rattle.std.specs.Prelude.{◌≡◌, true}
+use Rattle.std.specs.Prelude.{◌≡◌, Bool, true, List}
 use Rattle.sa_base.specs.declared.record.Record.{Record}
+use Rattle.sa_base.specs.declared.number.ActNo.{ActNo}
 use Rattle.sa_svg.specs.Laws.{is_plain}
 use Rattle.sa_check_moment.specs.Seen.{Seen}
 use Rattle.sa_cells.specs.declared.cell.Cell.{Cell}
@@ -13,7 +14,7 @@ abbrev pub NamesArePlain : Type 0
 NamesArePlain = (c : Cell) → is_plain (name_of c) ≡ true
 
 abbrev pub TextsArePlain : Type 0
-TextsArePlain = (m : Seen) (c : Cell) → is_plain (text_of m c) ≡ true
+TextsArePlain = (ups : List ActNo) (m : Seen) (c : Cell) → is_plain (text_of ups m c) ≡ true
 
 abbrev pub WordsArePlain : Type 0
-WordsArePlain = (what : Record) → is_plain (words_of what) ≡ true
+WordsArePlain = (in_copy : Bool) (what : Record) → is_plain (words_of in_copy what) ≡ true

@@ -32,7 +32,8 @@ listed_in l x = if x.list.0 == l.0 then numbered (codes " ") x.thread.0 else []
 abbrev pub list_text : ProcNo → List Listed → List ℕ
 list_text l listed = flat_map (listed_in l) listed
 
--- the lives among which the holder of a lock is looked for: those that run, those with an I/O under way, and those of which the space was not told
+-- the lives among which the holder of a lock is looked for first: those that run, those with an I/O under way, and those of which the
+-- space was not told
 abbrev pub act_if : Option ActNo → List ActNo
 act_if None = []
 act_if (Some a) = a ∷ []
@@ -59,8 +60,7 @@ abbrev pub candidates : Readings → SpaceNo → List ActNo
 candidates r s =
     flat_map act_if r.running ++ flat_map (io_act r) (range_with_len 0 (length r.under_way)) ++ flat_map act_of_note (untold_of r s)
 
--- the lock of a list, where a life has it
-
+-- the lock of a list, if a life has it
 abbrev pub lock_among : ProcNo → List Lock → Option Lock
 lock_among l locks = find (λ (lock : Lock). lock.list.0 == l.0) locks
 
@@ -71,7 +71,7 @@ lock_in s l (Some life) = if life.space.0 == s.0 then lock_among l life.locks el
 abbrev pub lock_at : Readings → SpaceNo → ProcNo → ActNo → Option Lock
 lock_at r s l a = lock_in s l (life_of r a)
 
--- who holds the lock of a list: the first of these lives that has it, and the thread of the lock
+-- who holds the lock of a list: the first of these lives that has it, else the first of all that ever were; and the thread of the lock
 abbrev pub held_text : ActNo → Option ThreadNo → List ℕ
 held_text a t = numbered (codes "activation ") a.0 ++ and_thread t
 
@@ -86,8 +86,8 @@ held_if r s l (Some a) = held_or (lock_at r s l a) a
 abbrev pub holder_in : Readings → SpaceNo → ProcNo → List ActNo → Option ActNo
 holder_in r s l acts = find (λ a. is_some (lock_at r s l a)) acts
 
-abbrev pub first_holder : Readings → SpaceNo → ProcNo → Option ActNo
-first_holder r s l = holder_in r s l (candidates r s)
+abbrev pub first_holder : Readings → List ActNo → SpaceNo → ProcNo → Option ActNo
+first_holder r ups s l = holder_in r s l (candidates r s ++ ups)
 
-abbrev pub holder_text : Readings → SpaceNo → ProcNo → List ℕ
-holder_text r s l = held_if r s l (first_holder r s l)
+abbrev pub holder_text : Readings → List ActNo → SpaceNo → ProcNo → List ℕ
+holder_text r ups s l = held_if r s l (first_holder r ups s l)

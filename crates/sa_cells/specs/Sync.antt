@@ -1,5 +1,5 @@
 -- What the cells of the mutexes, semaphores and cells of a space hold.
-use Rattle.std.specs.Prelude.{ℕ, List, ◌++◌, length, codes, decimal, nat_lt, Option, Some, None, if◌then◌else◌, slice_index}
+use Rattle.std.specs.Prelude.{ℕ, List, [], ◌∷◌, ◌++◌, length, codes, decimal, nat_lt, Option, Some, None, if◌then◌else◌, slice_index}
 use Rattle.std.specs.List.{flat_map}
 use Rattle.sa_base.specs.declared.number.SpaceNo.{SpaceNo}
 use Rattle.sa_sync.specs.Sync.{Sync, Mutex, Semaphore, mutex_at, semaphore_at}
@@ -8,7 +8,8 @@ use Rattle.sa_cells.specs.Pieces.{numbered}
 
 -- those that wait, in order
 abbrev pub queue_text : List ℕ → List ℕ
-queue_text queue = codes ", queue" ++ flat_map (numbered (codes " ")) queue
+queue_text [] = codes ", queue empty"
+queue_text (t ∷ ts) = codes ", queue" ++ flat_map (numbered (codes " ")) (t ∷ ts)
 
 abbrev pub holder_text : Option ℕ → List ℕ
 holder_text None = codes "free"

@@ -3,7 +3,7 @@ ghost use Rattle.std.specs.Prelude.{◌≡◌, ◌++◌, ◌<◌, [], length, On
 ghost use Rattle.std.specs.List.{flat_map};
 ghost use Rattle.sa_check_moment.specs.Seen.{seen};
 ghost use Rattle.sa_cells.specs.Space.{act_if};
-ghost use Rattle.sa_cells.specs.Cells.{processor_cells, list_cells, thread_cell, mutex_cell, semaphore_cell, shared_cell, up_to, cells_of_space, space_cells, act_cells, acts_in, has_act, with_act, each_once, acts_of, cells_of};
+ghost use Rattle.sa_cells.specs.Cells.{processor_cells, list_cells, thread_cell, mutex_cell, semaphore_cell, shared_cell, up_to, cells_of_space, space_cells, act_cells, acts_in, has_act, with_act, each_once, acts_of, up_in, ups_in, cells_of};
 
 use crate::cell::Cell;
 use crate::space::{act_of_note, push_act, push_running};
@@ -160,6 +160,25 @@ fn act_in(what: &Record) -> Option<ActNo>
         Record::Told(note) => act_of_note(note),
         _ => None,
     }
+}
+
+/// Appends the activations of the ups of these records.
+pub fn push_ups(ups: &mut Vec<ActNo>, records: &[Record]) -> Result<(), AllocError>
+    ensures { OnOk result (ups.new.items ≡ ups.old.items ++ ups_in records.now) }
+{
+    for what in records {
+        push_up(ups, what)?;
+    }
+    Ok(())
+}
+
+fn push_up(ups: &mut Vec<ActNo>, what: &Record) -> Result<(), AllocError>
+    ensures { OnOk result (ups.new.items ≡ ups.old.items ++ up_in what.now) }
+{
+    if let Record::Up(_, a) = *what {
+        ups.push(a)?;
+    }
+    Ok(())
 }
 
 // The activations, each where it comes first.

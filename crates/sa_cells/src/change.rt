@@ -9,7 +9,7 @@ use crate::cell::{Cell, push_name};
 use crate::cells::cells_of;
 use crate::text::push_text;
 use crate::view::View;
-use sa_base::Record;
+use sa_base::{ActNo, Record};
 use sa_text::print_number;
 use std::alloc::{AllocError, Global};
 
@@ -46,41 +46,43 @@ fn push_opening_cell(
     ensures { OnOk result (out.new.items ≡ out.old.items ++ opening_line (seen view.now.moment) cell) }
 {
     let mut text = Vec::new(alloc);
-    push_text(&mut text, alloc, view, cell)?;
+    push_text(&mut text, alloc, &[], view, cell)?;
     push_cell_line(out, b"-", cell, &text)
 }
 
 /// Appends the line of each cell whose text changed in the event of this number with these records, before which this was
-/// seen, and behind which this is seen.
+/// seen, and after which this is seen, and these were all ups.
 #[tactic(auto, unfolding(crate::specs::Change::change_lines))]
 pub fn push_changes(
     out: &mut Vec<u8>,
     alloc: Global,
     event: u64,
+    ups: &[ActNo],
     before: &View,
     view: &View,
     records: &[Record],
 ) -> Result<(), AllocError>
     ensures { OnOk result (out.new.items ≡ out.old.items
-        ++ change_lines event (seen before.now.moment) (seen view.now.moment) records.now) }
+        ++ change_lines event ups.now (seen before.now.moment) (seen view.now.moment) records.now) }
 {
     let cells = cells_of(alloc, &before.moment, &view.moment, records)?;
-    push_changed_cells(out, alloc, event, before, view, &cells)
+    push_changed_cells(out, alloc, event, ups, before, view, &cells)
 }
 
 fn push_changed_cells(
     out: &mut Vec<u8>,
     alloc: Global,
     event: u64,
+    ups: &[ActNo],
     before: &View,
     view: &View,
     cells: &[Cell],
 ) -> Result<(), AllocError>
     ensures { OnOk result (out.new.items ≡ out.old.items
-        ++ flat_map (change_line event (seen before.now.moment) (seen view.now.moment)) cells.now) }
+        ++ flat_map (change_line event ups.now (seen before.now.moment) (seen view.now.moment)) cells.now) }
 {
     for cell in cells {
-        push_changed_cell(out, alloc, event, before, view, *cell)?;
+        push_changed_cell(out, alloc, event, ups, before, view, *cell)?;
     }
     Ok(())
 }
@@ -89,17 +91,18 @@ fn push_changed_cell(
     out: &mut Vec<u8>,
     alloc: Global,
     event: u64,
+    ups: &[ActNo],
     before: &View,
     view: &View,
     cell: Cell,
 ) -> Result<(), AllocError>
     ensures { OnOk result (out.new.items ≡ out.old.items
-        ++ change_line event (seen before.now.moment) (seen view.now.moment) cell) }
+        ++ change_line event ups.now (seen before.now.moment) (seen view.now.moment) cell) }
 {
     let mut old = Vec::new(alloc);
-    push_text(&mut old, alloc, before, cell)?;
+    push_text(&mut old, alloc, ups, before, cell)?;
     let mut new = Vec::new(alloc);
-    push_text(&mut new, alloc, view, cell)?;
+    push_text(&mut new, alloc, ups, view, cell)?;
     push_changed(out, alloc, event, cell, &old, &new)
 }
 

@@ -16,6 +16,7 @@ mod view;
 mod words;
 
 pub use cell::Cell;
+pub use cells::push_ups;
 pub use change::{push_changes, push_opening};
 pub use view::View;
 pub use words::push_words;

@@ -2,7 +2,7 @@
 ghost use Rattle.std.specs.Prelude.{◌≡◌, ◌++◌, length, OnOk, IfOk};
 ghost use Rattle.std.specs.List.{flat_map, range_with_len};
 ghost use Rattle.sa_check_moment.specs.Seen.{seen};
-ghost use Rattle.sa_cells.specs.Space.{note_text, untold_text, listed_in, list_text, act_if, act_of_io, act_of_io_if, io_act, act_of_note, candidates, lock_among, lock_in, lock_at, held_text, held_or, holder_in, holder_text};
+ghost use Rattle.sa_cells.specs.Space.{note_text, untold_text, listed_in, list_text, act_if, act_of_io, act_of_io_if, io_act, act_of_note, candidates, lock_among, lock_in, lock_at, held_text, held_or, holder_in, first_holder, holder_text};
 
 use crate::pieces::{push_and_thread, push_numbered};
 use sa_base::{ActNo, Note, ProcNo, SpaceNo, ThreadNo};
@@ -56,21 +56,50 @@ fn push_listed(out: &mut Vec<u8>, l: ProcNo, x: ListedThread) -> Result<(), Allo
     Ok(())
 }
 
-/// Appends who holds the lock of the list of a space.
+/// Appends who holds the lock of the list of a space, if these were all ups so far.
 pub(crate) fn push_holder(
     out: &mut Vec<u8>,
     alloc: Global,
     moment: &Moment,
+    ups: &[ActNo],
     s: SpaceNo,
     l: ProcNo,
 ) -> Result<(), AllocError>
-    ensures { OnOk result (out.new.items ≡ out.old.items ++ holder_text (seen moment.now).readings s l) }
+    ensures { OnOk result (out.new.items
+        ≡ out.old.items ++ holder_text (seen moment.now).readings ups.now s l) }
 {
-    let acts = candidates(alloc, moment, s)?;
-    match holder_in(moment, s, l, &acts) {
+    match first_holder(alloc, moment, ups, s, l)? {
         None => out.extend_from_slice(b"free"),
         Some(a) => push_held_by(out, a, lock_at(moment, s, l, a)),
     }
+}
+
+// The life that has the lock: in a legal trace one of the candidates.
+#[tactic(auto, using(crate::proofs::Holders::found_first, crate::proofs::Holders::found_later))]
+fn first_holder(
+    alloc: Global,
+    moment: &Moment,
+    ups: &[ActNo],
+    s: SpaceNo,
+    l: ProcNo,
+) -> Result<Option<ActNo>, AllocError>
+    ensures { IfOk result (λ a. a ≡ first_holder (seen moment.now).readings ups.now s l) }
+{
+    let acts = candidates(alloc, moment, s)?;
+    match holder_in(moment, s, l, &acts) {
+        Some(a) => Ok(Some(a)),
+        None => Ok(other_holder(moment, s, l, ups)),
+    }
+}
+
+// The first of these lives that has the lock. They are looked through only if some life has it.
+fn other_holder(moment: &Moment, s: SpaceNo, l: ProcNo, acts: &[ActNo]) -> Option<ActNo>
+    ensures { result ≡ holder_in (seen moment.now).readings s l acts.now }
+{
+    if !moment.is_locked(s, l) {
+        return None;
+    }
+    holder_in(moment, s, l, acts)
 }
 
 // The first of these lives that has the lock.

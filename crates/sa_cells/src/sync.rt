@@ -69,6 +69,9 @@ fn push_thread_if(out: &mut Vec<u8>, t: Option<ThreadNo>) -> Result<(), AllocErr
 fn push_queue(out: &mut Vec<u8>, queue: &[u32]) -> Result<(), AllocError>
     ensures { OnOk result (out.new.items ≡ out.old.items ++ queue_text queue.now) }
 {
+    if queue.is_empty() {
+        return out.extend_from_slice(b", queue empty");
+    }
     out.extend_from_slice(b", queue")?;
     push_waiters(out, queue)
 }

@@ -11,17 +11,19 @@ use crate::space::{push_holder, push_list, push_untold};
 use crate::sync::{push_mutex_of, push_semaphore_of, push_shared_of};
 use crate::thread::push_thread;
 use crate::view::View;
+use sa_base::ActNo;
 use sa_text::print_number;
 use std::alloc::{AllocError, Global};
 
-/// Appends what the cell holds.
+/// Appends what the cell holds, if these were all ups so far.
 pub(crate) fn push_text(
     out: &mut Vec<u8>,
     alloc: Global,
+    ups: &[ActNo],
     view: &View,
     cell: Cell,
 ) -> Result<(), AllocError>
-    ensures { OnOk result (out.new.items ≡ out.old.items ++ text_of (seen view.now.moment) cell) }
+    ensures { OnOk result (out.new.items ≡ out.old.items ++ text_of ups.now (seen view.now.moment) cell) }
 {
     let moment = &view.moment;
     match cell {
@@ -32,7 +34,7 @@ pub(crate) fn push_text(
         Cell::Runs(p) => push_runs(out, moment, p),
         Cell::Demand(s) => print_number(u64::from(moment.demand(s)), out),
         Cell::Untold(s) => push_untold(out, moment.untold(s)),
-        Cell::Holder(s, l) => push_holder(out, alloc, moment, s, l),
+        Cell::Holder(s, l) => push_holder(out, alloc, moment, ups, s, l),
         Cell::Listed(s, l) => push_list(out, l, moment.listed(s)),
         Cell::Thread(s, t) => push_thread(out, view, s, t),
         Cell::Mutex(s, m) => push_mutex_of(out, alloc, &view.replay, s, m),

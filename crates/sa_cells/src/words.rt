@@ -1,15 +1,15 @@
 // What a record says, in words.
 ghost use Rattle.std.specs.Prelude.{◌≡◌, ◌++◌, codes, OnOk};
 ghost use Rattle.sa_cells.specs.Pieces.{one, two};
-ghost use Rattle.sa_cells.specs.Words.{thread_words, ready_words, page_words, list_words, stop_words, block_words, unblock_words, cont_words, back_words, move_words, aim_words, told_words, words_of};
+ghost use Rattle.sa_cells.specs.Words.{thread_words, ready_words, page_words, list_words, stop_words, block_words, unblock_words, cont_words, back_cause, back_words, processors_word, want_words, move_words, aim_words, told_words, words_of};
 
 use crate::pieces::{push_a_space, push_a_thread, push_one, push_piece, push_three, push_two};
 use sa_base::{ActNo, IoNo, Note, ProcNo, Record, SpaceNo, ThreadNo};
 use std::alloc::AllocError;
 
-/// Appends what the record says, in words.
-pub fn push_words(out: &mut Vec<u8>, what: &Record) -> Result<(), AllocError>
-    ensures { OnOk result (out.new.items ≡ out.old.items ++ words_of what.now) }
+/// Appends what the record says, in words, if the life that runs on its processor is in the copy of a section, or is not.
+pub fn push_words(out: &mut Vec<u8>, in_copy: bool, what: &Record) -> Result<(), AllocError>
+    ensures { OnOk result (out.new.items ≡ out.old.items ++ words_of in_copy what.now) }
 {
     match *what {
         Record::Ins(s, t, i) => {
@@ -21,7 +21,7 @@ pub fn push_words(out: &mut Vec<u8>, what: &Record) -> Result<(), AllocError>
         Record::Block(s, t, a, io) => push_block(out, s, t, a, io),
         Record::Unblock(s, t, a) => push_unblock(out, s, t, a),
         Record::Cont(s, t) => push_cont(out, s, t),
-        Record::Back(s, t) => push_back(out, s, t),
+        Record::Back(s, t) => push_back(out, in_copy, s, t),
         Record::Ready(s, t) => push_ready(out, s, t, b" is ready, and stands in a list."),
         Record::Take(s, l, t) => push_list(out, s, l, b" is taken, for ", t),
         Record::Free(s, l, t) => push_list(out, s, l, b" is free again; it was taken for ", t),
@@ -35,14 +35,7 @@ pub fn push_words(out: &mut Vec<u8>, what: &Record) -> Result<(), AllocError>
         ),
         Record::Told(note) => push_told(out, note),
         Record::Move(old, new) => push_move(out, old, new),
-        Record::Want(s, n) => push_two(
-            out,
-            b"Space ",
-            u64::from(s.0),
-            b" can use ",
-            u64::from(n),
-            b" processors, it says.",
-        ),
+        Record::Want(s, n) => push_want(out, s, n),
         Record::Aim(p, s) => push_aim(out, p, s),
         Record::Line(p) => push_one(
             out,
@@ -206,17 +199,52 @@ fn push_cont(out: &mut Vec<u8>, s: SpaceNo, t: Option<ThreadNo>) -> Result<(), A
     push_piece(out, b".")
 }
 
-fn push_back(out: &mut Vec<u8>, s: SpaceNo, t: Option<ThreadNo>) -> Result<(), AllocError>
-    ensures { OnOk result (out.new.items ≡ out.old.items ++ back_words s t) }
+fn push_back(
+    out: &mut Vec<u8>,
+    in_copy: bool,
+    s: SpaceNo,
+    t: Option<ThreadNo>,
+) -> Result<(), AllocError>
+    ensures { OnOk result (out.new.items ≡ out.old.items ++ back_words in_copy s t) }
 {
-    push_space(
-        out,
-        b"The copy of the section is through: the handler of space ",
-        s,
-        b" has control, with ",
-    )?;
+    push_space(out, back_cause(in_copy), s, b" has control, with ")?;
     push_a_thread(out, t)?;
     push_piece(out, b".")
+}
+
+// Why a handler has control again.
+fn back_cause(in_copy: bool) -> &'static [u8]
+    ensures { result.now ≡ back_cause in_copy }
+{
+    if in_copy {
+        b"The copy of the section is through: the handler of space "
+    } else {
+        b"The thread gives way, with no section open: the handler of space "
+    }
+}
+
+// Appends how many processors a space can use.
+fn push_want(out: &mut Vec<u8>, s: SpaceNo, n: u16) -> Result<(), AllocError>
+    ensures { OnOk result (out.new.items ≡ out.old.items ++ want_words s n) }
+{
+    push_two(
+        out,
+        b"Space ",
+        u64::from(s.0),
+        b" can use ",
+        u64::from(n),
+        processors_word(n),
+    )
+}
+
+fn processors_word(n: u16) -> &'static [u8]
+    ensures { result.now ≡ processors_word n }
+{
+    if n == 1 {
+        b" processor, it says."
+    } else {
+        b" processors, it says."
+    }
 }
 
 #[tactic(auto, unfolding(crate::specs::Words::move_words))]

@@ -2,3 +2,4 @@ mod UrgedLemmas
 mod AdvanceLemmas
 mod ShownLemmas
 mod PageLemmas
+mod SaidLemmas

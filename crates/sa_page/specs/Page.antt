@@ -1,18 +1,21 @@
 -- The text of a page: what every page has, and between it the verdict, the trace with its words, and what the cells hold.
-use Rattle.std.specs.Prelude.{◌≡◌, ⊤, ℕ, ◌<◌, ◌≤◌, List, ◌++◌, codes, decimal, Ok, Err}
-use Rattle.std.specs.List.{flat_map}
+use Rattle.std.specs.Prelude.{◌≡◌, ⊤, ℕ, ◌<◌, ◌≤◌, Bool, false, List, [], ◌∷◌, ◌++◌, length, codes, decimal, Option, Some, None, Ok, Err}
+use Rattle.sa_base.specs.declared.number.ProcNo.{ProcNo}
 use Rattle.sa_base.specs.declared.record.End.{End}
 use Rattle.sa_base.specs.declared.record.Item.{Item}
 use Rattle.sa_spaces.specs.Workload.{WorkloadView}
 use Rattle.sa_trace.specs.Reading.{Told, read_of}
 use Rattle.sa_trace.specs.TraceText.{line_of, end_word}
 use Rattle.sa_laws.specs.Event.{events_of}
+use Rattle.sa_laws.specs.Life.{Life}
 use Rattle.sa_check_moment.specs.declared.rules.Rules.{Rules}
 use Rattle.sa_check_moment.specs.Rules.{rules_of}
-use Rattle.sa_check_moment.specs.Seen.{opened}
 use Rattle.sa_check.specs.declared.verdict.Verdict.{Verdict}
 use Rattle.sa_check.specs.Verdict.{IsVerdict, last_line}
 use Rattle.sa_check.specs.Line.{line_of as verdict_text}
+use Rattle.sa_check_moment.specs.Seen.{opened}
+use Rattle.sa_check_lives.specs.View.{LivesView, no_lives, life_if_at, running_at}
+use Rattle.sa_check_lives.specs.Recorded.{recorded}
 use Rattle.sa_cells.specs.Words.{words_of}
 use Rattle.sa_cells.specs.Change.{opening_lines}
 use Rattle.sa_page.specs.declared.page.PageError.{PageError}
@@ -22,11 +25,27 @@ use Rattle.sa_page.specs.declared.shell.TheConstants.{HEAD, TRACE, CELLS, TAIL}
 use Rattle.sa_page.specs.Shown.{Shows}
 
 -- the line of an item, and its words
-unfoldable pub item_text : Item → List ℕ
-item_text i = line_of i ++ words_of i.what ++ codes "\n"
+unfoldable pub item_text : Bool → Item → List ℕ
+item_text in_copy i = line_of i ++ words_of in_copy i.what ++ codes "\n"
 
-abbrev pub items_text : List Item → List ℕ
-items_text items = flat_map item_text items
+-- each item, with whether the life that runs on its processor is in the copy of a section: that is read of the lives after the items
+-- before it, for which neither the threads that an instruction rouses nor what a lock is for matters
+abbrev pub is_copying : Option Life → Bool
+is_copying None = false
+is_copying (Some life) = life.cont
+
+abbrev pub in_copy_on : LivesView → ProcNo → Bool
+in_copy_on v p = is_copying (life_if_at v (running_at v p))
+
+abbrev pub lives_behind : LivesView → Item → LivesView
+lives_behind v i = recorded [] false i.proc i.what v
+
+abbrev pub items_text : LivesView → List Item → List ℕ
+items_text v [] = []
+items_text v (i ∷ is) = item_text (in_copy_on v i.proc) i ++ items_text (lives_behind v i) is
+
+abbrev pub said : WorkloadView → List Item → List ℕ
+said w items = items_text (no_lives w.processors (length w.spaces)) items
 
 -- how the run ended
 unfoldable pub end_text : End → ℕ → List ℕ
@@ -39,10 +58,10 @@ page_text verdict end trace opening shown = HEAD.now ++ verdict ++ end ++ TRACE.
 -- the text is that of the page with this verdict
 pub record IsPrinted (rules : Rules) (w : WorkloadView) (verdict : Verdict) (told : Told) (text : List ℕ) : Type 0 where
   pub shown : List ℕ
-  pub shows : Shows (opened rules w) (events_of told.items) shown
+  pub shows : Shows (opened rules w) [] (events_of told.items) shown
   pub is :
       text
-      ≡ page_text (verdict_text rules verdict) (end_text told.end told.events) (items_text told.items) (opening_lines (opened rules w)) shown
+      ≡ page_text (verdict_text rules verdict) (end_text told.end told.events) (said w told.items) (opening_lines (opened rules w)) shown
 
 -- the text is the page of this workload and trace text, by these rules
 pub record IsPage (rules : Rules) (w : WorkloadView) (trace text : List ℕ) : Type 0 where

@@ -1,43 +1,59 @@
 // The lines of a trace, each with its words.
 ghost use Rattle.std.specs.Prelude.{◌≡◌, ◌++◌, OnOk};
-ghost use Rattle.sa_trace.specs.TraceText.{line_of};
-ghost use Rattle.sa_page.specs.Page.{item_text, items_text, end_text};
+ghost use Rattle.sa_check_lives.specs.View.{lives_of};
+ghost use Rattle.sa_page.specs.Page.{in_copy_on, item_text, items_text, said, end_text};
 
-use sa_base::{End, Item};
+use sa_base::{End, Item, ProcNo};
 use sa_cells::push_words;
-use sa_svg::push_record;
+use sa_check_lives::Lives;
+use sa_spaces::Workload;
+use sa_svg::push_line;
 use sa_text::print_number;
 use sa_trace::end_word;
-use std::alloc::AllocError;
+use std::alloc::{AllocError, Global};
 
-/// Appends the line of each item, and behind it what its record says in words.
-pub(crate) fn push_items(out: &mut Vec<u8>, items: &[Item]) -> Result<(), AllocError>
-    ensures { OnOk result (out.new.items ≡ out.old.items ++ items_text items.now) }
+/// Appends the line of each item of a trace of this workload, and after it what its record says in words.
+pub(crate) fn push_items(
+    out: &mut Vec<u8>,
+    alloc: Global,
+    workload: &Workload,
+    items: &[Item],
+) -> Result<(), AllocError>
+    ensures { OnOk result (out.new.items ≡ out.old.items ++ said workload.now items.now) }
+{
+    workload.ranges();
+    let spaces = workload.spaces().len() as u16;
+    let mut lives = Lives::new(alloc, workload.processors(), spaces)?;
+    push_from(out, &mut lives, items)
+}
+
+// The same of items that come after these lives.
+fn push_from(out: &mut Vec<u8>, lives: &mut Lives, items: &[Item]) -> Result<(), AllocError>
+    ensures { OnOk result (out.new.items ≡ out.old.items ++ items_text (lives_of lives.old) items.now) }
 {
     for item in items {
-        push_item(out, item)?;
+        push_item(out, in_copy_on(lives, item.proc), item)?;
+        lives.read(item.proc, item.what, &[], false)?;
     }
     Ok(())
 }
 
-#[tactic(auto, unfolding(crate::specs::Page::item_text))]
-fn push_item(out: &mut Vec<u8>, item: &Item) -> Result<(), AllocError>
-    ensures { OnOk result (out.new.items ≡ out.old.items ++ item_text item.now) }
+// The life that runs on the processor is in the copy of a section.
+fn in_copy_on(lives: &Lives, p: ProcNo) -> bool
+    ensures { result ≡ in_copy_on (lives_of lives.now) p }
 {
-    push_line(out, item)?;
-    push_words(out, &item.what)?;
-    out.extend_from_slice(b"\n")
+    match lives.life_on(p) {
+        None => false,
+        Some(life) => life.cont(),
+    }
 }
 
-// Appends the line of the trace text that the item is.
-fn push_line(out: &mut Vec<u8>, item: &Item) -> Result<(), AllocError>
-    ensures { OnOk result (out.new.items ≡ out.old.items ++ line_of item.now) }
+#[tactic(auto, unfolding(crate::specs::Page::item_text))]
+fn push_item(out: &mut Vec<u8>, in_copy: bool, item: &Item) -> Result<(), AllocError>
+    ensures { OnOk result (out.new.items ≡ out.old.items ++ item_text in_copy item.now) }
 {
-    print_number(item.event, out)?;
-    out.extend_from_slice(b" ")?;
-    print_number(u64::from(item.proc.0), out)?;
-    out.extend_from_slice(b" ")?;
-    push_record(out, &item.what)?;
+    push_line(out, item)?;
+    push_words(out, in_copy, &item.what)?;
     out.extend_from_slice(b"\n")
 }
 

@@ -86,7 +86,7 @@ fn print(
     out.extend_from_slice(&verdict_line(alloc, rules, verdict)?)?;
     push_end(&mut out, trace.end, trace.events)?;
     out.extend_from_slice(TRACE)?;
-    push_items(&mut out, trace.trace.items())?;
+    push_items(&mut out, alloc, workload, trace.trace.items())?;
     out.extend_from_slice(CELLS)?;
     push_opening(&mut out, alloc, &pair.now)?;
     push_shown(&mut out, alloc, pair, trace.trace.items())?;

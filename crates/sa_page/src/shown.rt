@@ -1,9 +1,10 @@
 // What is written of cells along a trace.
-ghost use Rattle.std.specs.Prelude.{◌≡◌, IfOk};
+ghost use Rattle.std.specs.Prelude.{◌≡◌, [], IfOk};
 ghost use Rattle.sa_check_moment.specs.Seen.{seen};
 
 mod walk;
 
+use sa_base::ActNo;
 use sa_cells::View;
 use sa_check_moment::Rules;
 use sa_spaces::Workload;
@@ -15,6 +16,8 @@ pub(crate) use walk::push_shown;
 pub(crate) struct Pair {
     pub(crate) before: View,
     pub(crate) now: View,
+    // All ups so far, in order.
+    pub(crate) ups: Vec<ActNo>,
     ghost same: { seen before.moment ≡ seen now.moment },
 }
 
@@ -27,11 +30,13 @@ impl Pair {
         rules: Rules,
         workload: &Workload,
     ) -> Result<Pair, AllocError>
-        ensures { IfOk result (λ pair. seen pair.now.moment ≡ opened rules workload.now) }
+        ensures moment { IfOk result (λ pair. seen pair.now.moment ≡ opened rules workload.now) }
+        ensures ups { IfOk result (λ pair. pair.ups.items ≡ []) }
     {
         Ok(Pair {
             before: View::start(alloc, rules, workload)?,
             now: View::start(alloc, rules, workload)?,
+            ups: Vec::new(alloc),
         })
     }
 }

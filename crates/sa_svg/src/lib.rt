@@ -11,4 +11,4 @@ mod words;
 
 pub use drawing::print;
 pub use layout::{DEFAULT_WIDTH, Layout, MAX_WIDTH, MIN_WIDTH};
-pub use titles::push_record;
+pub use titles::{push_line, push_record};

@@ -109,7 +109,7 @@ fn concerns(track: Track, item: &Item) -> bool
 }
 
 /// Appends the line of the trace text that the item is.
-pub(crate) fn push_line(out: &mut Vec<u8>, item: &Item) -> Result<(), AllocError>
+pub fn push_line(out: &mut Vec<u8>, item: &Item) -> Result<(), AllocError>
     ensures { OnOk result (out.new.items ≡ out.old.items ++ line_of item.now) }
 {
     print_number(item.event, out)?;

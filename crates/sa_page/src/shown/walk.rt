@@ -9,7 +9,7 @@ use crate::advance::advance;
 use crate::event::{TraceEvent, gather};
 use crate::shown::Pair;
 use sa_base::Item;
-use sa_cells::push_changes;
+use sa_cells::{push_changes, push_ups};
 use sa_text::print_number;
 use std::alloc::{AllocError, Global};
 
@@ -20,7 +20,7 @@ pub(crate) fn push_shown(
     pair: Pair,
     items: &[Item],
 ) -> Result<(), AllocError>
-    ensures { OnOk result (WritesShown (seen pair.now.moment) (events_of items.now)
+    ensures { OnOk result (WritesShown (seen pair.now.moment) pair.ups.items (events_of items.now)
         out.old.items out.new.items) }
 {
     let mut pair = pair;
@@ -47,18 +47,23 @@ fn push_event(
     pair: Pair,
     event: &TraceEvent,
 ) -> Result<Option<Pair>, AllocError>
-    ensures { IfOk result (ShowsOne (seen pair.now.moment) (told event.now)
+    ensures { IfOk result (ShowsOne (seen pair.now.moment) pair.ups.items (told event.now)
         out.old.items out.new.items) }
 {
-    let Pair { before, now } = pair;
+    let Pair {
+        before,
+        now,
+        mut ups,
+    } = pair;
     let Some(now) = advance(now, event)? else {
         return Ok(None);
     };
-    push_changes(out, alloc, event.number, &before, &now, event.records)?;
+    push_ups(&mut ups, event.records)?;
+    push_changes(out, alloc, event.number, &ups, &before, &now, event.records)?;
     let Some(before) = advance(before, event)? else {
         return Ok(None);
     };
-    Ok(Some(Pair { before, now }))
+    Ok(Some(Pair { before, now, ups }))
 }
 
 // Appends that the page ends with this event.

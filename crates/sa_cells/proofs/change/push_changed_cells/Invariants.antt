@@ -5,4 +5,4 @@ use Rattle.sa_cells.specs.Change.{change_line}
 use Rattle.sa_cells.proofs.change.push_changed_cells.Given as goal
 
 abbrev pub invariant-loop-cell : goal.invariant-loop-cell
-invariant-loop-cell l = l.out.items ≡ l.initial.out.items ++ flat_map (change_line l.event (seen l.before.moment) (seen l.view.moment)) (take l.cell-index l.cells)
+invariant-loop-cell l = l.out.items ≡ l.initial.out.items ++ flat_map (change_line l.event l.ups (seen l.before.moment) (seen l.view.moment)) (take l.cell-index l.cells)

@@ -14,15 +14,17 @@ pub loop-pair-preserved : goal.loop-pair-preserved
 loop-pair-preserved c =
     let now = seen c.loop-pair.pair.now.moment in
     let next = seen c.in-Some-2.after.now.moment in
+    let ups = c.loop-pair.pair.ups.items in
+    let later = c.in-Some-2.after.ups.items in
     let g = c.in-Some.next in
     let out = c.loop-pair.out.items in
     let new = c.push_event.new.out.items in
     let first : IsFirst c.loop-pair.rest.now g = subst (λ (o : Option Gathered). Gathers c.loop-pair.rest.now o) c.in-Some.is c.in_ok-next.ensures in
-    let shows : ShowsOne now (event g.first.event g.first.proc g.records.items) out new c.in_ok-after.field-0 =
-    subst (λ (rs : List Record). ShowsOne now (event g.first.event g.first.proc rs) out new c.in_ok-after.field-0) c.deref.ensures.value c.in_ok-after.ensures in
-    let goes : WritesOne now (event g.first.event g.first.proc g.records.items) out new next =
-    subst (λ (o : Option Pair). ShowsOne now (event g.first.event g.first.proc g.records.items) out new o) c.in-Some-2.is shows in
-    goes-on (seen c.args.pair.now.moment) now next (events_of c.args.items.now) (events_of c.loop-pair.rest.now) (events_of g.rest.now) c.args.out.now.items out new
+    let shows : ShowsOne now ups (event g.first.event g.first.proc g.records.items) out new c.in_ok-after.field-0 =
+    subst (λ (rs : List Record). ShowsOne now ups (event g.first.event g.first.proc rs) out new c.in_ok-after.field-0) c.deref.ensures.value c.in_ok-after.ensures in
+    let goes : WritesOne now ups (event g.first.event g.first.proc g.records.items) out new next later =
+    subst (λ (o : Option Pair). ShowsOne now ups (event g.first.event g.first.proc g.records.items) out new o) c.in-Some-2.is shows in
+    goes-on (seen c.args.pair.now.moment) now next c.args.pair.ups.items ups later (events_of c.args.items.now) (events_of c.loop-pair.rest.now) (events_of g.rest.now) c.args.out.now.items out new
     (event g.first.event g.first.proc g.records.items) first.events goes c.loop-pair.invariant
 
 pub returns : goal.returns
@@ -30,4 +32,5 @@ returns c =
     let now = seen c.loop-pair.pair.now.moment in
     let out = c.loop-pair.out.items in
     let none : c.loop-pair.rest.now ≡ [] = subst (λ (o : Option Gathered). Gathers c.loop-pair.rest.now o) c.in_default.is c.in_ok-next.ensures in
-    c.loop-pair.invariant out (subst (λ (items : List Item). WritesShown now (events_of items) out out) (sym none) (shown-all now out))
+    let ups = c.loop-pair.pair.ups.items in
+    c.loop-pair.invariant out (subst (λ (items : List Item). WritesShown now ups (events_of items) out out) (sym none) (shown-all now ups out))
