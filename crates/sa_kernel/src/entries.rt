@@ -19,8 +19,8 @@ impl<C: Drop> Parts<C> {
     ghost use Rattle.sa_kernel_model.specs.State.{owner_of, aim_of, life_of, demand_of};
     ghost use Rattle.sa_kernel_model.specs.Sound.{IsFormed, HasSizes, AreSpaces, AreIos, AreAlive};
     ghost use Rattle.sa_kernel_model.specs.Enters.{Enters, upcalls_for, upcalls_in, untold_count, taken_count};
-    ghost use Rattle.sa_kernel_model.specs.Parts.{go_to};
-    ghost use Rattle.sa_kernel_model.specs.Entries.{stopped, go_to_aim, interrupted, block_begun, blocked, kind_at, come_back, over, more, idled, announced, gave_back, interrupted_own};
+    ghost use Rattle.sa_kernel_model.specs.Parts.{go_to, raised};
+    ghost use Rattle.sa_kernel_model.specs.Entries.{stopped, go_to_aim, interrupted, block_begun, blocked, kind_at, come_back, over, more, idled, announced, gave_back};
 
     // The context that ran on a processor, if one did, is stopped by an interrupt.
     fn stop(&mut self, event: u64, p: ProcNo, held: Option<Stopped<C>>, trace: &mut Trace)
@@ -145,8 +145,7 @@ impl<C: Drop> Parts<C> {
         requires proc { HasProc (state_of self.old) q }
         requires low { slice_index_or self.old.assign.lines q.0 None ≡ None }
         requires trace { 1 ≤ trace.old.spare }
-        ensures exact { scene_of self.new trace.new
-            ≡ interrupted_own event p q (scene_of self.old trace.old) }
+        ensures exact { scene_of self.new trace.new ≡ raised event p q (scene_of self.old trace.old) }
         ensures sizes { HasSizes (state_of self.new) }
         ensures spaces { length self.new.demands.items ≡ length self.old.demands.items }
         ensures room { Spends self.old self.new 0 0 0 }
