@@ -34,7 +34,7 @@ fn main(rt: HostRuntime) -> ExitCode {
     ExitCode::from(status.code())
 }
 
-/// The words after the program's name. One that is no text is no word of a command.
+// The words after the program's name. One that is no text is no word of a command.
 fn read_command_line(rt: &(impl Env + AllocGlobal)) -> Result<Words, Status> {
     let words = env::args(rt).map_err(|error| match error.kind() {
         ErrorKind::OutOfMemory => Status::OutOfMemory,
@@ -44,7 +44,7 @@ fn read_command_line(rt: &(impl Env + AllocGlobal)) -> Result<Words, Status> {
     Ok(Words::new(list.map_err(|_| Status::OutOfMemory)?))
 }
 
-/// Says on standard error why the command was not done.
+// Says on standard error why the command was not done.
 fn report(rt: &impl Eprint, status: Status) -> io::Result<()> {
     match status {
         Status::Usage => eprintln!(rt; "usage: sa COMMAND [OPTION VALUE]..."),

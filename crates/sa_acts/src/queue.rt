@@ -5,7 +5,7 @@ use std::alloc::{AllocError, Global};
 use std::collections::VecDeque;
 use std::marker::Model;
 
-// Numbers of activations, in the order in which they were taken. Only `reserve` can fail for want of memory.
+/// Numbers of activations, in the order in which they were taken. Only `reserve` can fail for want of memory.
 #[derive(Drop)]
 pub(crate) struct Queue {
     numbers: VecDeque<ActNo>,
@@ -29,7 +29,7 @@ impl Queue {
         }
     }
 
-    // Makes room for `n` numbers in all.
+    /// Makes room for `n` numbers in all.
     pub(crate) fn reserve(&mut self, n: usize) -> Result<(), AllocError>
         ensures ok { OnOk result (n ≤ self.new.room) }
         ensures numbers { self.new.numbers ≡ self.old.numbers }

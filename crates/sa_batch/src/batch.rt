@@ -5,7 +5,7 @@ use smallvec::SmallVec;
 use std::alloc::{AllocError, Global};
 use std::marker::Model;
 
-/// How many notices a batch holds in itself: few wait at a time.
+// How many notices a batch holds in itself: few wait at a time.
 const INLINE: usize = 8;
 
 /// Notices that wait to be told, and room for some more, which `reserve` makes. No other call can fail for

@@ -12,7 +12,7 @@ use sa_devices::IoKind;
 use std::alloc::{AllocError, Global};
 use std::marker::Model;
 
-// An I/O under way: its number, the event from which on it is due, and what it is for.
+/// An I/O under way: its number, the event from which on it is due, and what it is for.
 #[derive(Clone, Copy)]
 pub(crate) struct BegunIo {
     pub(crate) number: u64,
@@ -30,7 +30,7 @@ impl Model for BegunIo {
     ghost inverse = { λ x. record { number = x.number; ends = x.ends; kind = x.kind } };
 }
 
-// Those under way, and of them the one with the least end, and of these the one with the least number.
+/// Those under way, and of them the one with the least end, and of these the one with the least number.
 #[derive(Drop)]
 pub(crate) struct UnderWay {
     ios: Vec<BegunIo>,
@@ -61,7 +61,7 @@ impl UnderWay {
         }
     }
 
-    // Begins one after the others. An error changes nothing.
+    /// Begins one after the others. An error changes nothing.
     pub(crate) fn begin(&mut self, io: BegunIo) -> Result<(), AllocError>
         requires { HasPage io.kind }
         ensures ok { OnOk result (self.new ≡ self.old ++ io ∷ []) }
@@ -72,7 +72,7 @@ impl UnderWay {
         Ok(())
     }
 
-    // Those of the life are over. Answers what the first of them was for.
+    /// Those of the life are over. Answers what the first of them was for.
     pub(crate) fn end_life(&mut self, a: ActNo) -> Option<IoKind>
         ensures rest { self.new ≡ filter (is_io_of_other a) self.old }
         ensures over { result ≡ option_map (λ (io : Io). io.kind) (find (is_io_of a) self.old) }
@@ -84,7 +84,7 @@ impl UnderWay {
         over
     }
 
-    // The fetches of the upcall page of the space are over. Answers what the first of them was for.
+    /// The fetches of the upcall page of the space are over. Answers what the first of them was for.
     pub(crate) fn end_fetch(&mut self, s: SpaceNo) -> Option<IoKind>
         ensures rest { self.new ≡ filter (fetches_other s) self.old }
         ensures over { result ≡ option_map (λ (io : Io). io.kind) (find (fetches s.0) self.old) }
@@ -96,7 +96,7 @@ impl UnderWay {
         over
     }
 
-    // What the one is for that is due at the event.
+    /// What the one is for that is due at the event.
     pub(crate) fn due(&self, event: u64) -> Option<IoKind>
         ensures { result ≡ option_map (λ (io : Io). io.kind) (due_of event self.now) }
     {
@@ -106,28 +106,28 @@ impl UnderWay {
         }
     }
 
-    // Some one is that of the life.
+    /// Some one is that of the life.
     pub(crate) fn has_life(&self, a: ActNo) -> bool
         ensures { result ≡ list_any (is_io_of a) self.now }
     {
         first_of_life(self.ios.as_slice(), a).is_some()
     }
 
-    // Some one fetches the upcall page of the space.
+    /// Some one fetches the upcall page of the space.
     pub(crate) fn has_fetch(&self, s: SpaceNo) -> bool
         ensures { result ≡ list_any (fetches s.0) self.now }
     {
         first_fetch(self.ios.as_slice(), s).is_some()
     }
 
-    // How many there are.
+    /// How many there are.
     pub(crate) fn len(&self) -> usize
         ensures { result ≡ length self.now }
     {
         self.ios.len()
     }
 
-    // What the one at this index is for.
+    /// What the one at this index is for.
     pub(crate) fn kind_at(&self, k: usize) -> Option<IoKind>
         ensures { result ≡ option_map (λ (io : Io). io.kind) (slice_get self.now k) }
     {

@@ -11,7 +11,7 @@ use std::alloc::{AllocError, Global};
 use std::marker::Model;
 use std::mem;
 
-// What a change took from a life: the last of its locks, and that it was in.
+/// What a change took from a life: the last of its locks, and that it was in.
 #[derive(Clone, Copy)]
 pub(crate) struct Lost {
     pub(crate) lock: bool,
@@ -199,7 +199,7 @@ impl KeptLife {
         Ok(())
     }
 
-    // Changes the life, and says what it lost by it. An error changes nothing.
+    /// Changes the life, and says what it lost by it. An error changes nothing.
     #[inline(always)]
     pub(crate) fn write(&mut self, change: &Change) -> Result<Lost, AllocError>
         ensures ok { OnOk result (self.new ≡ changed_by change.now self.old) }

@@ -7,7 +7,7 @@ use sa_base::{ActNo, Note, SpaceNo};
 use std::alloc::{AllocError, Global};
 use std::marker::Model;
 
-// Items of one space, in order.
+/// Items of one space, in order.
 #[derive(Drop)]
 pub(crate) struct Row<T: Copy> {
     items: Vec<T>,
@@ -21,7 +21,7 @@ impl<T: Copy> Model for Row<T> {
     ghost view = { λ x. x.items.items };
 }
 
-// An empty row for each space.
+/// An empty row for each space.
 pub(crate) fn no_rows<T: Copy>(alloc: Global, spaces: u16) -> Result<Vec<Row<T>>, AllocError>
     ensures { IfOk result (λ rows. rows.items ≡ replicate spaces []) }
 {
@@ -34,7 +34,7 @@ pub(crate) fn no_rows<T: Copy>(alloc: Global, spaces: u16) -> Result<Vec<Row<T>>
     Ok(rows)
 }
 
-// The row of a space; past the spaces there is an empty one.
+/// The row of a space; past the spaces there is an empty one.
 pub(crate) fn row_at<T: Copy>(rows: &[Row<T>], s: SpaceNo) -> &[T]
     ensures { result.now ≡ row_at rows.now s }
 {
@@ -44,7 +44,7 @@ pub(crate) fn row_at<T: Copy>(rows: &[Row<T>], s: SpaceNo) -> &[T]
     }
 }
 
-// Puts an item after the others of the space. An error changes nothing.
+/// Puts an item after the others of the space. An error changes nothing.
 pub(crate) fn add<T: Copy>(rows: &mut Vec<Row<T>>, s: SpaceNo, item: T) -> Result<(), AllocError>
     ensures ok { OnOk result (rows.new.items ≡ with_item rows.old.items s item) }
     ensures err { OnErr result (rows.new.items ≡ rows.old.items) }
@@ -56,7 +56,7 @@ pub(crate) fn add<T: Copy>(rows: &mut Vec<Row<T>>, s: SpaceNo, item: T) -> Resul
     Ok(())
 }
 
-// Takes out the last item of the space.
+/// Takes out the last item of the space.
 pub(crate) fn undo<T: Copy>(rows: &mut Vec<Row<T>>, s: SpaceNo)
     ensures { rows.new.items ≡ without_last rows.old.items s }
 {
@@ -65,7 +65,7 @@ pub(crate) fn undo<T: Copy>(rows: &mut Vec<Row<T>>, s: SpaceNo)
     }
 }
 
-// The life is not in the row of the space any more, if one is given.
+/// The life is not in the row of the space any more, if one is given.
 pub(crate) fn remove_act(rows: &mut [Row<ActNo>], s: Option<SpaceNo>, a: ActNo)
     ensures { rows.new ≡ without_act rows.old s a }
 {
@@ -77,7 +77,7 @@ pub(crate) fn remove_act(rows: &mut [Row<ActNo>], s: Option<SpaceNo>, a: ActNo)
     }
 }
 
-// The notice is in no row any more.
+/// The notice is in no row any more.
 pub(crate) fn remove_note(rows: &mut [Row<Note>], note: Note)
     ensures { rows.new ≡ without_note rows.old note }
 {

@@ -16,7 +16,7 @@ use std::marker::Model;
 /// How many shelves there are. Numbers are handed out in order, so that few of the lives in use share one.
 pub(crate) const SHELVES: usize = 512;
 
-// The lives by their numbers.
+/// The lives by their numbers.
 #[derive(Drop)]
 pub(crate) struct Shelves {
     shelves: Vec<Shelf>,
@@ -43,7 +43,7 @@ fn shelf_of(a: u64) -> usize
 }
 
 impl Shelves {
-    // Fails only where memory runs out.
+    /// Fails only where memory runs out.
     pub(crate) fn new(alloc: Global) -> Result<Self, AllocError>
         ensures { IfOk result (λ shelves. lives_in shelves ≡ (λ a. None)) }
     {
@@ -54,7 +54,7 @@ impl Shelves {
         Ok(Shelves { shelves })
     }
 
-    // The life of this number, if it is in use.
+    /// The life of this number, if it is in use.
     #[inline(always)]
     pub(crate) fn get(&self, a: u64) -> Option<&KeptLife>
         ensures { option_copied result ≡ lives_in self.now a }
@@ -62,7 +62,7 @@ impl Shelves {
         self.shelves[shelf_of(a)].get(a)
     }
 
-    // The number is used for this life from now on. An error changes nothing.
+    /// The number is used for this life from now on. An error changes nothing.
     pub(crate) fn insert(&mut self, a: ActNo, life: KeptLife) -> Result<(), AllocError>
         ensures ok { OnOk result (lives_in self.new ≡ put (lives_in self.old) a.0 (Some life)) }
         ensures err { OnErr result (lives_in self.new ≡ lives_in self.old) }
@@ -70,14 +70,14 @@ impl Shelves {
         self.shelves[shelf_of(a.0)].insert(a, life)
     }
 
-    // The number is in use no longer.
+    /// The number is in use no longer.
     pub(crate) fn remove(&mut self, a: ActNo)
         ensures { lives_in self.new ≡ put (lives_in self.old) a.0 None }
     {
         self.shelves[shelf_of(a.0)].remove(a);
     }
 
-    // Changes the life of this number, if there is one, and says what it lost by it. An error changes nothing.
+    /// Changes the life of this number, if there is one, and says what it lost by it. An error changes nothing.
     #[inline(always)]
     pub(crate) fn write(&mut self, a: ActNo, change: &Change) -> Result<Lost, AllocError>
         ensures ok { OnOk result
@@ -88,7 +88,7 @@ impl Shelves {
         self.shelves[shelf_of(a.0)].write(a, change)
     }
 
-    // The threads join the hand of the life of this number, if there is one. An error changes nothing.
+    /// The threads join the hand of the life of this number, if there is one. An error changes nothing.
     pub(crate) fn rouse(&mut self, a: ActNo, threads: &[ThreadNo]) -> Result<(), AllocError>
         ensures ok { OnOk result
             (lives_in self.new ≡ with_life (with_hand threads.now) (Some a) (lives_in self.old)) }
@@ -97,7 +97,7 @@ impl Shelves {
         self.shelves[shelf_of(a.0)].rouse(a, threads)
     }
 
-    // The life of this number gets the locks and the hand of another, if there is one. An error changes nothing.
+    /// The life of this number gets the locks and the hand of another, if there is one. An error changes nothing.
     pub(crate) fn inherit(&mut self, a: ActNo, from: &KeptLife) -> Result<(), AllocError>
         ensures ok { OnOk result
             (lives_in self.new ≡ with_life (inherits from.now) (Some a) (lives_in self.old)) }
@@ -106,7 +106,7 @@ impl Shelves {
         self.shelves[shelf_of(a.0)].inherit(a, from)
     }
 
-    // Takes the locks, the open cont and the hand from a life, and gives what it was.
+    /// Takes the locks, the open cont and the hand from a life, and gives what it was.
     pub(crate) fn bereave(&mut self, a: ActNo, alloc: Global) -> Option<KeptLife>
         ensures was { result ≡ lives_in self.old a.0 }
         ensures now { lives_in self.new ≡ with_life bereft (Some a) (lives_in self.old) }
@@ -115,7 +115,7 @@ impl Shelves {
         self.shelves[shelf_of(a.0)].bereave(a, alloc)
     }
 
-    // Puts a life in the place of another, if there is one.
+    /// Puts a life in the place of another, if there is one.
     pub(crate) fn put_back(&mut self, a: ActNo, life: KeptLife)
         ensures { lives_in self.new ≡ with_life (λ other. life) (Some a) (lives_in self.old) }
     {

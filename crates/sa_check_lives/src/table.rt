@@ -19,8 +19,8 @@ use sa_base::{ActNo, ProcNo, SpaceNo, ThreadNo};
 use std::alloc::{AllocError, Global};
 use std::marker::Model;
 
-// The lives by their numbers. Beside them are the numbers of those that have a lock, and of those that are in: each
-// such life is among them, and few others.
+/// The lives by their numbers. Beside them are the numbers of those that have a lock, and of those that are in: each
+/// such life is among them, and few others.
 #[derive(Drop)]
 pub(crate) struct Table {
     lives: Shelves,
@@ -44,7 +44,7 @@ impl Model for Table {
 }
 
 impl Table {
-    // Fails only where memory runs out.
+    /// Fails only where memory runs out.
     pub(crate) fn new(alloc: Global) -> Result<Self, AllocError>
         ensures { IfOk result (λ table. lives_in table ≡ (λ a. None)) }
     {
@@ -55,7 +55,7 @@ impl Table {
         })
     }
 
-    // The life of this number, if it is in use.
+    /// The life of this number, if it is in use.
     #[inline(always)]
     pub(crate) fn life(&self, a: ActNo) -> Option<&KeptLife>
         ensures { option_copied result ≡ lives_in self.now a.0 }
@@ -63,7 +63,7 @@ impl Table {
         self.lives.get(a.0)
     }
 
-    // The number is used for this life from now on. An error changes nothing.
+    /// The number is used for this life from now on. An error changes nothing.
     pub(crate) fn begin(&mut self, a: ActNo, life: KeptLife) -> Result<(), AllocError>
         requires locks { life.locks ≡ [] }
         requires out { life.inside ≡ false }
@@ -76,7 +76,7 @@ impl Table {
         Ok(())
     }
 
-    // The number is in use no longer.
+    /// The number is in use no longer.
     pub(crate) fn end(&mut self, a: ActNo)
         ensures { lives_in self.new ≡ put (lives_in self.old) a.0 None }
     {
@@ -85,7 +85,7 @@ impl Table {
         remove(&mut self.insiders, a.0);
     }
 
-    // Changes the life of this number, if it is in use. An error changes nothing.
+    /// Changes the life of this number, if it is in use. An error changes nothing.
     #[inline(always)]
     pub(crate) fn change(&mut self, a: Option<ActNo>, change: &Change) -> Result<(), AllocError>
         ensures ok { OnOk result
@@ -103,7 +103,7 @@ impl Table {
         Ok(())
     }
 
-    // The threads join the hand of the life of this number, if it is in use. An error changes nothing.
+    /// The threads join the hand of the life of this number, if it is in use. An error changes nothing.
     pub(crate) fn rouse(&mut self, a: Option<ActNo>, threads: &[ThreadNo]) -> Result<(), AllocError>
         ensures ok { OnOk result
             (lives_in self.new ≡ with_life (with_hand threads.now) a (lives_in self.old)) }
@@ -118,7 +118,7 @@ impl Table {
         self.lives.rouse(a, threads)
     }
 
-    // The life `a` was told to the life of the last up, which gets its locks and its hand. An error changes nothing.
+    /// The life `a` was told to the life of the last up, which gets its locks and its hand. An error changes nothing.
     pub(crate) fn hand_over(
         &mut self,
         upped: Option<ActNo>,
@@ -140,7 +140,7 @@ impl Table {
         Ok(())
     }
 
-    // Some life of the space, but for one that is given, has the list among its locks.
+    /// Some life of the space, but for one that is given, has the list among its locks.
     pub(crate) fn is_locked(&self, but: Option<ActNo>, s: SpaceNo, l: ProcNo) -> bool
         ensures any { (r : Readings) → r.lives ≡ lives_in self.now → but ≡ None
             → (IsTrue result ↔ IsLocked r s l) }
@@ -150,7 +150,7 @@ impl Table {
         some_has_list(&self.lives, self.holders.as_slice(), but, s, l)
     }
 
-    // The thread of the space holds the lock of a list.
+    /// The thread of the space holds the lock of a list.
     pub(crate) fn holds_lock(&self, s: SpaceNo, t: ThreadNo) -> bool
         ensures { (r : Readings) → r.lives ≡ lives_in self.now
             → (IsTrue result ↔ HoldsLock r s t) }
@@ -158,7 +158,7 @@ impl Table {
         some_has_thread(&self.lives, self.holders.as_slice(), s, t)
     }
 
-    // Some life is in.
+    /// Some life is in.
     pub(crate) fn some_is_in(&self) -> bool
         ensures { IsTrue result ↔ SomeIsIn (lives_in self.now) }
     {

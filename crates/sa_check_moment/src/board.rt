@@ -8,8 +8,8 @@ use sa_base::{ProcNo, Record, SpaceNo};
 use std::alloc::{AllocError, Global};
 use std::marker::Model;
 
-// Of each processor the space of its last aim record, the event that raised its line and its idle mark, and of each space
-// the number of its last want record. A processor or a space that is not there has none, and gets none.
+/// Of each processor the space of its last aim record, the event that raised its line and its idle mark, and of each space
+/// the number of its last want record. A processor or a space that is not there has none, and gets none.
 #[derive(Drop)]
 pub(crate) struct Board {
     aims: Vec<Option<SpaceNo>>,
@@ -32,7 +32,7 @@ impl Model for Board {
 }
 
 impl Board {
-    // Before any record, of this many processors and spaces. Fails only where memory runs out.
+    /// Before any record, of this many processors and spaces. Fails only where memory runs out.
     pub(crate) fn new(alloc: Global, processors: usize, spaces: usize) -> Result<Board, AllocError>
         ensures { IfOk result (λ b. b ≡ no_board processors spaces) }
     {
@@ -80,7 +80,7 @@ impl Board {
         self.demands.get(usize::from(s.0)).copied().unwrap_or(0)
     }
 
-    // No line is raised.
+    /// No line is raised.
     pub(crate) fn all_low(&self) -> bool
         ensures { result ≡ list_all is_none self.now.lines }
     {
@@ -92,14 +92,14 @@ impl Board {
         true
     }
 
-    // The line of the processor is low.
+    /// The line of the processor is low.
     pub(crate) fn lower(&mut self, p: ProcNo)
         ensures { self.new ≡ lowered p self.old }
     {
         put(&mut self.lines, p.0, None);
     }
 
-    // Reads a record of an event of the processor; `last` is the one of the same event directly before it.
+    /// Reads a record of an event of the processor; `last` is the one of the same event directly before it.
     pub(crate) fn note(&mut self, event: u64, p: ProcNo, last: Option<Record>, what: &Record)
         ensures { self.new ≡ noted event p last what.now self.old }
     {

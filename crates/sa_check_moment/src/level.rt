@@ -15,7 +15,7 @@ use sa_base::{Record, SpaceNo, ThreadNo};
 use sa_replay::Replay;
 use std::alloc::{AllocError, Global};
 
-// What is kept for the rules of a user level, beside what is read for those of each.
+/// What is kept for the rules of a user level, beside what is read for those of each.
 #[derive(Drop)]
 pub(crate) enum Level {
     FastThreads,
@@ -24,7 +24,7 @@ pub(crate) enum Level {
 }
 
 impl Level {
-    // Before any record of a trace of this many spaces. Fails only where memory runs out.
+    /// Before any record of a trace of this many spaces. Fails only where memory runs out.
     pub(crate) fn new(alloc: Global, rules: Rules, spaces: usize) -> Result<Level, AllocError>
         ensures rules { IfOk result (λ level. rules_in level ≡ rules) }
         ensures kept { IfOk result (λ level. (w : WorkloadView) → length w.spaces ≡ spaces
@@ -45,7 +45,7 @@ impl Level {
         }
     }
 
-    // By rules of ranks: the greatest rank of a ready thread of the space.
+    /// By rules of ranks: the greatest rank of a ready thread of the space.
     pub(crate) fn best(&self, s: SpaceNo) -> Option<u16>
         ensures { (a : State) (ready : List (List Listed)) → rules_in self.now ≡ kinds.Priorities
             → IsKeptFor self.now a ready
@@ -57,7 +57,7 @@ impl Level {
         }
     }
 
-    // By rules of ranks: the ready thread of the space that has the greatest rank, and of these the newest.
+    /// By rules of ranks: the ready thread of the space that has the greatest rank, and of these the newest.
     pub(crate) fn next(&self, s: SpaceNo) -> Option<ThreadNo>
         ensures { (a : State) (ready : List (List Listed)) → rules_in self.now ≡ kinds.Priorities
             → IsKeptFor self.now a ready
@@ -69,7 +69,7 @@ impl Level {
         }
     }
 
-    // Reads a record on the replay before it. Fails only where memory runs out.
+    /// Reads a record on the replay before it. Fails only where memory runs out.
     pub(crate) fn read(&mut self, replay: &Replay, what: &Record) -> Result<(), AllocError>
         ensures { OnOk result (ReadsLevel replay.now.state what.now self.old self.new) }
     {

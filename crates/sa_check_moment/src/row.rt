@@ -44,7 +44,7 @@ impl Model for RankedRow {
 }
 
 impl RankedRow {
-    // Before any record: thread 0 is ready, of rank 0. Fails only where memory runs out.
+    /// Before any record: thread 0 is ready, of rank 0. Fails only where memory runs out.
     pub(crate) fn new(alloc: Global) -> Result<RankedRow, AllocError>
         ensures { IfOk result (λ row. row ≡ opening_row) }
     {
@@ -59,7 +59,7 @@ impl RankedRow {
         })
     }
 
-    // A thread of this rank is ready. Fails only where memory runs out.
+    /// A thread of this rank is ready. Fails only where memory runs out.
     pub(crate) fn ready(&mut self, t: ThreadNo, rank: u16) -> Result<(), AllocError>
         ensures { OnOk result (HasPut self.old rank (row_stack self.old rank ++ t ∷ []) self.new) }
     {
@@ -70,7 +70,7 @@ impl RankedRow {
         Ok(())
     }
 
-    // The thread of this rank is ready no more.
+    /// The thread of this rank is ready no more.
     pub(crate) fn run(&mut self, t: ThreadNo, rank: u16)
         ensures { HasPut self.old rank (without t (row_stack self.old rank)) self.new }
     {
@@ -81,7 +81,7 @@ impl RankedRow {
         }
     }
 
-    // The greatest rank of a ready thread.
+    /// The greatest rank of a ready thread.
     pub(crate) fn best(&self) -> Option<u16>
         ensures { IsBest self.now result }
     {
@@ -91,7 +91,7 @@ impl RankedRow {
         Some((self.top - 1) as u16)
     }
 
-    // The newest of the ready threads of this rank.
+    /// The newest of the ready threads of this rank.
     pub(crate) fn newest(&self, rank: u16) -> Option<ThreadNo>
         ensures { result ≡ newest (row_stack self.now rank) }
     {

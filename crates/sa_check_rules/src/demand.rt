@@ -9,7 +9,7 @@ use sa_check_lives::KeptLife;
 use sa_check_moment::Moment;
 use sa_check_shapes::{is_step, parted};
 
-// Demand is announced, at an event of this number and processor with these records, on the moment before it.
+/// Demand is announced, at an event of this number and processor with these records, on the moment before it.
 #[inline(always)]
 pub(crate) fn is_announced(moment: &Moment, number: u64, p: ProcNo, records: &[Record]) -> bool
     ensures { let m = seen moment.now in
@@ -38,7 +38,7 @@ fn begins_freely(moment: &Moment, p: ProcNo, records: &[Record]) -> bool
     }
 }
 
-// Only a life that is out or owes nothing begins a step so.
+/// Only a life that is out or owes nothing begins a step so.
 #[inline(always)]
 pub(crate) fn is_bound(moment: &Moment, life: &KeptLife, first: Record) -> bool
     ensures { result ≡ is_bound (seen moment.now).readings life.now first }

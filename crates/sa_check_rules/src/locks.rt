@@ -12,7 +12,7 @@ use sa_check_lives::{KeptLife, ListLock};
 use sa_check_moment::Moment;
 use sa_check_shapes::{is_back, is_step, own_part, parted, stands_alone};
 
-// List locks, at an event of this number and processor with these records, on the moment as it begins.
+/// List locks, at an event of this number and processor with these records, on the moment as it begins.
 #[inline(always)]
 pub(crate) fn list_locks_are_kept(
     moment: &Moment,
@@ -54,14 +54,14 @@ fn keeps_locks_if(moment: &Moment, p: ProcNo, first: Record) -> bool
     }
 }
 
-// A back is due: a continued lock was freed.
+/// A back is due: a continued lock was freed.
 pub(crate) fn back_is_due(life: &KeptLife) -> bool
     ensures { result ≡ back_is_due life.now }
 {
     life.cont() && life.freed()
 }
 
-// The operation on ready lists keeps to its rule.
+/// The operation on ready lists keeps to its rule.
 #[inline(always)]
 pub(crate) fn keeps_locks(moment: &Moment, p: ProcNo, life: &KeptLife, first: Record) -> bool
     ensures { let m = seen moment.now in

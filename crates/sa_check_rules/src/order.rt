@@ -8,7 +8,7 @@ use sa_base::{ProcNo, Record, SpaceNo, ThreadNo};
 use sa_check_moment::Moment;
 use sa_check_shapes::parted;
 
-// List order, at an event of this processor with these records, on the moment before it.
+/// List order, at an event of this processor with these records, on the moment before it.
 #[inline(always)]
 pub(crate) fn lists_are_in_order(moment: &Moment, p: ProcNo, records: &[Record]) -> bool
     ensures { IsTrue result ↔ RunsNext (seen moment.now).readings p records.now }

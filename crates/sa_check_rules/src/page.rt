@@ -6,7 +6,7 @@ use sa_base::{SpaceNo, UPCALL_PAGE};
 use sa_check_moment::Moment;
 use sa_check_shapes::UpcallPage;
 
-// What is read of it.
+/// What is read of it.
 pub(crate) fn upcall_page(moment: &Moment, s: SpaceNo) -> UpcallPage
     ensures { IsSeen (seen moment.now).readings s result }
 {

@@ -12,7 +12,7 @@ use sa_check_lives::KeptLife;
 use sa_check_moment::Moment;
 use sa_check_shapes::{are_of_locks, is_ins_of, is_passage, parted};
 
-// The records are those of a step of the life that runs on the processor.
+/// The records are those of a step of the life that runs on the processor.
 #[inline(always)]
 pub(crate) fn is_fast_step(moment: &Moment, p: ProcNo, records: &[Record]) -> bool
     ensures { let m = seen moment.now in
@@ -27,7 +27,7 @@ pub(crate) fn is_fast_step(moment: &Moment, p: ProcNo, records: &[Record]) -> bo
     }
 }
 
-// The records are those of a step of this life.
+/// The records are those of a step of this life.
 #[inline(always)]
 pub(crate) fn is_step_of(
     moment: &Moment,
@@ -92,7 +92,7 @@ fn can_hint(moment: &Moment, s: SpaceNo, life: &KeptLife, n: u16) -> bool
     }
 }
 
-// A raising hint: the life has nothing, and less than its space can use was announced.
+/// A raising hint: the life has nothing, and less than its space can use was announced.
 pub(crate) fn can_raise(moment: &Moment, life: &KeptLife, n: u16) -> bool
     ensures { let m = seen moment.now in
         IsTrue result ↔ CanRaise m.workload m.readings life.now n }

@@ -95,7 +95,7 @@ fn is_asked(moment: &Moment, p: ProcNo, q: ProcNo) -> bool
     }
 }
 
-// The records are those of a step of the processor, by the user level's table.
+/// The records are those of a step of the processor, by the user level's table.
 #[inline(always)]
 pub(crate) fn is_step(moment: &Moment, p: ProcNo, records: &[Record]) -> bool
     ensures { let m = seen moment.now in

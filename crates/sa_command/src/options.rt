@@ -6,7 +6,7 @@ use crate::value::{read_give, read_package, read_schedule, read_within};
 use sa_base::{MAX_BURST, MAX_EVENTS};
 use sa_states::MAX_STATES;
 
-// Which options a command takes.
+/// Which options a command takes.
 #[derive(Clone, Copy)]
 pub(crate) struct Options {
     pub(crate) schedule: bool,
@@ -17,7 +17,7 @@ pub(crate) struct Options {
     pub(crate) give: bool,
 }
 
-// No option: a command says which it takes beside it.
+/// No option: a command says which it takes beside it.
 pub(crate) const NO_OPTIONS: Options = Options {
     schedule: false,
     budget: false,
@@ -27,7 +27,7 @@ pub(crate) const NO_OPTIONS: Options = Options {
     give: false,
 };
 
-// A command takes no option that it does not name. It does nothing.
+/// A command takes no option that it does not name. It does nothing.
 pub(crate) fn no_options_are_taken()
     ensures { NO_OPTIONS ≡ record {
       schedule = false;
@@ -39,7 +39,7 @@ pub(crate) fn no_options_are_taken()
     } }
 {}
 
-// What the options of a command set.
+/// What the options of a command set.
 #[derive(Clone, Copy)]
 pub(crate) struct Settings {
     pub(crate) schedule: Option<ScheduleWord>,
@@ -50,7 +50,7 @@ pub(crate) struct Settings {
     pub(crate) give: Option<GiveWord>,
 }
 
-// What these words set of the options that are taken, or none where they are no such options.
+/// What these words set of the options that are taken, or none where they are no such options.
 pub(crate) fn read_options(taken: Options, words: &[String]) -> Option<Settings>
     ensures { result ≡ set_by taken (map string_bytes words.now) }
 {

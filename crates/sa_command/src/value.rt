@@ -5,7 +5,7 @@ use crate::command::{GiveWord, PackageWord, ScheduleWord};
 use sa_base::{MAX_EVENTS, MAX_PROCESSORS, ProcNo};
 use sa_text::read_number;
 
-// The number that the word spells, where it is from `low` to `high`.
+/// The number that the word spells, where it is from `low` to `high`.
 pub(crate) fn read_within(low: u64, high: u64, word: &[u8]) -> Option<u64>
     ensures { result ≡ number_within low high word.now }
 {
@@ -13,7 +13,7 @@ pub(crate) fn read_within(low: u64, high: u64, word: &[u8]) -> Option<u64>
     if low <= n && n <= high { Some(n) } else { None }
 }
 
-// The order of turns that the word is.
+/// The order of turns that the word is.
 pub(crate) fn read_schedule(word: &[u8]) -> Option<ScheduleWord>
     ensures { result ≡ schedule_of word.now }
 {
@@ -56,7 +56,7 @@ fn read_parts(proc: &[u8], from: &[u8]) -> Option<ScheduleWord>
     Some(ScheduleWord::Hold(ProcNo(proc as u16), from))
 }
 
-// The user level that the word is.
+/// The user level that the word is.
 pub(crate) fn read_package(word: &[u8]) -> Option<PackageWord>
     ensures { result ≡ package_of word.now }
 {
@@ -69,7 +69,7 @@ pub(crate) fn read_package(word: &[u8]) -> Option<PackageWord>
     None
 }
 
-// The schedule that the word asks for.
+/// The schedule that the word asks for.
 pub(crate) fn read_give(word: &[u8]) -> Option<GiveWord>
     ensures { result ≡ give_of word.now }
 {

@@ -24,7 +24,7 @@ impl Words {
         Words { list }
     }
 
-    // The words as a slice.
+    /// The words as a slice.
     pub(crate) fn list(&self) -> &[String]
         ensures { map string_bytes result.now ≡ self.now }
     {

@@ -13,9 +13,9 @@ use Rattle.sa_assign.specs.Aims.{least_below, is_aim}
 use Rattle.sa_devices.specs.declared.kind.IoKind.{IoKind}
 use Rattle.sa_devices.specs.declared.kind.IoKind.TheVariants.{Plain, Page, Upcall}
 use Rattle.sa_kernel_model.specs.State.{KernelState, Scene, owner_of, can_upcall}
-use Rattle.sa_kernel_model.specs.Parts.{fetch_page, leave, moved, upcall, go_to_by}
+use Rattle.sa_kernel_model.specs.Parts.{fetch_page, leave, moved, upcall, go_to_by, raised}
 use Rattle.sa_kernel_model.specs.Closing.{spaces, want_one, want_for, wants, must_want, aims, interrupt, interrupt_one, interrupt_for, must_interrupt, has_low_line, closed}
-use Rattle.sa_kernel_model.specs.Entries.{stopped, go_to_aim, over, over_for, more, idled, interrupted_own, told_or_left, block_begun}
+use Rattle.sa_kernel_model.specs.Entries.{stopped, go_to_aim, over, over_for, more, idled, told_or_left, block_begun}
 use Rattle.sa_kernel_model.specs.Enters.{upcalls_for}
 use Rattle.sa_kernel_model.proofs.parts.Placed.{for_spaces-keeps}
 use Rattle.sa_kernel_model.proofs.sound.Held.{stays-closed}
@@ -86,7 +86,7 @@ module _ {C : Type 0} where
   same-idled e p None x = record { lives = refl; acts = refl; telling = refl; demands = refl }
   same-idled e p (Some s) x = record { lives = refl; acts = refl; telling = refl; demands = length-set x.state.demands s.0 _ }
 
-  pub same-own : (e : ℕ) (p q : ProcNo) (x : Scene C) → SameRuns x.state (interrupted_own e p q x).state
+  pub same-own : (e : ℕ) (p q : ProcNo) (x : Scene C) → SameRuns x.state (raised e p q x).state
   same-own e p q x = record { lives = refl; acts = refl; telling = refl; demands = refl }
 
   -- a fresh activation of a space runs on a processor

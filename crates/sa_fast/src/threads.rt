@@ -119,7 +119,7 @@ impl Threads {
         self.blocks[t.0 as usize]
     }
 
-    // The block of a thread, where it is.
+    /// The block of a thread, where it is.
     pub(crate) fn at(&self, t: ThreadNo) -> &Block
         requires { t.0 < MAX_THREADS }
         ensures { result.now ≡ block_at self.now t.0 }
@@ -127,7 +127,7 @@ impl Threads {
         &self.blocks[t.0 as usize]
     }
 
-    // What is in a register of a thread.
+    /// What is in a register of a thread.
     pub(crate) fn value(&self, t: ThreadNo, reg: Reg) -> u64
         requires { t.0 < MAX_THREADS }
         ensures { result ≡ reg_value (block_at self.now t.0).regs reg }
@@ -161,7 +161,7 @@ impl Threads {
         self.blocks[t.0 as usize].place = place;
     }
 
-    // A thread does this instruction where it is local.
+    /// A thread does this instruction where it is local.
     pub(crate) fn go(&mut self, t: ThreadNo, instr: Instr)
         requires thread { t.0 < MAX_THREADS }
         requires next { (block_at self.old t.0).pc + 1 < MAX_INSTRUCTIONS }
@@ -172,7 +172,7 @@ impl Threads {
         go_by(&mut self.blocks[t.0 as usize], instr);
     }
 
-    // A thread goes on at the next place.
+    /// A thread goes on at the next place.
     pub(crate) fn advance(&mut self, t: ThreadNo)
         requires thread { t.0 < MAX_THREADS }
         requires next { (block_at self.old t.0).pc + 1 < MAX_INSTRUCTIONS }
@@ -183,7 +183,7 @@ impl Threads {
         self.blocks[t.0 as usize].pc += 1;
     }
 
-    // A thread goes on at the next place, with a value in a register.
+    /// A thread goes on at the next place, with a value in a register.
     pub(crate) fn take_value(&mut self, t: ThreadNo, reg: Reg, value: u64)
         requires thread { t.0 < MAX_THREADS }
         requires next { (block_at self.old t.0).pc + 1 < MAX_INSTRUCTIONS }

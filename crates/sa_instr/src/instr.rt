@@ -88,8 +88,8 @@ pub enum Instr {
 }
 
 impl Instr {
-    // Whether it fits a program of `len` instructions: a jump goes to a place below `len`, and each number with a range of
-    // its own is in it.
+    /// Whether it fits a program of `len` instructions: a jump goes to a place below `len`, and each number with a range of
+    /// its own is in it.
     pub(crate) fn fits(&self, len: usize) -> bool
         ensures { IsTrue result ↔ (JumpsBelow len self.now × IsInRange self.now) }
     {
@@ -99,7 +99,7 @@ impl Instr {
             .all(|operand| operand.is_below(len) && operand.is_in_range())
     }
 
-    // Whether the mutex, semaphore, cell or program that the instruction names is declared.
+    /// Whether the mutex, semaphore, cell or program that the instruction names is declared.
     pub(crate) fn names_declared(&self, declared: &Declared) -> bool
         ensures { IsTrue result ↔ NamesDeclared declared.now.mutexes declared.now.sems
             declared.now.cells declared.now.programs self.now }

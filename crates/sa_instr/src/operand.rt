@@ -62,7 +62,7 @@ impl Operand {
         }
     }
 
-    // Whether a number with a range of its own is in it.
+    /// Whether a number with a range of its own is in it.
     pub(crate) fn is_in_range(&self) -> bool
         ensures { IsTrue result ↔ InRange self.now }
     {
@@ -78,7 +78,7 @@ impl Operand {
         }
     }
 
-    // Whether a place is below `len`.
+    /// Whether a place is below `len`.
     pub(crate) fn is_below(&self, len: usize) -> bool
         ensures { IsTrue result ↔ IsPlaceBelow len self.now }
     {
@@ -88,7 +88,7 @@ impl Operand {
         }
     }
 
-    // Whether what the operand names is declared.
+    /// Whether what the operand names is declared.
     pub(crate) fn is_declared(&self, declared: &Declared) -> bool
         ensures { IsTrue result ↔ IsDeclared declared.now.mutexes declared.now.sems
             declared.now.cells declared.now.programs self.now }

@@ -36,7 +36,7 @@ impl<R: Read> Source for StdSource<R> {
 
     ghost faults = { λ s. s.faults };
 
-    /// Reads again where a signal interrupts the reader. Any other error of the reader's is a fault.
+    // Reads again where a signal interrupts the reader. Any other error of the reader's is a fault.
     fn read(&mut self, into: &mut [u8]) -> Result<usize, Failed>
         // As any source does.
         ensures within { IfOk result (λ n. n ≤ length into.old) }
@@ -97,8 +97,8 @@ impl<W: Write> Sink for StdSink<W> {
 
     ghost faults = { λ s. s.faults };
 
-    /// Writes on until the writer has the whole piece, again where a signal interrupts it. Any other
-    /// error of the writer's is a fault, and so is a write of no byte.
+    // Writes on until the writer has the whole piece, again where a signal interrupts it. Any other
+    // error of the writer's is a fault, and so is a write of no byte.
     fn write(&mut self, piece: &[u8]) -> Result<(), Failed>
         // As any sink does.
         ensures taken { OnOk result

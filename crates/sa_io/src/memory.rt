@@ -65,7 +65,7 @@ impl Source for MemSource {
 
     ghost faults = { λ s. s.faults };
 
-    /// Gives the smaller of the step, the room and what is left.
+    // Gives the smaller of the step, the room and what is left.
     fn read(&mut self, into: &mut [u8]) -> Result<usize, Failed>
         // As any source does.
         ensures within { IfOk result (λ n. n ≤ length into.old) }
@@ -95,7 +95,7 @@ impl Source for MemSource {
     }
 }
 
-/// Copies what `from` has at `at` and behind it to the front of `to`, at most `most` bytes of it, and returns how many.
+// Copies what `from` has at `at` and behind it to the front of `to`, at most `most` bytes of it, and returns how many.
 fn copy_next(from: &[u8], at: usize, most: usize, to: &mut [u8]) -> usize
     requires { at ≤ length from.now }
     ensures count { result ≡ min most (min (length to.old) (length (drop at from.now))) }
@@ -107,7 +107,7 @@ fn copy_next(from: &[u8], at: usize, most: usize, to: &mut [u8]) -> usize
     count
 }
 
-/// Whether the call that follows on this many calls is one of those listed.
+// Whether the call that follows on this many calls is one of those listed.
 fn is_next_listed(numbers: &[u64], calls: u64) -> bool
     ensures { IsTrue result ↔ Contains numbers.now (calls + 1) }
 {
@@ -182,7 +182,7 @@ impl Sink for MemSink {
 
     ghost faults = { λ s. s.faults };
 
-    /// A write that fails takes nothing.
+    // A write that fails takes nothing.
     fn write(&mut self, piece: &[u8]) -> Result<(), Failed>
         // As any sink does.
         ensures taken { OnOk result (self.new.taken ≡ self.old.taken ++ piece.now) }

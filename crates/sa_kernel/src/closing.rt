@@ -10,7 +10,7 @@ use sa_assign::AIM_ITEMS;
 use sa_base::{Item, MAX_SPACES, Note, ProcNo, Record, SpaceNo, Trace};
 use sa_share::Claim;
 
-// The most items that a closing says: a want and a line of each space, and the new aims.
+/// The most items that a closing says: a want and a line of each space, and the new aims.
 pub(crate) const CLOSING_ITEMS: usize = 2 * MAX_SPACES + AIM_ITEMS;
 
 impl<C: Drop> Parts<C> {
@@ -34,7 +34,7 @@ impl<C: Drop> Parts<C> {
         }
     }
 
-    // Whether the space must be told some of this even where it wants no processor.
+    /// Whether the space must be told some of this even where it wants no processor.
     pub(crate) fn some_calls(&self, notes: &[Note]) -> bool
         ensures { result ≡ list_any (calls_for (state_of self.now)) notes.now }
     {
@@ -98,7 +98,7 @@ impl<C: Drop> Parts<C> {
         claims
     }
 
-    // The space whose turn it is to be served first.
+    /// The space whose turn it is to be served first.
     pub(crate) fn first_space(&self, event: u64) -> u16
         requires { HasSizes (state_of self.now) }
         ensures is { result ≡ first_space (state_of self.now) event }
@@ -153,7 +153,7 @@ impl<C: Drop> Parts<C> {
             && self.assign.line(q).is_some()
     }
 
-    // Whether the space owns this processor, whose line is low.
+    /// Whether the space owns this processor, whose line is low.
     pub(crate) fn has_low_line(&self, s: SpaceNo, q: ProcNo) -> bool
         requires { HasProc (state_of self.now) q }
         ensures { result ≡ has_low_line (state_of self.now) s.0 q.0 }
@@ -228,7 +228,7 @@ impl<C: Drop> Parts<C> {
         }
     }
 
-    // The closing of an event.
+    /// The closing of an event.
     pub(crate) fn close(&mut self, event: u64, p: ProcNo, trace: &mut Trace)
         requires sizes { HasSizes (state_of self.old) }
         requires trace { CLOSING_ITEMS ≤ trace.old.spare }

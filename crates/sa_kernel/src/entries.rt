@@ -19,8 +19,8 @@ impl<C: Drop> Parts<C> {
     ghost use Rattle.sa_kernel_model.specs.State.{owner_of, aim_of, life_of, demand_of};
     ghost use Rattle.sa_kernel_model.specs.Sound.{IsFormed, HasSizes, AreSpaces, AreIos, AreAlive};
     ghost use Rattle.sa_kernel_model.specs.Enters.{Enters, upcalls_for, upcalls_in, untold_count, taken_count};
-    ghost use Rattle.sa_kernel_model.specs.Parts.{go_to};
-    ghost use Rattle.sa_kernel_model.specs.Entries.{stopped, go_to_aim, interrupted, block_begun, blocked, kind_at, come_back, over, more, idled, announced, gave_back, interrupted_own};
+    ghost use Rattle.sa_kernel_model.specs.Parts.{go_to, raised};
+    ghost use Rattle.sa_kernel_model.specs.Entries.{stopped, go_to_aim, interrupted, block_begun, blocked, kind_at, come_back, over, more, idled, announced, gave_back};
 
     // The context that ran on a processor, if one did, is stopped by an interrupt.
     fn stop(&mut self, event: u64, p: ProcNo, held: Option<Stopped<C>>, trace: &mut Trace)
@@ -65,7 +65,7 @@ impl<C: Drop> Parts<C> {
         }
     }
 
-    // The line of a processor is lowered, the context that ran there is stopped, and the processor goes to its aim.
+    /// The line of a processor is lowered, the context that ran there is stopped, and the processor goes to its aim.
     pub(crate) fn interrupt(
         &mut self,
         event: u64,
@@ -106,7 +106,7 @@ impl<C: Drop> Parts<C> {
         trace.say(event, p, Record::Want(s, n));
     }
 
-    // The space can use that many more processors.
+    /// The space can use that many more processors.
     pub(crate) fn more(&mut self, event: u64, p: ProcNo, n: u16, trace: &mut Trace)
         requires sound { IsFormed (state_of self.old) }
         requires within { p.0 < length self.old.lives.items }
@@ -124,7 +124,7 @@ impl<C: Drop> Parts<C> {
         }
     }
 
-    // This processor is idle.
+    /// This processor is idle.
     pub(crate) fn idle(&mut self, event: u64, p: ProcNo, trace: &mut Trace)
         requires sound { IsFormed (state_of self.old) }
         requires within { p.0 < length self.old.lives.items }
@@ -140,13 +140,12 @@ impl<C: Drop> Parts<C> {
         }
     }
 
-    // The line of a processor is raised.
+    /// The line of a processor is raised.
     pub(crate) fn raise(&mut self, event: u64, p: ProcNo, q: ProcNo, trace: &mut Trace)
         requires proc { HasProc (state_of self.old) q }
         requires low { slice_index_or self.old.assign.lines q.0 None ≡ None }
         requires trace { 1 ≤ trace.old.spare }
-        ensures exact { scene_of self.new trace.new
-            ≡ interrupted_own event p q (scene_of self.old trace.old) }
+        ensures exact { scene_of self.new trace.new ≡ raised event p q (scene_of self.old trace.old) }
         ensures sizes { HasSizes (state_of self.new) }
         ensures spaces { length self.new.demands.items ≡ length self.old.demands.items }
         ensures room { Spends self.old self.new 0 0 0 }
@@ -185,7 +184,7 @@ impl<C: Drop> Parts<C> {
         self.put_aside(p, s, a, Note::Blocked(a), held);
     }
 
-    // The running context blocks.
+    /// The running context blocks.
     pub(crate) fn block(
         &mut self,
         event: u64,
@@ -243,7 +242,7 @@ impl<C: Drop> Parts<C> {
         trace.say(event, p, Record::Unblock(s, thread, a));
     }
 
-    // An I/O is over: a context has come back, or the upcall page of a space is there.
+    /// An I/O is over: a context has come back, or the upcall page of a space is there.
     pub(crate) fn complete(&mut self, event: u64, p: ProcNo, io: IoNo, trace: &mut Trace)
         requires sizes { HasSizes (state_of self.old) }
         requires kinds { AreIos (length self.old.demands.items) self.old.devices.ios.under_way }
@@ -262,7 +261,7 @@ impl<C: Drop> Parts<C> {
         }
     }
 
-    // The taken activations of the space that owns the processor are given back.
+    /// The taken activations of the space that owns the processor are given back.
     pub(crate) fn give_back(&mut self, event: u64, p: ProcNo, trace: &mut Trace)
         requires proc { HasProc (state_of self.old) p }
         requires trace { taken_count (state_of self.old) ≤ trace.old.spare }

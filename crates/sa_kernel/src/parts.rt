@@ -32,7 +32,7 @@ impl<C: Drop> Parts<C> {
     ghost use Rattle.sa_kernel_model.specs.Parts.{put_aside, run_in, upcall, leave, moved, go_to};
     ghost use Rattle.sa_kernel_model.specs.Enters.{Enters};
 
-    // The context that runs on a processor is no longer there: it is held, and its space is to be told.
+    /// The context that runs on a processor is no longer there: it is held, and its space is to be told.
     pub(crate) fn put_aside(
         &mut self,
         p: ProcNo,
@@ -70,7 +70,7 @@ impl<C: Drop> Parts<C> {
         a
     }
 
-    // An upcall in a fresh activation; `added` says that the space has just become the owner.
+    /// An upcall in a fresh activation; `added` says that the space has just become the owner.
     pub(crate) fn upcall(
         &mut self,
         event: u64,
@@ -95,7 +95,7 @@ impl<C: Drop> Parts<C> {
         a
     }
 
-    // A processor is left for want of the upcall page of a space, which is fetched, unless it is on its way.
+    /// A processor is left for want of the upcall page of a space, which is fetched, unless it is on its way.
     pub(crate) fn leave(&mut self, event: u64, p: ProcNo, s: SpaceNo, trace: &mut Trace)
         requires proc { HasProc (state_of self.old) p }
         requires space { HasSpace (state_of self.old) s }
@@ -116,7 +116,7 @@ impl<C: Drop> Parts<C> {
         }
     }
 
-    // The activation that runs on a processor.
+    /// The activation that runs on a processor.
     pub(crate) fn life(&self, p: ProcNo) -> Option<ActNo>
         requires { p.0 < length self.now.lives.items }
         ensures { result ≡ life_of (state_of self.now) p }
@@ -124,7 +124,7 @@ impl<C: Drop> Parts<C> {
         self.lives[usize::from(p.0)]
     }
 
-    // Whether the upcall page of a space is resident.
+    /// Whether the upcall page of a space is resident.
     pub(crate) fn can_upcall(&self, s: SpaceNo) -> bool
         requires { HasSpace (state_of self.now) s }
         ensures { result ≡ can_upcall (state_of self.now) s }
@@ -146,7 +146,7 @@ impl<C: Drop> Parts<C> {
         }
     }
 
-    // A processor goes to a space: by an upcall where its page is resident, else it is left.
+    /// A processor goes to a space: by an upcall where its page is resident, else it is left.
     pub(crate) fn go_to(&mut self, event: u64, p: ProcNo, s: SpaceNo, trace: &mut Trace) -> Given
         requires proc { HasProc (state_of self.old) p }
         requires space { HasSpace (state_of self.old) s }
@@ -168,7 +168,7 @@ impl<C: Drop> Parts<C> {
     }
 }
 
-// Whether this owner is the space.
+/// Whether this owner is the space.
 pub(crate) fn is_owner(owner: Option<SpaceNo>, s: SpaceNo) -> bool
     ensures { result ≡ is_aim s.0 owner }
 {

@@ -4,7 +4,7 @@ ghost use Rattle.std.specs.Prelude.{◌≡◌, ◌^◌, ◌<◌, bit_or, length,
 use crate::parts::Parts;
 use sa_base::{MAX_SPACES, ProcNo, Seen, SpaceNo};
 
-// Of each space, what it sees of low lines: bit q says that it owns processor q, whose line is low.
+/// Of each space, what it sees of low lines: bit q says that it owns processor q, whose line is low.
 pub(crate) type Lows = [u16; MAX_SPACES];
 
 impl<C: Drop> Parts<C> {
@@ -15,7 +15,7 @@ impl<C: Drop> Parts<C> {
     ghost use Rattle.sa_kernel_model.specs.Sound.{HasSizes, AreSpaces, IsFormed};
     ghost use Rattle.sa_kernel_model.specs.Seen.{seen_of, has_line, has_call};
 
-    // What each space sees of low lines.
+    /// What each space sees of low lines.
     pub(crate) fn lows(&self) -> Lows
         requires { IsFormed (state_of self.now) }
         ensures { AreLow (state_of self.now) result }
@@ -40,7 +40,7 @@ impl<C: Drop> Parts<C> {
         self.assign.owner(p)
     }
 
-    // What the space that owns the processor sees there, where this is what each space sees of low lines.
+    /// What the space that owns the processor sees there, where this is what each space sees of low lines.
     pub(crate) fn seen(&self, p: ProcNo, event: u64, lows: &Lows) -> Seen
         requires proc { HasProc (state_of self.now) p }
         requires owners { AreSpaces (length self.now.demands.items) self.now.assign.owners }
@@ -62,7 +62,7 @@ impl<C: Drop> Parts<C> {
         }
     }
 
-    // Whether the line of a processor is raised.
+    /// Whether the line of a processor is raised.
     pub(crate) fn has_line(&self) -> bool
         requires { HasSizes (state_of self.now) }
         ensures { result ≡ has_line (state_of self.now) }
@@ -75,7 +75,7 @@ impl<C: Drop> Parts<C> {
         false
     }
 
-    // Whether a space was not told yet of a context that was not idle.
+    /// Whether a space was not told yet of a context that was not idle.
     pub(crate) fn has_call(&self) -> bool
         requires { HasSizes (state_of self.now) }
         ensures { result ≡ has_call (state_of self.now) }

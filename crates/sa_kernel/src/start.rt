@@ -31,7 +31,7 @@ impl<C: Drop> Parts<C> {
     ghost use Rattle.sa_kernel_model.specs.Entries.{entered_as, held_for, handed_by, fetched, next_note, after_fetch};
     ghost use Rattle.sa_kernel_model.specs.Entering.{MayEnter, upcalls};
 
-    // The parts at the opening of a workload.
+    /// The parts at the opening of a workload.
     pub(crate) fn new(alloc: Global, w: &Workload) -> Result<Self, AllocError>
         ensures state { IfOk result (λ m. state_of m ≡ opening_state w.now) }
         ensures used { IfOk result (λ m. used m ≡ 0) }
@@ -50,7 +50,7 @@ impl<C: Drop> Parts<C> {
         })
     }
 
-    // The opening: each space wants a processor, and the closing follows.
+    /// The opening: each space wants a processor, and the closing follows.
     pub(crate) fn open(&mut self, trace: &mut Trace)
         requires sizes { HasSizes (state_of self.old) }
         requires trace { OPENING ≤ trace.old.spare }
@@ -64,7 +64,7 @@ impl<C: Drop> Parts<C> {
         self.close(0, ProcNo(0), trace);
     }
 
-    // Makes room for that many entries. An error changes nothing but the room.
+    /// Makes room for that many entries. An error changes nothing but the room.
     pub(crate) fn reserve(&mut self, n: usize) -> Result<(), AllocError>
         ensures ok { OnOk result ((n ≤ self.new.notices.spare) × (n ≤ self.new.acts.spare)
             × (2 * n ≤ self.new.devices.ios.spare)) }
@@ -105,7 +105,7 @@ impl<C: Drop> Parts<C> {
         }
     }
 
-    // The next notice that the last upcall told, with the context that it hands over.
+    /// The next notice that the last upcall told, with the context that it hands over.
     pub(crate) fn next_note(&mut self) -> Option<(Note, Option<Stopped<C>>)>
         ensures note { result ≡ next_note (state_of self.old) }
         ensures state { state_of self.new ≡ after_fetch (state_of self.old).telling (state_of self.old) }
@@ -116,7 +116,7 @@ impl<C: Drop> Parts<C> {
         Some((note, held))
     }
 
-    // How many activations are taken and not given back.
+    /// How many activations are taken and not given back.
     pub(crate) fn taken_count(&self) -> usize
         requires { HasSizes (state_of self.now) }
         ensures is { result ≡ taken_count (state_of self.now) }
@@ -129,7 +129,7 @@ impl<C: Drop> Parts<C> {
         count
     }
 
-    // What an entry does, but for the closing.
+    /// What an entry does, but for the closing.
     pub(crate) fn enter_as(
         &mut self,
         event: u64,

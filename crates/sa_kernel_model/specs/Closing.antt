@@ -5,7 +5,7 @@ use Rattle.sa_base.specs.declared.number.ProcNo.{ProcNo}
 use Rattle.sa_base.specs.declared.context.Stopped.{Stopped}
 use Rattle.sa_base.specs.declared.record.Note.{Note}
 use Rattle.sa_base.specs.declared.record.Note.TheVariants.{Add, Preempted, Blocked, Unblocked}
-use Rattle.sa_base.specs.declared.record.Record.TheVariants.{Want, Line}
+use Rattle.sa_base.specs.declared.record.Record.TheVariants.{Want}
 use Rattle.sa_base.specs.Items.{items_at}
 use Rattle.sa_share.specs.declared.Claim.{Claim}
 use Rattle.sa_share.specs.Rounds.{shares_of}
@@ -14,7 +14,7 @@ use Rattle.sa_assign.specs.Aims.{aimed, is_aim, least_below}
 use Rattle.sa_assign.specs.Reaim.{proc_no, reaimed, reaim_records}
 use Rattle.sa_batch.specs.Notices.{has_untold}
 use Rattle.sa_kernel_model.specs.State.{KernelState, Scene, owner_of, aim_of, line_of, demand_of, untold_of, is_fetching, says}
-use Rattle.sa_kernel_model.specs.Parts.{with_demand, with_line}
+use Rattle.sa_kernel_model.specs.Parts.{with_demand, raised}
 
 module _ {C : Type 0} where
   -- for n spaces from s on, in the order of their numbers
@@ -93,7 +93,7 @@ module _ {C : Type 0} where
   -- A space has its lowest-numbered processor with a low line interrupted, if there is one.
   abbrev pub interrupt : ℕ → ProcNo → Option ℕ → Scene C → Scene C
   interrupt e p None x = x
-  interrupt e p (Some q) x = says e p (Line (proc_no q)) (record x { state = with_line (proc_no q) (Some e) x.state })
+  interrupt e p (Some q) x = raised e p (proc_no q) x
 
   abbrev pub interrupt_one : ℕ → ProcNo → Bool → ℕ → Scene C → Scene C
   interrupt_one e p false s x = x

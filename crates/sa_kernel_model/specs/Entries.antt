@@ -10,7 +10,7 @@ use Rattle.sa_base.specs.declared.number.IoNo.{IoNo}
 use Rattle.sa_base.specs.declared.context.Stopped.{Stopped}
 use Rattle.sa_base.specs.declared.record.Note.{Note}
 use Rattle.sa_base.specs.declared.record.Note.TheVariants.{Add, Preempted, Blocked, Unblocked}
-use Rattle.sa_base.specs.declared.record.Record.TheVariants.{Stop, Block as BlockRecord, Unblock, Want, Line, Fetched, GiveBack as GiveBackRecord}
+use Rattle.sa_base.specs.declared.record.Record.TheVariants.{Stop, Block as BlockRecord, Unblock, Want, Fetched, GiveBack as GiveBackRecord}
 use Rattle.sa_base.specs.Items.{items_at}
 use Rattle.sa_lemmas.specs.Function.{put}
 use Rattle.sa_acts.specs.declared.acts.Act.{Act}
@@ -22,7 +22,7 @@ use Rattle.sa_devices.specs.declared.kind.IoKind.TheVariants.{Plain, Page, Upcal
 use Rattle.sa_kernel_model.specs.declared.entry.Entry.{Entry}
 use Rattle.sa_kernel_model.specs.declared.entry.Entry.TheVariants.{Interrupt, Block, Complete, More, Idle, GiveBack, InterruptOwn}
 use Rattle.sa_kernel_model.specs.State.{KernelState, Scene, owner_of, aim_of, life_of, demand_of, taken_of, can_upcall, says}
-use Rattle.sa_kernel_model.specs.Parts.{with_line, with_mark, with_demand, noted, with_io, put_aside, upcall, leave, go_to}
+use Rattle.sa_kernel_model.specs.Parts.{with_line, with_mark, with_demand, noted, with_io, put_aside, upcall, leave, go_to, raised}
 use Rattle.sa_kernel_model.specs.Closing.{closed}
 
 -- a page for which a context may block
@@ -125,10 +125,6 @@ module _ {C : Type 0} where
         };
       })
 
-  -- the line of another processor is raised
-  abbrev pub interrupted_own : ℕ → ProcNo → ProcNo → Scene C → Scene C
-  interrupted_own e p q x = says e p (Line q) (record x { state = with_line q (Some e) x.state })
-
   -- what an entry does on processor p at event e, where the fresh activation has this number if it makes one
   abbrev pub entered_as : ℕ → ProcNo → ActNo → Entry C → Scene C → Scene C
   entered_as e p fresh (Interrupt held) x = interrupted e p fresh held x
@@ -137,7 +133,7 @@ module _ {C : Type 0} where
   entered_as e p fresh (More n) x = more e p n (owner_of x.state p) x
   entered_as e p fresh Idle x = idled e p (owner_of x.state p) x
   entered_as e p fresh GiveBack x = gave_back e p (owner_of x.state p) x
-  entered_as e p fresh (InterruptOwn q) x = interrupted_own e p q x
+  entered_as e p fresh (InterruptOwn q) x = raised e p q x
 
   abbrev pub entered : ℕ → ProcNo → ActNo → Entry C → Scene C → Scene C
   entered e p fresh entry x = closed e p (entered_as e p fresh entry x)

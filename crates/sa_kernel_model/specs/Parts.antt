@@ -5,7 +5,7 @@ use Rattle.sa_base.specs.declared.number.SpaceNo.{SpaceNo}
 use Rattle.sa_base.specs.declared.number.ActNo.{ActNo}
 use Rattle.sa_base.specs.declared.context.Stopped.{Stopped}
 use Rattle.sa_base.specs.declared.record.Note.{Note}
-use Rattle.sa_base.specs.declared.record.Record.TheVariants.{Up, Told, Move, Aim, Fetch}
+use Rattle.sa_base.specs.declared.record.Record.TheVariants.{Up, Told, Move, Aim, Fetch, Line}
 use Rattle.sa_base.specs.Items.{items_at}
 use Rattle.sa_lemmas.specs.Function.{put}
 use Rattle.sa_acts.specs.Table.{holding, runs_in}
@@ -93,3 +93,7 @@ module _ {C : Type 0} where
   -- the processor goes to a space: by an upcall where its page is resident, else it is left
   abbrev pub go_to : ℕ → ProcNo → SpaceNo → ActNo → Scene C → Scene C
   go_to e p s a x = go_to_by e p s a (is_aim s.0 (owner_of x.state p)) (can_upcall x.state s) x
+
+  -- the line of processor q is raised
+  abbrev pub raised : ℕ → ProcNo → ProcNo → Scene C → Scene C
+  raised e p q x = says e p (Line q) (record x { state = with_line q (Some e) x.state })

@@ -105,8 +105,8 @@ impl Poller {
             .checked_sub(1)
     }
 
-    // Waits until the credit's number is in the credit word, takes it from there, and applies
-    // it.
+    /// Waits until the credit's number is in the credit word, takes it from there, and applies
+    /// it.
     pub(crate) fn take<R: Wait>(&mut self, rt: &R, words: &LineWords, what: Credit)
         requires own { self.old.table ≡ words.now }
         requires some { 0 < number_of what }

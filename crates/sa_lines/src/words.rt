@@ -69,14 +69,14 @@ impl LineWords {
     }
 }
 
-// The index of a processor's line word.
+/// The index of a processor's line word.
 pub(crate) fn line_word(p: ProcNo) -> usize
     ensures { result ≡ line_word p.0 }
 {
     2 * p.0 as usize
 }
 
-// The index of a processor's credit word.
+/// The index of a processor's credit word.
 pub(crate) fn credit_word(p: ProcNo) -> usize
     ensures { result ≡ credit_word p.0 }
 {

@@ -8,7 +8,7 @@ ghost use Rattle.sa_links.specs.Slot.{IsSlot, index_of};
 use std::alloc::{AllocError, Allocator};
 use std::marker::Send;
 
-// Where a value of a block lies. It owns nothing.
+/// Where a value of a block lies. It owns nothing.
 pub(crate) struct Slot<T> {
     ptr: *mut T,
 }
@@ -28,7 +28,7 @@ impl<T> Copy for Slot<T> {}
 // A slot gives no access by itself: `at` and `put` want the block too.
 unsafe impl<T> Send for Slot<T> {}
 
-// The slot where a block begins.
+/// The slot where a block begins.
 pub(crate) fn begin_of<T, A: Allocator>(block: &mut Vec<T, A>) -> Slot<T>
     ensures slot { result.ptr ≡ vec_ptr block.old }
     ensures block { block.new ≡ block.old }
@@ -38,7 +38,7 @@ pub(crate) fn begin_of<T, A: Allocator>(block: &mut Vec<T, A>) -> Slot<T>
     }
 }
 
-// The slot of the value at `index`, from where the block begins.
+/// The slot of the value at `index`, from where the block begins.
 pub(crate) fn slot_at<T, A: Allocator>(block: &Vec<T, A>, begin: Slot<T>, index: usize) -> Slot<T>
     requires begin { begin.ptr ≡ vec_ptr block.now }
     requires inside { index < length block.now.items }
@@ -51,7 +51,7 @@ pub(crate) fn slot_at<T, A: Allocator>(block: &Vec<T, A>, begin: Slot<T>, index:
     }
 }
 
-// The value at a slot of the block.
+/// The value at a slot of the block.
 pub(crate) fn at<T, A: Allocator>(block: &Vec<T, A>, slot: Slot<T>) -> &T
     requires { IsSlot T.row (vec_ptr block.now) (length block.now.items) slot.ptr }
     ensures { let i = index_of T.row (vec_ptr block.now) slot.ptr in
@@ -60,7 +60,7 @@ pub(crate) fn at<T, A: Allocator>(block: &Vec<T, A>, slot: Slot<T>) -> &T
     unsafe { &*slot.ptr }
 }
 
-// Writes a value at a slot of the block. What stood there is forgotten.
+/// Writes a value at a slot of the block. What stood there is forgotten.
 pub(crate) fn put<T, A: Allocator>(block: &mut Vec<T, A>, slot: Slot<T>, value: T)
     requires { IsSlot T.row (vec_ptr block.old) (length block.old.items) slot.ptr }
     ensures items { let i = index_of T.row (vec_ptr block.old) slot.ptr in

@@ -6,7 +6,7 @@ ghost use Rattle.sa_links.specs.Wiring.{AreLinked, IsNodeSlot, IsRelinked, node_
 
 use crate::block::{Slot, at, put, slot_at};
 
-// A node is in a ring of nodes. A ring of one node is closed in itself.
+/// A node is in a ring of nodes. A ring of one node is closed in itself.
 #[derive(Clone, Copy)]
 pub(crate) struct Node {
     pub(crate) prev: Slot<Node>,
@@ -15,7 +15,7 @@ pub(crate) struct Node {
     pub(crate) number: Option<u32>,
 }
 
-// The slot of the node at `index`, from where the nodes begin.
+/// The slot of the node at `index`, from where the nodes begin.
 pub(crate) fn slot_of(nodes: &Vec<Node>, begin: Slot<Node>, index: usize) -> Slot<Node>
     requires begin { begin.ptr ≡ vec_ptr nodes.now }
     requires inside { index < length nodes.now.items }
@@ -25,7 +25,7 @@ pub(crate) fn slot_of(nodes: &Vec<Node>, begin: Slot<Node>, index: usize) -> Slo
     slot_at(nodes, begin, index)
 }
 
-// Lets the node at `back` follow the one at `front`.
+/// Lets the node at `back` follow the one at `front`.
 pub(crate) fn join(nodes: &mut Vec<Node>, front: Slot<Node>, back: Slot<Node>)
     requires front { IsNodeSlot (vec_ptr nodes.old) (length nodes.old.items) front.ptr }
     requires back { IsNodeSlot (vec_ptr nodes.old) (length nodes.old.items) back.ptr }
@@ -49,7 +49,7 @@ pub(crate) fn join(nodes: &mut Vec<Node>, front: Slot<Node>, back: Slot<Node>)
     );
 }
 
-// Puts the node at `slot` after the one at `front`.
+/// Puts the node at `slot` after the one at `front`.
 pub(crate) fn insert(nodes: &mut Vec<Node>, front: Slot<Node>, slot: Slot<Node>)
     requires front { IsNodeSlot (vec_ptr nodes.old) (length nodes.old.items) front.ptr }
     requires slot { IsNodeSlot (vec_ptr nodes.old) (length nodes.old.items) slot.ptr }
@@ -67,7 +67,7 @@ pub(crate) fn insert(nodes: &mut Vec<Node>, front: Slot<Node>, slot: Slot<Node>)
     join(nodes, slot, back);
 }
 
-// Takes the node at `slot` out of its ring, and closes it in itself.
+/// Takes the node at `slot` out of its ring, and closes it in itself.
 pub(crate) fn remove(nodes: &mut Vec<Node>, slot: Slot<Node>)
     requires slot { IsNodeSlot (vec_ptr nodes.old) (length nodes.old.items) slot.ptr }
     requires linked { AreLinked (vec_ptr nodes.old) nodes.old.items }

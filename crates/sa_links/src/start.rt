@@ -19,7 +19,7 @@ fn number_at(index: usize, count: u32) -> Option<u32>
     }
 }
 
-// `count` nodes and the heads of `lists` lists, whose links lead somewhere in the block.
+/// `count` nodes and the heads of `lists` lists, whose links lead somewhere in the block.
 pub(crate) fn numbered(alloc: Global, count: u32, lists: u32) -> Result<Vec<Node>, AllocError>
     ensures size { IfOk result (λ nodes. length nodes.items ≡ count + lists) }
     ensures numbered { IfOk result (λ nodes. AreNumbered count nodes.items) }
@@ -38,7 +38,7 @@ pub(crate) fn numbered(alloc: Global, count: u32, lists: u32) -> Result<Vec<Node
     Ok(nodes)
 }
 
-// Closes each node in itself.
+/// Closes each node in itself.
 pub(crate) fn close(nodes: &mut Vec<Node>, begin: Slot<Node>)
     requires begin { begin.ptr ≡ vec_ptr nodes.old }
     requires linked { AreLinked (vec_ptr nodes.old) nodes.old.items }

@@ -24,10 +24,9 @@
 --   Ends: Machines that are alike have the same end.
 --   Regular: A turn keeps a machine regular.
 --
--- outlooks: turns in a row, in the words of the laws; and what a search over all orders of turns needs of them (Key and Search of specs).
+-- outlooks: turns in a row, in the words of the laws.
 --   AlikeOutlooks: Machines of runs are alike exactly where their outlooks are equal; and machines of one workload with the same key have one outlook.
 --   Runs: Turns in a row keep the invariant, and the laws of outlooks hold along them.
---   Search: A search that keeps one machine for each outlook misses no end, and none comes in fewer turns than it notes.
 pub mod ListsAlike
 pub mod ios
 pub mod Alike

@@ -1,3 +1,2 @@
 pub mod AlikeOutlooks
 pub mod Runs
-pub mod Search

@@ -11,14 +11,14 @@ use sa_fast::{KeptPlace, Shared, more_owed};
 use sa_package_model::{Context, ContextState};
 
 impl FastThreads {
-    // How many threads are ready or run.
+    /// How many threads are ready or run.
     pub(crate) fn load(&self) -> u32
         ensures { result ≡ load self.now }
     {
         u32::from(self.package.shared.threads.load())
     }
 
-    // How many more processors the space can use than it announced.
+    /// How many more processors the space can use than it announced.
     pub(crate) fn owed(&self, seen: &Seen) -> Option<u16>
         ensures { result ≡ owed self.now seen.now }
     {
@@ -68,7 +68,7 @@ fn settled_to(thread: Option<ThreadNo>, left: bool, owed: bool, bulk: bool) -> C
     }
 }
 
-// A thread is elsewhere, if there is one.
+/// A thread is elsewhere, if there is one.
 pub(crate) fn place(shared: &mut Shared, thread: Option<ThreadNo>, place: KeptPlace)
     requires { IsThread thread }
     ensures { shared.new ≡ placed shared.old thread place }

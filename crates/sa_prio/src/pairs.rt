@@ -22,7 +22,7 @@ impl PrioThreads {
         }
     }
 
-    // From now on this is the thread on a processor.
+    /// From now on this is the thread on a processor.
     pub(crate) fn set_on(&mut self, p: ProcNo, thread: Option<ThreadNo>)
         ensures { self.new ≡ with_on self.old p thread }
     {

@@ -18,7 +18,7 @@ use sa_sync::{SyncAnswer, SyncState};
 // What a fork gives where as many threads were made as a space can have.
 const NOT_MADE: u64 = u64::MAX;
 
-// A thread's next instruction.
+/// A thread's next instruction.
 pub(crate) fn instr_at(def: &SpaceDef, thread: &ThreadState) -> Instr
     requires { IsAt def.now thread.now }
     ensures instr { result ≡ instr_in def.now thread.now }
@@ -30,8 +30,8 @@ pub(crate) fn instr_at(def: &SpaceDef, thread: &ThreadState) -> Instr
     def.programs()[usize::from(thread.program())].at(thread.pc())
 }
 
-// The effect of the next instruction of thread `t`. The threads that it forks or wakes are put, in order, into
-// the list, which is empty.
+/// The effect of the next instruction of thread `t`. The threads that it forks or wakes are put, in order, into
+/// the list, which is empty.
 pub(crate) fn does(
     def: &SpaceDef,
     table: &mut Threads,

@@ -18,7 +18,7 @@ use sa_sync::SyncState;
 use std::alloc::{AllocError, Global};
 use std::marker::Model;
 
-// The threads of the spaces of a workload, by the numbers of the spaces; at most 16.
+/// The threads of the spaces of a workload, by the numbers of the spaces; at most 16.
 #[derive(Drop)]
 pub(crate) struct Spaces {
     spaces: Vec<SpaceThreads>,
@@ -40,7 +40,7 @@ impl Model for Spaces {
 }
 
 impl Spaces {
-    // The spaces at the opening. Fails only where memory runs out.
+    /// The spaces at the opening. Fails only where memory runs out.
     pub(crate) fn new(alloc: Global, defs: &[SpaceDef]) -> Result<Spaces, AllocError>
         requires { length defs.now ≤ MAX_SPACES }
         ensures { IfOk result (λ spaces. spaces ≡ map opening_space defs.now) }
@@ -57,7 +57,7 @@ impl Spaces {
         })
     }
 
-    // The thread; one that was not made counts as done.
+    /// The thread; one that was not made counts as done.
     #[inline(always)]
     pub(crate) fn thread(&self, s: SpaceNo, t: ThreadNo) -> ThreadState
         ensures { result ≡ thread_in (space_in self.now s) t }
@@ -68,7 +68,7 @@ impl Spaces {
         }
     }
 
-    // How many threads of the space were made; at most 512.
+    /// How many threads of the space were made; at most 512.
     pub(crate) fn made(&self, s: SpaceNo) -> u16
         ensures { result ≡ length (space_in self.now s).threads }
     {
@@ -78,14 +78,14 @@ impl Spaces {
         }
     }
 
-    // How many spaces there are; at most 16.
+    /// How many spaces there are; at most 16.
     pub(crate) fn count(&self) -> u16
         ensures { result ≡ length self.now }
     {
         self.spaces.len() as u16
     }
 
-    // What the threads of the space wait on.
+    /// What the threads of the space wait on.
     pub(crate) fn sync(&self, s: SpaceNo) -> &SyncState
         requires { s.0 < length self.now }
         ensures { result.now ≡ (space_in self.now s).sync }
@@ -93,7 +93,7 @@ impl Spaces {
         self.spaces[usize::from(s.0)].sync()
     }
 
-    // Whether the thread is due.
+    /// Whether the thread is due.
     pub(crate) fn is_due(&self, s: SpaceNo, t: ThreadNo) -> bool
         ensures { result ≡ is_due (space_in self.now s) t }
     {
@@ -103,7 +103,7 @@ impl Spaces {
         }
     }
 
-    // How many threads of the space are ready or run; at most 512.
+    /// How many threads of the space are ready or run; at most 512.
     pub(crate) fn active(&self, s: SpaceNo) -> u16
         ensures { result ≡ active_threads (space_in self.now s) }
     {
@@ -113,7 +113,7 @@ impl Spaces {
         }
     }
 
-    // How many threads of the space are ready; at most 512.
+    /// How many threads of the space are ready; at most 512.
     pub(crate) fn ready(&self, s: SpaceNo) -> u16
         ensures { result ≡ count_in is_ready (space_in self.now s).threads }
     {
@@ -123,7 +123,7 @@ impl Spaces {
         }
     }
 
-    // Whether each thread is done.
+    /// Whether each thread is done.
     #[tactic(auto, using(crate::proofs::TotalLemmas::live_none))]
     pub(crate) fn are_done(&self) -> bool
         ensures { result ≡ list_all are_done self.now }
@@ -131,7 +131,7 @@ impl Spaces {
         self.live == 0
     }
 
-    // Whether no thread is ready, runs or is carried.
+    /// Whether no thread is ready, runs or is carried.
     #[tactic(auto, using(crate::proofs::TotalLemmas::restless_none))]
     pub(crate) fn are_at_rest(&self) -> bool
         ensures { result ≡ list_all are_at_rest self.now }
@@ -139,7 +139,7 @@ impl Spaces {
         self.restless == 0
     }
 
-    // Puts a thread into another place.
+    /// Puts a thread into another place.
     pub(crate) fn put(&mut self, s: SpaceNo, t: ThreadNo, place: Place)
         requires { can_move (space_in self.old s) t ≡ true }
         ensures { self.new ≡ with_space_in self.old s (put_thread place (space_in self.old s) t) }
@@ -151,7 +151,7 @@ impl Spaces {
         self.restless = moved(self.restless, restless, !space.are_at_rest());
     }
 
-    // Runs the next instruction of a thread; whether the thread runs on. An error changes nothing.
+    /// Runs the next instruction of a thread; whether the thread runs on. An error changes nothing.
     #[inline(always)]
     pub(crate) fn run(
         &mut self,

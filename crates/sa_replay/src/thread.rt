@@ -78,7 +78,7 @@ impl ThreadState {
         thread
     }
 
-    // The thread after its instruction.
+    /// The thread after its instruction.
     pub(crate) fn next(&self) -> ThreadState
         requires { self.now.pc + 1 < 2 ^ 16 }
         ensures { result ≡ next self.now }
@@ -88,7 +88,7 @@ impl ThreadState {
         thread
     }
 
-    // The same, with a value in a register.
+    /// The same, with a value in a register.
     pub(crate) fn next_with(&self, reg: Reg, value: u64) -> ThreadState
         requires { self.now.pc + 1 < 2 ^ 16 }
         ensures { result ≡ next_with self.now reg value }
@@ -99,7 +99,7 @@ impl ThreadState {
         thread
     }
 
-    // Runs the next instruction of the program, where it stays within the thread; whether it does.
+    /// Runs the next instruction of the program, where it stays within the thread; whether it does.
     #[inline(always)]
     pub(crate) fn run_local(&mut self, program: &Program) -> bool
         requires { self.old.pc < length program.now }

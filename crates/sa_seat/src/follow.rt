@@ -30,7 +30,7 @@ fn store(keeper: &mut Keeper, words: &LineWords, p: ProcNo, last: Option<u64>, l
     }
 }
 
-// Stores each line that is not as it was stored last.
+/// Stores each line that is not as it was stored last.
 pub(crate) fn follow<U: UserLevel>(
     keeper: &mut Keeper,
     words: &LineWords,

@@ -45,7 +45,7 @@ impl<U: UserLevel, K: Named> Model for Held<U, K> {
 }
 
 impl<U: UserLevel, K: Named> Held<U, K> {
-    // The core at its opening, whose lines are stored.
+    /// The core at its opening, whose lines are stored.
     pub(crate) fn new(core: Core<U>, mut keeper: Keeper, words: &LineWords) -> Held<U, K>
         requires own { words.now ≡ K.table }
         requires workload { IsWorkload K.workload }
@@ -92,7 +92,7 @@ impl<U: UserLevel, K: Named> Held<U, K> {
         Ok(Entered::Turned(self.make_events(rt, words, seat)?))
     }
 
-    // Turns and commits led here, which the lock keeps.
+    /// Turns and commits led here, which the lock keeps.
     pub(crate) fn led(&self)
         ensures { IsLed U.calls K.budget K.workload (machine self.now.core) }
     {

@@ -111,7 +111,7 @@ impl<K: Named> Seat<K> {
         self.start
     }
 
-    // Applies a credit to the keeper's account of the processor and to the seat's.
+    /// Applies a credit to the keeper's account of the processor and to the seat's.
     pub(crate) fn credit<R: Wait>(
         &mut self,
         rt: &R,
@@ -130,7 +130,7 @@ impl<K: Named> Seat<K> {
         keeper.credit(rt, words, &mut self.poller, what);
     }
 
-    // The seat begins anew from the core's context.
+    /// The seat begins anew from the core's context.
     pub(crate) fn renew(&mut self, context: &SeatState)
         requires { IsPlace K.workload context.now }
         ensures { self.new ≡ renewed context.now self.old }

@@ -7,7 +7,7 @@ use crate::shape::{MAX_LANES, Shown, Track};
 use sa_base::{Item, ProcNo, Record, SpaceNo};
 
 impl Track {
-    // What the track shows before the first item.
+    /// What the track shows before the first item.
     pub(crate) fn start(self) -> Shown
         ensures { result ≡ start self }
     {
@@ -18,7 +18,7 @@ impl Track {
         }
     }
 
-    // What the track shows from the item on, where that is another thing than before it.
+    /// What the track shows from the item on, where that is another thing than before it.
     pub(crate) fn change(self, shown: Shown, item: &Item) -> Option<Shown>
         ensures { result ≡ change self shown item.now }
     {

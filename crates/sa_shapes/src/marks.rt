@@ -87,7 +87,7 @@ fn is_marked(lane: ProcNo, item: &Item) -> bool
     has_mark(&item.what) && lane_of(item).0 == lane.0
 }
 
-// The lane of an item: a line's is that of its processor, any other's that of the processor whose turn it is.
+/// The lane of an item: a line's is that of its processor, any other's that of the processor whose turn it is.
 pub(crate) fn lane_of(item: &Item) -> ProcNo
     ensures { result ≡ lane_of item.now.proc item.now.what }
 {

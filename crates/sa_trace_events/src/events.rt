@@ -105,7 +105,7 @@ fn push_each(out: &mut Vec<u8>, items: &[Item], slices: &[Slice]) -> Result<(), 
     Ok(())
 }
 
-// Appends the slices of a track.
+/// Appends the slices of a track.
 pub(crate) fn push_track(
     out: &mut Vec<u8>,
     alloc: Global,
@@ -120,7 +120,7 @@ pub(crate) fn push_track(
     push_each(out, items, &slices)
 }
 
-// Appends the slices of a track behind its name.
+/// Appends the slices of a track behind its name.
 pub(crate) fn push_titled_track(
     out: &mut Vec<u8>,
     alloc: Global,
@@ -151,7 +151,7 @@ fn has_mark(what: &Record) -> bool
     }
 }
 
-// Appends the mark of an item, which is a slice of its event on the track of its processor.
+/// Appends the mark of an item, which is a slice of its event on the track of its processor.
 pub(crate) fn push_mark(out: &mut Vec<u8>, item: &Item) -> Result<(), AllocError>
     ensures { OnOk result (out.new.items ≡ out.old.items ++ mark_text item.now) }
 {
@@ -183,7 +183,7 @@ fn push_told(out: &mut Vec<u8>, note: Note, item: &Item) -> Result<(), AllocErro
     }
 }
 
-// Appends the end of an arrow from what a space is to be told to the upcall that tells it, which is at the item.
+/// Appends the end of an arrow from what a space is to be told to the upcall that tells it, which is at the item.
 pub(crate) fn push_notice(out: &mut Vec<u8>, item: &Item) -> Result<(), AllocError>
     ensures { OnOk result (out.new.items ≡ out.old.items ++ notice_of item.now) }
 {

@@ -68,7 +68,7 @@ fn push_sort(
     out.extend_from_slice(b"}}")
 }
 
-// Appends both.
+/// Appends both.
 #[tactic(auto, unfolding(crate::specs::Json::titled_text))]
 pub(crate) fn push_titled(
     out: &mut Vec<u8>,
@@ -84,7 +84,7 @@ pub(crate) fn push_titled(
     push_sort(out, kind, pid, tid, index)
 }
 
-// Appends a line of the trace in quotes.
+/// Appends a line of the trace in quotes.
 pub(crate) fn push_quoted(out: &mut Vec<u8>, item: &Item) -> Result<(), AllocError>
     ensures { OnOk result (out.new.items ≡ out.old.items ++ quoted item.now) }
 {
@@ -93,7 +93,7 @@ pub(crate) fn push_quoted(out: &mut Vec<u8>, item: &Item) -> Result<(), AllocErr
     out.extend_from_slice(b"\"")
 }
 
-// Appends the beginning of the record of a slice, up to its name.
+/// Appends the beginning of the record of a slice, up to its name.
 #[tactic(auto, unfolding(crate::specs::Json::slice_head))]
 pub(crate) fn push_slice_head(out: &mut Vec<u8>, category: &[u8]) -> Result<(), AllocError>
     ensures { OnOk result (out.new.items ≡ out.old.items ++ slice_head category.now) }
@@ -103,7 +103,7 @@ pub(crate) fn push_slice_head(out: &mut Vec<u8>, category: &[u8]) -> Result<(), 
     out.extend_from_slice(b"\",\"name\":\"")
 }
 
-// Appends what follows the name, up to the lines.
+/// Appends what follows the name, up to the lines.
 #[tactic(auto, unfolding(crate::specs::Json::slice_times))]
 pub(crate) fn push_slice_times(
     out: &mut Vec<u8>,
@@ -120,7 +120,7 @@ pub(crate) fn push_slice_times(
     out.extend_from_slice(b",\"args\":{\"trace\":[")
 }
 
-// Appends the record of an end of an arrow: `phase` says which.
+/// Appends the record of an end of an arrow: `phase` says which.
 #[tactic(auto, unfolding(crate::specs::Json::arrow_text))]
 pub(crate) fn push_arrow(
     out: &mut Vec<u8>,

@@ -98,7 +98,7 @@ impl Holder {
 }
 
 impl Track {
-    // The kind of slices of a processor.
+    /// The kind of slices of a processor.
     pub(crate) fn level(self) -> Level
         ensures { result ≡ level_of self }
     {

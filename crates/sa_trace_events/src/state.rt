@@ -58,7 +58,7 @@ pub struct Tally {
 }
 
 impl Context {
-    // What is on the processor after the item.
+    /// What is on the processor after the item.
     pub(crate) fn after(self, p: ProcNo, item: &Item) -> Context
         ensures { result ≡ context_after p self item.now }
     {
@@ -72,7 +72,7 @@ impl Context {
         }
     }
 
-    // The kind of slices shows the same.
+    /// The kind of slices shows the same.
     pub(crate) fn is_same(self, level: Level, other: Context) -> bool
         ensures { result ≡ same_context level self other }
     {
@@ -116,7 +116,7 @@ fn same_act(a: Option<ActNo>, b: Option<ActNo>) -> bool
     }
 }
 
-// It is this thread that is named.
+/// It is this thread that is named.
 pub(crate) fn is_thread(s: SpaceNo, t: ThreadNo, u: SpaceNo, v: ThreadNo) -> bool
     ensures { result ≡ is_thread s t u v }
 {
@@ -160,7 +160,7 @@ impl Doing {
         if own { next } else { self.left(p) }
     }
 
-    // What the thread does after a record of a turn of the processor.
+    /// What the thread does after a record of a turn of the processor.
     pub(crate) fn after(self, s: SpaceNo, t: ThreadNo, p: ProcNo, what: &Record) -> Doing
         ensures { result ≡ doing_by s t p self what.now }
     {
@@ -199,7 +199,7 @@ impl Doing {
         }
     }
 
-    // The same is shown.
+    /// The same is shown.
     pub(crate) fn is_same(self, other: Doing) -> bool
         ensures { result ≡ same_doing self other }
     {
@@ -229,7 +229,7 @@ fn held(p: ProcNo, t: Option<ThreadNo>) -> Holder
 }
 
 impl Holder {
-    // Who holds the lock of this list after a record of a turn of the processor.
+    /// Who holds the lock of this list after a record of a turn of the processor.
     pub(crate) fn after(self, s: SpaceNo, l: ProcNo, p: ProcNo, what: &Record) -> Holder
         ensures { result ≡ holder_by s l p self what.now }
     {
@@ -252,7 +252,7 @@ impl Holder {
         }
     }
 
-    // The same is shown.
+    /// The same is shown.
     pub(crate) fn is_same(self, other: Holder) -> bool
         ensures { result ≡ same_holder self other }
     {
@@ -406,7 +406,7 @@ impl Tally {
         }
     }
 
-    // The count of the space after a record.
+    /// The count of the space after a record.
     pub(crate) fn after(self, s: SpaceNo, count: Count, what: &Record) -> Tally
         ensures { result ≡ tally_by s count self what.now }
     {

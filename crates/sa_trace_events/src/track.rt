@@ -41,7 +41,7 @@ pub enum Track {
 }
 
 impl Count {
-    // Its place among the counts of a space.
+    /// Its place among the counts of a space.
     pub(crate) fn number(self) -> u64
         ensures { result ≡ count_number self }
     {
@@ -56,7 +56,7 @@ impl Count {
 }
 
 impl Track {
-    // The number of the viewer's process: 1 for the processors, 10 on for the spaces.
+    /// The number of the viewer's process: 1 for the processors, 10 on for the spaces.
     pub(crate) fn pid(self) -> u64
         ensures { result ≡ pid_of self }
     {
@@ -66,7 +66,7 @@ impl Track {
         }
     }
 
-    // The number of the viewer's thread: from 1 on for processors and threads, from 1001 for locks, from 2001 for counts.
+    /// The number of the viewer's thread: from 1 on for processors and threads, from 1001 for locks, from 2001 for counts.
     pub(crate) fn tid(self) -> u64
         ensures { result ≡ tid_of self }
     {

@@ -12,7 +12,7 @@ use sa_svg::push_record;
 use sa_text::print_number;
 use std::alloc::AllocError;
 
-// Appends a word and a number after it.
+/// Appends a word and a number after it.
 pub(crate) fn push_numbered(out: &mut Vec<u8>, word: &[u8], n: u64) -> Result<(), AllocError>
     ensures { OnOk result (out.new.items ≡ out.old.items ++ numbered word.now n) }
 {
@@ -34,7 +34,7 @@ fn push_twice_numbered(
 }
 
 impl Count {
-    // What is counted.
+    /// What is counted.
     pub(crate) fn word(self) -> &'static [u8]
         ensures { result.now ≡ count_word self }
     {
@@ -122,7 +122,7 @@ fn push_holder_name(out: &mut Vec<u8>, holder: Holder) -> Result<(), AllocError>
     }
 }
 
-// Appends the name of a slice of a track that shows the state.
+/// Appends the name of a slice of a track that shows the state.
 pub(crate) fn push_state_name(
     out: &mut Vec<u8>,
     track: Track,
@@ -138,7 +138,7 @@ pub(crate) fn push_state_name(
     }
 }
 
-// What kind of slices a track has.
+/// What kind of slices a track has.
 pub(crate) fn category(track: Track) -> &'static [u8]
     ensures { result.now ≡ category track }
 {
@@ -152,7 +152,7 @@ pub(crate) fn category(track: Track) -> &'static [u8]
     }
 }
 
-// Appends the name of a track.
+/// Appends the name of a track.
 pub(crate) fn push_track_name(out: &mut Vec<u8>, track: Track) -> Result<(), AllocError>
     ensures { OnOk result (out.new.items ≡ out.old.items ++ track_name track) }
 {
@@ -164,7 +164,7 @@ pub(crate) fn push_track_name(out: &mut Vec<u8>, track: Track) -> Result<(), All
     }
 }
 
-// Appends the line of the trace that the item is, without its end.
+/// Appends the line of the trace that the item is, without its end.
 pub(crate) fn push_words(out: &mut Vec<u8>, item: &Item) -> Result<(), AllocError>
     ensures { OnOk result (out.new.items ≡ out.old.items ++ words_of item.now) }
 {

@@ -86,7 +86,7 @@ impl Parts {
         Some(runner.thread())
     }
 
-    // The virtual processor that is placed on a processor.
+    /// The virtual processor that is placed on a processor.
     pub(crate) fn placed_on(&self, p: ProcNo) -> Option<ActNo>
         ensures { result ≡ slice_index_or self.now.placed.items p.0 None }
     {
@@ -163,7 +163,7 @@ impl Parts {
         self.steps[a.0 as usize] += 1;
     }
 
-    // The I/O is over: the virtual processor that it blocked goes to the end of the queue.
+    /// The I/O is over: the virtual processor that it blocked goes to the end of the queue.
     pub(crate) fn complete(&mut self, p: ProcNo, io: IoNo)
         requires under_way { IsSome (io_at io.0 self.old.devices.ios.under_way) }
         requires can { (kind : IoKind) → option_map (λ (x : Io). x.kind) (io_at io.0 self.old.devices.ios.under_way) ≡ Some kind
@@ -199,7 +199,7 @@ impl Parts {
         }
     }
 
-    // The first of the queue is placed.
+    /// The first of the queue is placed.
     pub(crate) fn place_first(&mut self, p: ProcNo)
         requires inside { p.0 < self.old.replay.workload.processors }
         requires tabled { IsTabled (board_of self.old) }
@@ -216,7 +216,7 @@ impl Parts {
         self.place(p, ActNo(u64::from(first)));
     }
 
-    // The virtual processor, which has made its steps, gives way to the first of the queue.
+    /// The virtual processor, which has made its steps, gives way to the first of the queue.
     pub(crate) fn relieve(&mut self, p: ProcNo, a: ActNo)
         requires inside { p.0 < self.old.replay.workload.processors }
         requires can { CanGiveWay p a (board_of self.old) }
@@ -395,7 +395,7 @@ impl Parts {
         self.say(p, Record::Free(s, l, Some(t)));
     }
 
-    // A step of the virtual processor that is placed there.
+    /// A step of the virtual processor that is placed there.
     pub(crate) fn step(&mut self, p: ProcNo, a: ActNo)
         requires inside { p.0 < self.old.replay.workload.processors }
         requires can { CanStep p a (board_of self.old) }

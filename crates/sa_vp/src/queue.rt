@@ -12,7 +12,7 @@ use sa_base::{ProcNo, ThreadNo};
 use sa_links::Links;
 use std::alloc::{AllocError, Global};
 
-// Puts threads, which are in no list, after the last of a list.
+/// Puts threads, which are in no list, after the last of a list.
 pub(crate) fn put_behind(links: &mut Links, l: ProcNo, threads: &[ThreadNo])
     requires list { l.0 < length links.old.lists }
     requires below { (u : ℕ) → 1 ≤ count_in u (numbers threads.now) → u < links.old.nodes }
@@ -36,7 +36,7 @@ fn add_place(numbers: &mut Vec<u32>, spaces: u16, k: u16) -> Result<(), AllocErr
     Ok(())
 }
 
-// The virtual processors in the order in which they wait at the opening.
+/// The virtual processors in the order in which they wait at the opening.
 pub(crate) fn opening_numbers(
     alloc: Global,
     spaces: u16,
@@ -53,7 +53,7 @@ pub(crate) fn opening_numbers(
     Ok(numbers)
 }
 
-// Puts numbers, of which none comes twice, into a list where no list has one.
+/// Puts numbers, of which none comes twice, into a list where no list has one.
 pub(crate) fn fill(links: &mut Links, numbers: &[u32])
     requires list { 1 ≤ length links.old.lists }
     requires below { (u : ℕ) → 1 ≤ count_in u numbers.now → u < links.old.nodes }

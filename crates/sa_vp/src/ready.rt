@@ -13,7 +13,7 @@ use sa_lists::{Ranks, ReadyLists};
 use std::alloc::{AllocError, Global};
 use std::marker::Model;
 
-// A list at each place, the newest thread first. A thread is in at most one of them.
+/// A list at each place, the newest thread first. A thread is in at most one of them.
 #[derive(Drop)]
 pub(crate) struct Ready {
     lists: ReadyLists,
@@ -31,7 +31,7 @@ impl Model for Ready {
 }
 
 impl Ready {
-    // So many empty lists, 1 to 16. Fails only where memory runs out.
+    /// So many empty lists, 1 to 16. Fails only where memory runs out.
     pub(crate) fn new(alloc: Global, lists: u16) -> Result<Ready, AllocError>
         requires some { 1 ≤ lists }
         requires few { lists ≤ MAX_PROCESSORS }
@@ -42,7 +42,7 @@ impl Ready {
         })
     }
 
-    // A thread that is in no list becomes the newest of list `l`.
+    /// A thread that is in no list becomes the newest of list `l`.
     pub(crate) fn push(&mut self, l: ProcNo, t: ThreadNo)
         requires list { l.0 < length self.old.lists }
         requires thread { t.0 < self.old.nodes }
@@ -54,8 +54,8 @@ impl Ready {
         self.lists.unlock(l);
     }
 
-    // Takes the newest thread of list `l` where it is the taker's own, else the oldest: `None` exactly where the list is
-    // empty.
+    /// Takes the newest thread of list `l` where it is the taker's own, else the oldest: `None` exactly where the list is
+    /// empty.
     pub(crate) fn take(&mut self, l: ProcNo, own: bool) -> Option<ThreadNo>
         requires { l.0 < length self.old.lists }
         ensures thread { result ≡ option_map thread (picked (list_at self.old.lists l.0) own) }
@@ -67,7 +67,7 @@ impl Ready {
         taken
     }
 
-    // The first of the lists, round from list `l`, that has a thread.
+    /// The first of the lists, round from list `l`, that has a thread.
     pub(crate) fn seek(&self, l: ProcNo) -> Option<ProcNo>
         requires { l.0 < length self.now.lists }
         ensures found { result ≡ find (λ k. is_some_list (list_at self.now.lists k.0)) (round (length self.now.lists) l) }

@@ -20,7 +20,7 @@ use sa_text::{Line, Lines, Pieces, is_printed};
 use sa_workload_lines::{Numbers, Reader, Refusal, read_end, read_numbers};
 use std::alloc::Global;
 
-/// The greatest version of a workload text.
+// The greatest version of a workload text.
 const VERSIONS: u16 = 3;
 
 /// The workload of which these bytes are the text.
@@ -58,7 +58,7 @@ pub fn read_one(alloc: Global, bytes: &[u8]) -> Result<Workload, Unread>
     read_versions(alloc, 1, bytes)
 }
 
-/// The workload of a text of one of that many versions.
+// The workload of a text of one of that many versions.
 fn read_versions(alloc: Global, versions: u16, bytes: &[u8]) -> Result<Workload, Unread>
     requires { versions ≤ 3 }
     ensures { IsReading (read_of versions bytes.now) result }
@@ -78,7 +78,7 @@ fn read_versions(alloc: Global, versions: u16, bytes: &[u8]) -> Result<Workload,
     }
 }
 
-/// Goes on after this line.
+// Goes on after this line.
 fn read_line(
     reader: &mut Reader,
     alloc: Global,
@@ -104,7 +104,7 @@ fn read_line(
     read_words(reader, alloc, versions, word, &mut words)
 }
 
-/// Goes on after a line of this first word and these words after it.
+// Goes on after a line of this first word and these words after it.
 fn read_words(
     reader: &mut Reader,
     alloc: Global,
@@ -126,7 +126,7 @@ fn read_words(
     reader.step(alloc, versions, word, numbers.as_slice())
 }
 
-/// The numbers after this first word, which end the line.
+// The numbers after this first word, which end the line.
 fn numbers_behind(
     reader: &Reader,
     versions: u16,

@@ -48,7 +48,7 @@ impl Field {
     }
 }
 
-/// The number of the register of this name: `r` and its number.
+// The number of the register of this name: `r` and its number.
 fn register_of(word: &[u8]) -> Option<u64>
     ensures { result ≡ index_of word.now registers }
 {

@@ -15,7 +15,7 @@ pub(crate) fn instr_in(word: &[u8], numbers: &[u64]) -> Option<Instr>
     instr_of(Operation::of_word(word)?, numbers)
 }
 
-/// The instruction of an operation and the numbers of its operands.
+// The instruction of an operation and the numbers of its operands.
 fn instr_of(operation: Operation, numbers: &[u64]) -> Option<Instr>
     requires { AllHaveRoom (Some operation) numbers.now }
     ensures { result ≡ instr_of operation (operands_from (form_of operation).operands numbers.now) }
@@ -32,7 +32,7 @@ fn instr_of(operation: Operation, numbers: &[u64]) -> Option<Instr>
     Instr::from_parts(operation, &[first, second])
 }
 
-/// The operand of this kind and number.
+// The operand of this kind and number.
 fn operand_of(kind: OperandKind, n: u64) -> Operand
     requires { n < room_for kind }
     ensures { result ≡ operand_from kind n }

@@ -23,7 +23,7 @@ pub fn read_numbers(fields: &[Field], words: &mut Pieces) -> Result<Numbers, Cau
     Ok(numbers)
 }
 
-/// The next word as a number of this field.
+// The next word as a number of this field.
 fn read_number(field: Field, words: &mut Pieces) -> Result<u64, Cause>
     ensures { with_rest result words.new ≡ field_at (field_of field) words.old }
 {

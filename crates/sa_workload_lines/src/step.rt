@@ -59,7 +59,7 @@ impl Reader {
         }
     }
 
-    /// Goes on after a line before those of the spaces. Version 1 has no slice.
+    // Goes on after a line before those of the spaces. Version 1 has no slice.
     fn step_machine(&mut self, alloc: Global, line: MachineLine, numbers: &[u64])
         requires { AreBelow (room_of line ∷ []) numbers.now }
         ensures { (word : List ℕ) → step (at_stage self.old (Stage.Machine line)) word numbers.now ≡ Ok (position_of self.new) }
@@ -95,7 +95,7 @@ impl Reader {
         }
     }
 
-    /// Goes on after the first line of a space.
+    // Goes on after the first line of a space.
     fn step_space(&mut self, alloc: Global, numbers: &[u64])
         requires { AreBelow (space_rooms self.old.header.version) numbers.now }
         ensures { position_of self.new ≡ behind_sem (machine_of self.old.header) self.old.spaces.items
@@ -116,7 +116,7 @@ impl Reader {
         self.after_sem();
     }
 
-    /// Goes on after the first line of a space, or a semaphore.
+    // Goes on after the first line of a space, or a semaphore.
     fn after_sem(&mut self)
         ensures { position_of self.new
             ≡ behind_sem (machine_of self.old.header) self.old.spaces.items (draft_of self.old.draft) }
@@ -125,7 +125,7 @@ impl Reader {
         self.stage = if is_whole { Stage::Absent } else { Stage::Sem };
     }
 
-    /// Goes on after `sem`.
+    // Goes on after `sem`.
     fn step_sem(&mut self, numbers: &[u64]) -> Result<(), Refusal>
         requires { AreBelow (2 ^ 32 ∷ []) numbers.now }
         ensures { Gives (Ok (behind_sem (machine_of self.old.header) self.old.spaces.items
@@ -136,7 +136,7 @@ impl Reader {
         Ok(())
     }
 
-    /// Goes on after `absent`, or the first line of the first program.
+    // Goes on after `absent`, or the first line of the first program.
     fn step_absent(&mut self, alloc: Global, word: &[u8], numbers: &[u64]) -> Result<(), Refusal>
         requires stage { self.old.stage ≡ Stage.Absent }
         requires room { AreBelow (2 ^ 16 ∷ []) numbers.now }
@@ -150,7 +150,7 @@ impl Reader {
         Ok(())
     }
 
-    /// Goes on after the first line of a program.
+    // Goes on after the first line of a program.
     fn step_program(&mut self, alloc: Global, numbers: &[u64])
         requires { AreBelow (2 ^ 16 ∷ []) numbers.now }
         ensures { position_of self.new ≡ AtInstr (machine_of self.old.header) self.old.spaces.items
@@ -161,7 +161,7 @@ impl Reader {
         self.stage = Stage::Instr;
     }
 
-    /// Goes on after an instruction; the last one is `end`.
+    // Goes on after an instruction; the last one is `end`.
     fn step_instr(
         &mut self,
         alloc: Global,
@@ -188,7 +188,7 @@ impl Reader {
         self.end_program(alloc)
     }
 
-    /// Goes on after a whole program.
+    // Goes on after a whole program.
     fn end_program(&mut self, alloc: Global) -> Result<(), Refusal>
         requires program { IsProgram self.old.instrs.items }
         requires space { length self.old.draft.programs.items + 1 ≡ self.old.draft.program_count
@@ -210,7 +210,7 @@ impl Reader {
         Ok(())
     }
 
-    /// Goes on after a whole space.
+    // Goes on after a whole space.
     fn after_space(&mut self, alloc: Global)
         ensures { position_of self.new ≡ behind_spaces (machine_of self.old.header) self.old.spaces.items }
     {
@@ -223,7 +223,7 @@ impl Reader {
         };
     }
 
-    /// Goes on after `evict`; another line is after no turns.
+    // Goes on after `evict`; another line is after no turns.
     fn step_evict(&mut self, alloc: Global, word: &[u8], numbers: &[u64]) -> Result<(), Refusal>
         requires stage { self.old.stage ≡ Stage.Evict }
         requires room { AreBelow (evict_rooms word.now) numbers.now }
@@ -237,7 +237,7 @@ impl Reader {
         self.step_turn(word, numbers)
     }
 
-    /// Goes on after `turn`, or `close`.
+    // Goes on after `turn`, or `close`.
     fn step_turn(&mut self, word: &[u8], numbers: &[u64]) -> Result<(), Refusal>
         requires { AreBelow (turn_rooms word.now) numbers.now }
         ensures { Gives (step (at_stage self.old Stage.Turn) word.now numbers.now) (position_of self.new) result }
@@ -252,7 +252,7 @@ impl Reader {
     }
 }
 
-/// The eviction of these numbers.
+// The eviction of these numbers.
 fn evict_of(numbers: &[u64]) -> Evict
     requires { AreBelow (2 ^ 64 ∷ 2 ^ 16 ∷ 2 ^ 16 ∷ []) numbers.now }
     ensures { result ≡ evict_from numbers.now }
@@ -264,7 +264,7 @@ fn evict_of(numbers: &[u64]) -> Evict
     }
 }
 
-/// The space of a draft whose programs are whole.
+// The space of a draft whose programs are whole.
 fn space_of(draft: SpaceDraft) -> SpaceDef
     requires { IsSpace (space_of_draft (draft_of draft)) }
     ensures { result ≡ space_of_draft (draft_of draft) }

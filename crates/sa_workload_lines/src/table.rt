@@ -23,7 +23,7 @@ use sa_spaces::{Evict, SpaceDef};
 use std::cmp::Ordering;
 
 impl MachineLine {
-    /// The word that the line begins with.
+    // The word that the line begins with.
     fn word(self) -> &'static [u8]
         ensures { result.now ≡ machine_word self }
     {
@@ -85,7 +85,7 @@ impl Reader {
         }
     }
 
-    /// The number of a line before those of the spaces. A slice may be 0 in version 3 alone.
+    // The number of a line before those of the spaces. A slice may be 0 in version 3 alone.
     fn machine_field(&self, versions: u16, line: MachineLine) -> Field
         ensures { field_of result ∷ []
             ≡ fields_of versions (machine_position line self.now.header) (machine_word line) }
@@ -102,7 +102,7 @@ impl Reader {
         }
     }
 
-    /// What follows `space`: in version 3 the patience too.
+    // What follows `space`: in version 3 the patience too.
     fn space_fields(&self) -> Fields
         ensures { map field_of result.items
             ≡ space_fields (machine_of self.now.header) self.now.spaces.items }
@@ -121,14 +121,14 @@ impl Reader {
         fields
     }
 
-    /// Whether the next space is the last, and each before it has patience 1.
+    // Whether the next space is the last, and each before it has patience 1.
     fn needs_patience(&self) -> bool
         ensures { result ≡ is_last_impatient (machine_of self.now.header) self.now.spaces.items }
     {
         self.spaces.len() + 1 >= usize::from(self.header.count) && are_impatient(&self.spaces)
     }
 
-    /// What follows `evict`.
+    // What follows `evict`.
     fn evict_fields(&self) -> Fields
         ensures { map field_of result.items
             ≡ within 1 MAX_EVENTS ∷ declared self.now.header.count ∷ within 0 LAST_PAGE ∷ [] }
@@ -140,7 +140,7 @@ impl Reader {
         ])
     }
 
-    /// What follows `turn`; `close` has nothing.
+    // What follows `turn`; `close` has nothing.
     fn turn_fields(&self, word: &[u8]) -> Fields
         ensures { map field_of result.items
             ≡ (if bytes_eq word.now (codes "turn") then within 0 (self.now.header.processors - 1) ∷ [] else []) }
@@ -168,7 +168,7 @@ impl Reader {
         }
     }
 
-    /// The numbers of the last line, where a line of the word has to come after them.
+    // The numbers of the last line, where a line of the word has to come after them.
     fn last_numbers(&self, word: &[u8]) -> Option<Numbers>
         ensures { option_map (λ numbers. numbers.items) result ≡ last_numbers (position_of self.now) word.now }
     {
@@ -187,14 +187,14 @@ pub(crate) fn is(word: &[u8], this: &[u8]) -> bool
     word == this
 }
 
-/// Whether the word is one of the two.
+// Whether the word is one of the two.
 fn is_either(word: &[u8], one: &[u8], other: &[u8]) -> bool
     ensures { result ≡ is_some (index_of word.now (one.now ∷ other.now ∷ [])) }
 {
     word == one || word == other
 }
 
-/// The number of the last of these pages, where there is one.
+// The number of the last of these pages, where there is one.
 fn page_numbers(pages: &[u16]) -> Option<Numbers>
     ensures { option_map (λ numbers. numbers.items) result ≡ option_map (λ page. page ∷ []) (last_of pages.now) }
 {
@@ -204,7 +204,7 @@ fn page_numbers(pages: &[u16]) -> Option<Numbers>
     Some(one(u64::from(*page)))
 }
 
-/// The numbers of the last of these evictions, where there is one.
+// The numbers of the last of these evictions, where there is one.
 fn evict_numbers(evictions: &[Evict]) -> Option<Numbers>
     ensures { option_map (λ numbers. numbers.items) result ≡ option_map evict_numbers (last_of evictions.now) }
 {
@@ -227,7 +227,7 @@ pub(crate) fn are_impatient(spaces: &[SpaceDef]) -> bool
     true
 }
 
-/// What follows the word of an instruction, in a program of this length of the space.
+// What follows the word of an instruction, in a program of this length of the space.
 fn operand_fields(draft: &SpaceDraft, len: u16, word: &[u8]) -> Fields
     requires { is_some (index_of word.now instr_words) ≡ true }
     ensures { (versions : ℕ) → map field_of result.items
@@ -242,7 +242,7 @@ fn operand_fields(draft: &SpaceDraft, len: u16, word: &[u8]) -> Fields
     fields
 }
 
-/// An operand of this kind, in a program of this length of the space.
+// An operand of this kind, in a program of this length of the space.
 fn operand_field(draft: &SpaceDraft, len: u16, kind: OperandKind) -> Field
     ensures { field_of result ≡ operand_field (draft_numbers (draft_of draft.now) len) kind }
 {

@@ -54,7 +54,7 @@ fn asked(kernel: &Kernel<u64>, event: u64, p: ProcNo) -> Option<Entry<u64>>
     }
 }
 
-// What enters the kernel on the processor: an interrupt or a completion where it is due, else what a context asks for.
+/// What enters the kernel on the processor: an interrupt or a completion where it is due, else what a context asks for.
 pub(crate) fn choose(kernel: &Kernel<u64>, event: u64, p: ProcNo) -> Option<Entry<u64>>
     requires { p.0 < processors kernel.now }
     ensures fits { IfSome result (MayEnter (kernel_of kernel.now) p event) }
@@ -73,7 +73,7 @@ pub(crate) fn choose(kernel: &Kernel<u64>, event: u64, p: ProcNo) -> Option<Entr
     }
 }
 
-// A kernel and what it recorded.
+/// A kernel and what it recorded.
 #[derive(Drop)]
 pub(crate) struct Bench {
     pub(crate) kernel: Kernel<u64>,

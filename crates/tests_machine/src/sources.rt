@@ -5,7 +5,7 @@ use std::io::{Error, ErrorKind, Read, Write};
 use std::process::Abort;
 use std::test::Fail;
 
-/// Reads as often as there are answers, each time into four bytes.
+// Reads as often as there are answers, each time into four bytes.
 fn read_through<S: Source>(rt: &impl Abort, source: &mut S, answers: &[Option<usize>]) {
     let mut room = [0u8; 4];
     for answer in answers {
@@ -13,12 +13,12 @@ fn read_through<S: Source>(rt: &impl Abort, source: &mut S, answers: &[Option<us
     }
 }
 
-/// Writes the piece, and compares the answer.
+// Writes the piece, and compares the answer.
 fn write_piece<K: Sink>(rt: &impl Abort, sink: &mut K, piece: &[u8], answer: bool) {
     assert!(rt; sink.write(piece).is_ok() == answer);
 }
 
-/// Writes "abc", "" and "def", and compares the answers.
+// Writes "abc", "" and "def", and compares the answers.
 fn write_through<K: Sink>(rt: &impl Abort, sink: &mut K, answers: [bool; 3]) {
     write_piece(rt, sink, b"abc", answers[0]);
     write_piece(rt, sink, b"", answers[1]);
@@ -33,7 +33,7 @@ fn a_sink_in_memory_is_made(rt: HostRuntime) -> Result<(), Fail> {
     Ok(())
 }
 
-/// A reader and a writer that moves at most so many bytes a call, or fails in this way, turn by turn.
+// A reader and a writer that moves at most so many bytes a call, or fails in this way, turn by turn.
 #[derive(Drop)]
 struct Halting<'a> {
     turns: &'a [Result<usize, ErrorKind>],
@@ -85,7 +85,7 @@ fn an_interrupted_read_is_made_again(rt: HostRuntime) {
     read_through(&rt, &mut source, &[Some(3), None, Some(4), Some(0)]);
 }
 
-/// Writes through a writer of these turns, and compares the answers and what was written.
+// Writes through a writer of these turns, and compares the answers and what was written.
 fn write_halting(
     rt: &impl Abort,
     alloc: Global,

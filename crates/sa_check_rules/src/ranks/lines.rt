@@ -10,7 +10,7 @@ use sa_base::ProcNo;
 use sa_check_lives::KeptLife;
 use sa_check_moment::Moment;
 
-// The life that runs on the processor asks for the line of another.
+/// The life that runs on the processor asks for the line of another.
 pub(crate) fn asks_for(moment: &Moment, p: ProcNo, q: ProcNo) -> bool
     requires { (seen moment.now).rules ≡ Priorities }
     ensures { let m = seen moment.now in IsTrue result ↔ RankedLines m.workload m.readings p q }
@@ -21,7 +21,7 @@ pub(crate) fn asks_for(moment: &Moment, p: ProcNo, q: ProcNo) -> bool
     }
 }
 
-// The life owes nothing else, its own thread is in no pair, and the other one's is the lowest of those that are.
+/// The life owes nothing else, its own thread is in no pair, and the other one's is the lowest of those that are.
 pub(crate) fn interrupts(moment: &Moment, p: ProcNo, life: &KeptLife, q: ProcNo) -> bool
     requires { (seen moment.now).rules ≡ Priorities }
     ensures { IsTrue result ↔ Interrupts (seen moment.now).readings p life.now q }

@@ -13,7 +13,7 @@ use sa_check_lives::KeptLife;
 use sa_check_moment::Moment;
 use sa_check_shapes::{is_back, is_step, own_part, parted, stands_alone};
 
-// The list's lock, at an event of this number and processor with these records, on the moment as it begins.
+/// The list's lock, at an event of this number and processor with these records, on the moment as it begins.
 pub(crate) fn the_lock_is_kept(moment: &Moment, number: u64, p: ProcNo, records: &[Record]) -> bool
     ensures { let m = seen moment.now in let e = event number p records.now in
         (r : Readings) → m.readings ≡ event_begun m.workload e r

@@ -8,7 +8,7 @@ use sa_base::Record;
 use sa_check_moment::Moment;
 use sa_check_shapes::parted;
 
-// A run takes the ready thread of the greatest rank, and of these the newest.
+/// A run takes the ready thread of the greatest rank, and of these the newest.
 pub(crate) fn rank_is_kept(moment: &Moment, records: &[Record]) -> bool
     requires { (seen moment.now).rules ≡ Priorities }
     ensures { IsTrue result ↔ RunsGreatest (seen moment.now).readings records.now }

@@ -9,8 +9,8 @@ use sa_base::{ProcNo, Record};
 use sa_check_moment::Moment;
 use sa_check_shapes::{is_step, parted};
 
-// Demand is announced and pairs are served, at an event of this number and processor with these records, on the moment
-// before it.
+/// Demand is announced and pairs are served, at an event of this number and processor with these records, on the moment
+/// before it.
 pub(crate) fn pairs_are_served(moment: &Moment, number: u64, p: ProcNo, records: &[Record]) -> bool
     requires { (seen moment.now).rules ≡ Priorities }
     ensures { let m = seen moment.now in

@@ -14,7 +14,7 @@ use sa_check_lives::KeptLife;
 use sa_check_moment::Moment;
 use sa_check_shapes::parted;
 
-// The records are those of a step of the life that runs on the processor.
+/// The records are those of a step of the life that runs on the processor.
 pub(crate) fn is_ranked_step(moment: &Moment, p: ProcNo, records: &[Record]) -> bool
     requires { (seen moment.now).rules ≡ Priorities }
     ensures { let m = seen moment.now in

@@ -17,7 +17,7 @@ pub(crate) struct Named {
     pub(crate) thread: ThreadNo,
 }
 
-/// The space that the next piece names.
+// The space that the next piece names.
 fn read_space(w: &Workload, words: &mut Pieces) -> Result<SpaceNo, Cause>
     ensures { with_rest result words.new ≡ taken (space_in w.now) words.old }
 {

@@ -22,8 +22,8 @@ use Rattle.sa_devices.specs.declared.kind.IoKind.{IoKind}
 use Rattle.sa_kernel_model.specs.declared.entry.Entry.{Entry}
 use Rattle.sa_kernel_model.specs.declared.entry.Entry.TheVariants as entry
 use Rattle.sa_kernel_model.specs.State.{KernelState, Scene, Fixed, owner_of, life_of, aim_of, line_of, demand_of, taken_of}
-use Rattle.sa_kernel_model.specs.Parts.{with_line}
-use Rattle.sa_kernel_model.specs.Entries.{stopped, go_to_aim, interrupted, blocked_by, kind_at, over, over_for, announced, more, idled, gave_back, interrupted_own, entered_as}
+use Rattle.sa_kernel_model.specs.Parts.{with_line, raised}
+use Rattle.sa_kernel_model.specs.Entries.{stopped, go_to_aim, interrupted, blocked_by, kind_at, over, over_for, announced, more, idled, gave_back, entered_as}
 use Rattle.sa_kernel_model.specs.Sound.{IsSound}
 use Rattle.sa_kernel_model.specs.Entering.{MayInterrupt, MayBlock, MayComplete, MayAskForMore, MayHintIdle, MayGiveBack, MayInterruptOwn}
 use Rattle.sa_kernel_model.proofs.sound.Held.{runs-here}
@@ -322,7 +322,7 @@ module _ {C : Type 0} where
 
   -- the line of another processor is the first record
   turned-own : (w : WorkloadView) (e : ℕ) (p q : ProcNo) (r : Readings) (k : KernelState C) → Stands w k r p → MayInterruptOwn k p q
-      → Turned w e p r k [] (Some (entry.InterruptOwn q)) (interrupted_own e p q (record { state = k; items = [] }))
+      → Turned w e p r k [] (Some (entry.InterruptOwn q)) (raised e p q (record { state = k; items = [] }))
   turned-own w e p q r k stands fits =
       let reads = low-reads w k r p stands fits.asks.low in
       let F : Overview → Overview = λ (v : Overview). record v { assign = record v.assign { lines = slice_set v.assign.lines q.0 (Some e) } } in

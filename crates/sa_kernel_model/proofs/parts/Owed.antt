@@ -22,8 +22,8 @@ use Rattle.sa_devices.specs.Ios.{without}
 use Rattle.sa_devices.specs.Pages.{completed}
 use Rattle.sa_kernel_model.specs.State.{KernelState, Scene, owner_of, aim_of, life_of, can_upcall, is_fetching, untold_of, taken_of, says}
 use Rattle.sa_batch.specs.Notices.{notes_told}
-use Rattle.sa_kernel_model.specs.Parts.{with_line, with_owner, without_aim, upcall, fetch_page, leave, moved, go_to_by}
-use Rattle.sa_kernel_model.specs.Entries.{stopped, go_to_aim, interrupted, told_or_left, block_begun, blocked_by, over_for, over, more, idled, gave_back, interrupted_own, kind_at, entered_as, handed_by, after_fetch}
+use Rattle.sa_kernel_model.specs.Parts.{with_line, with_owner, without_aim, upcall, fetch_page, leave, moved, go_to_by, raised}
+use Rattle.sa_kernel_model.specs.Entries.{stopped, go_to_aim, interrupted, told_or_left, block_begun, blocked_by, over_for, over, more, idled, gave_back, kind_at, entered_as, handed_by, after_fetch}
 use Rattle.sa_kernel_model.specs.Closing.{closed}
 use Rattle.sa_kernel_model.specs.Enters.{untold_count, taken_count}
 use Rattle.sa_kernel_model.specs.Owed.{hand_over, told_count, pending_count, owed_items}
@@ -217,7 +217,7 @@ module _ {C : Type 0} where
   owes-entered_as e p a (More n) x = owes-more x _ 1 0 6 1 (owes-more_for e p n (owner_of x.state p) x) (omega arith) (omega arith)
   owes-entered_as e p a Idle x = owes-more x _ 1 0 6 1 (owes-idled e p (owner_of x.state p) x) (omega arith) (omega arith)
   owes-entered_as e p a GiveBack x = owes-more x _ 0 0 6 1 (owes-gave_back e p (owner_of x.state p) x) (omega arith) (omega arith)
-  owes-entered_as e p a (InterruptOwn q) x = owes-more x _ 1 0 6 1 (owes-said x (interrupted_own e p q x) _ refl refl refl refl) (omega arith) (omega arith)
+  owes-entered_as e p a (InterruptOwn q) x = owes-more x _ 1 0 6 1 (owes-said x (raised e p q x) _ refl refl refl refl) (omega arith) (omega arith)
 
   -- the closing owes nothing
   pub owed-closed : (e : ℕ) (p : ProcNo) (x : Scene C)

@@ -31,8 +31,8 @@ use Rattle.sa_devices.specs.declared.kind.IoKind.TheVariants.{Plain, Page, Upcal
 use Rattle.sa_devices.proofs.SoundLemmas.{All-without, length-completed, length-evicted}
 use Rattle.sa_kernel_model.specs.State.{KernelState, Scene, owner_of, aim_of, life_of, untold_of, taken_of, can_upcall, is_fetching}
 use Rattle.sa_batch.specs.Notices.{notes_told}
-use Rattle.sa_kernel_model.specs.Parts.{with_owner, without_aim, with_line, with_mark, with_demand, noted, with_io, put_aside, upcall, fetch_page, leave, moved, go_to_by}
-use Rattle.sa_kernel_model.specs.Entries.{stopped, go_to_aim, interrupted, told_or_left, block_begun, blocked_by, io_for, IsOwnPage, come_back, over_for, over, announced, more, idled, gave_back, interrupted_own, kind_at, entered_as, handed_over, handed_by, fetched, after_fetch, evicted_at}
+use Rattle.sa_kernel_model.specs.Parts.{with_owner, without_aim, with_line, with_mark, with_demand, noted, with_io, put_aside, upcall, fetch_page, leave, moved, go_to_by, raised}
+use Rattle.sa_kernel_model.specs.Entries.{stopped, go_to_aim, interrupted, told_or_left, block_begun, blocked_by, io_for, IsOwnPage, come_back, over_for, over, announced, more, idled, gave_back, kind_at, entered_as, handed_over, handed_by, fetched, after_fetch, evicted_at}
 use Rattle.sa_kernel_model.specs.Closing.{for_spaces, spaces, want_one, want_for, must_want, wants, shares, aims, interrupt, interrupt_one, interrupt_for, must_interrupt, has_low_line, closed}
 use Rattle.sa_kernel_model.specs.Entering.{MayEnter}
 use Rattle.sa_kernel_model.specs.declared.entry.Entry.{Entry}
@@ -383,7 +383,7 @@ module _ {C : Type 0} where
         taken = taken-without k.taken k.acts s.0 sound.taken;
       }
 
-  pub formed-own : (e : ℕ) (p q : ProcNo) (x : Scene C) → IsFormed x.state → IsFormed (interrupted_own e p q x).state
+  pub formed-own : (e : ℕ) (p q : ProcNo) (x : Scene C) → IsFormed x.state → IsFormed (raised e p q x).state
   formed-own e p q x sound = formed-line q (Some e) x.state sound
 
   -- the closing

@@ -22,8 +22,8 @@ use Rattle.sa_devices.specs.declared.kind.IoKind.TheVariants.{Plain, Page, Upcal
 use Rattle.sa_devices.specs.Ios.{Io, io_no, without}
 use Rattle.sa_devices.specs.Pages.{completed, come, upcall_page}
 use Rattle.sa_kernel_model.specs.State.{KernelState, Scene, Fixed, says, owner_of, aim_of, demand_of, untold_of, taken_of, can_upcall, is_fetching}
-use Rattle.sa_kernel_model.specs.Parts.{with_owner, without_aim, with_mark, with_life, with_demand, noted, with_held, with_io, put_aside, run_in, upcall, fetch_page, leave, moved, go_to_by, go_to}
-use Rattle.sa_kernel_model.specs.Entries.{stopped, told_or_left, block_begun, io_for, come_back, over_for, over, kind_at, more, idled, without_acts, gave_back, interrupted_own}
+use Rattle.sa_kernel_model.specs.Parts.{with_owner, without_aim, with_mark, with_life, with_demand, noted, with_held, with_io, put_aside, run_in, upcall, fetch_page, leave, moved, go_to_by, go_to, raised}
+use Rattle.sa_kernel_model.specs.Entries.{stopped, told_or_left, block_begun, io_for, come_back, over_for, over, kind_at, more, idled, without_acts, gave_back}
 use Rattle.sa_kernel_model.specs.Sound.{IsFormed}
 use Rattle.sa_outlook.specs.Nameless.{Held, PlainStopped, NamelessNote, NamelessKind, NamelessIo, plain_held, nameless_note, nameless_notes, nameless_kind, nameless_io}
 use Rattle.sa_outlook.specs.DueOrder.{in_order}
@@ -387,5 +387,5 @@ module _ {C D : Type 0} (look : ℕ → C → D) where
         first = was.first;
       }
 
-  pub own-alike : (e g : ℕ) (p q : ProcNo) (x y : Scene C) → AlikeScenes look e g x y → AlikeScenes look e g (interrupted_own e p q x) (interrupted_own g p q y)
+  pub own-alike : (e g : ℕ) (p q : ProcNo) (x y : Scene C) → AlikeScenes look e g x y → AlikeScenes look e g (raised e p q x) (raised g p q y)
   own-alike e g p q x y was = alike-line look e g x.state y.state q (Some e) (Some g) refl was
