@@ -4,7 +4,7 @@ use Rattle.std.specs.Prelude.{◌==◌, nat_lt, not, ◌&&◌, ◌||◌, slice_i
 use Rattle.std.specs.List.{list_all, list_any, prefix_len}
 use Rattle.std.specs.Option.{option_map}
 use Rattle.std.proofs.Math.Path.{fun_ext}
-use Rattle.std.proofs.lemmas.Bool.{cases_eq, and_parts}
+use Rattle.std.proofs.lemmas.Bool.{cases_eq, and_parts, or_right}
 use Rattle.std.proofs.lemmas.Bool.Decides.{eqb_tells, nat_tests}
 use Rattle.std.proofs.lemmas.List.{set-get_or, drop_all}
 use Rattle.sa_base.specs.declared.number.ProcNo.{ProcNo}
@@ -430,7 +430,4 @@ closing-none : (xs : List Record) → list_all is_quiet_record xs ≡ true → c
 closing-none xs h = ap (λ (own : List Record). drop (length own) xs) (own-whole xs h) ∙ drop_all (length xs) xs (omega arith)
 
 pub quiet-asks : (xs : List Record) → list_all is_quiet_record xs ≡ true → asks_last xs ≡ true
-quiet-asks xs h = or-true (has_entry xs) (is_closed (closing_part xs)) (ap is_closed (closing-none xs h)) where
-  or-true : (a b : Bool) → b ≡ true → (a || b) ≡ true
-  or-true true b is = refl
-  or-true false b is = is
+quiet-asks xs h = or_right (has_entry xs) (is_closed (closing_part xs)) (ap is_closed (closing-none xs h))

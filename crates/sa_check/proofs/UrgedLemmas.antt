@@ -1,9 +1,10 @@
 -- What is known of pairs at the end of an event, where they are asked for before its last record.
 use Rattle.std.proofs.Common.{◌≡◌, ◌↔◌, ℕ, zero, suc, refl, sym, ◌∙◌, ap, subst, Bool, true, false, List, [], ◌∷◌, ◌++◌, length, drop, Option, Some, None}
-use Rattle.std.specs.Prelude.{IsTrue, ◌||◌, if◌then◌else◌}
+use Rattle.std.specs.Prelude.{IsTrue, if◌then◌else◌}
 use Rattle.std.specs.List.{list_any, prefix_len}
 use Rattle.std.specs.Option.{option_map}
 use Rattle.std.proofs.lemmas.Option.{same_Some}
+use Rattle.std.proofs.lemmas.Bool.{or_parts}
 use Rattle.sa_lemmas.proofs.ListReads.{take_then_drop}
 use Rattle.sa_base.specs.declared.number.ProcNo.{ProcNo}
 use Rattle.sa_base.specs.declared.number.SpaceNo.{SpaceNo}
@@ -61,29 +62,21 @@ module _ (w : WorkloadView) (e : ℕ) (p : ProcNo) where
   one-space r (GiveBack b) h a = absurd cc
   one-space r _ h a = refl
 
-  or-first : (a b : Bool) → (a || b) ≡ false → (a ≡ false) × (b ≡ false)
-  or-first true b h = absurd cc
-  or-first false b h = (refl, h)
-
   pub all-spaces : (r : Readings) (xs : List Record) → list_any is_of_entry xs ≡ false → (a : ActNo)
       → space_of (life_of (after_records w e p r xs) a) ≡ space_of (life_of r a)
   all-spaces r [] h a = refl
   all-spaces r (x ∷ xs) h a =
-      let each = or-first (is_of_entry x) (list_any is_of_entry xs) h in
+      let each = or_parts (is_of_entry x) (list_any is_of_entry xs) h in
       all-spaces (after_record w e p r x) xs each.1 a ∙ one-space r x each.0 a
-
-pub or-both : (a b : Bool) → (a || b) ≡ false → (a ≡ false) × (b ≡ false)
-or-both true b h = absurd cc
-or-both false b h = (refl, h)
 
 pub none-of : (xs : List Record) → has_entry xs ≡ false → list_any is_of_entry xs ≡ false
 none-of [] h = refl
-none-of (x ∷ xs) h = (or-both (begins_entry x) (list_any is_of_entry (x ∷ xs)) h).1
+none-of (x ∷ xs) h = (or_parts (begins_entry x) (list_any is_of_entry (x ∷ xs)) h).1
 
 pub none-behind : (n : ℕ) (xs : List Record) → list_any is_of_entry xs ≡ false → list_any is_of_entry (drop n xs) ≡ false
 none-behind zero xs h = h
 none-behind (suc n) [] h = refl
-none-behind (suc n) (x ∷ xs) h = none-behind n xs (or-both (is_of_entry x) (list_any is_of_entry xs) h).1
+none-behind (suc n) (x ∷ xs) h = none-behind n xs (or_parts (is_of_entry x) (list_any is_of_entry xs) h).1
 
 pub parts-are : (xs : List Record) → own_part xs ++ closing_part xs ≡ xs
 parts-are [] = refl
@@ -121,7 +114,7 @@ over-is m start e running through begins runs read =
         let w = m.workload in
         let q = behind w e m.readings (own_part e.records) in
         let after = behind_all w e m.readings in
-        let none = (or-both (has_entry e.records) (is_closed (closing_part e.records)) early).0 in
+        let none = (or_parts (has_entry e.records) (is_closed (closing_part e.records)) early).0 in
         let ends : after_records w e.number e.proc q (closing_part e.records) ≡ after =
         sym (records-append w e.number e.proc (event_begun w e m.readings) (own_part e.records) (closing_part e.records))
         ∙ ap (after_records w e.number e.proc (event_begun w e m.readings)) (parts-are e.records) in

@@ -3,7 +3,7 @@ use Rattle.std.proofs.Common.{◌≡◌, ◌≢◌, ℕ, suc, ◌-◌, ◌<◌, 
 use Rattle.std.specs.Prelude.{Option, Bool, ◌||◌, nat_lt, if◌then◌else◌, get_or, slice_get}
 use Rattle.std.specs.List.{list_any}
 use Rattle.std.specs.Option.{option_map}
-use Rattle.std.proofs.lemmas.Bool.{cases_lt, cases_Bool, eqb-true, eq-eqb, and_parts, and_from}
+use Rattle.std.proofs.lemmas.Bool.{cases_lt, cases_Bool, eqb-true, eq-eqb, and_parts, and_from, lt-ltb}
 use Rattle.std.proofs.lemmas.Bool.Decides.{nat_tests}
 use Rattle.std.proofs.lemmas.Option.{same_Some}
 use Rattle.sa_lemmas.proofs.Searches.{any_at}
@@ -72,9 +72,6 @@ of-listed x k (l ∷ ls) some = elim (cases_Bool (has_rank x k l)) [
       record { thread = more.thread; listed = let less = more.listed in omega (arith, less); rank = more.rank }
 ]
 
-lt-true : (a b : ℕ) → a < b → nat_lt a b ≡ true
-lt-true a b less = grind (arith, nat_tests)
-
 lt-less : (a b : ℕ) → nat_lt a b ≡ true → a < b
 lt-less a b is = grind (arith, nat_tests)
 
@@ -103,7 +100,7 @@ module _ (x : SpaceState) (ls : List Listed) (row : List (List ThreadNo)) (is : 
     by None none = absurd (stands (none (rank_in x t)))
     by (Some b) best = elim (cases_lt b (rank_in x t)) [
       | inl above ↦ absurd (stands (best.above (rank_in x t) above))
-      | inr within ↦ let less = lt-less rank (thread_in x t).program two.1 in lt-true rank b (omega (arith, less, within))
+      | inr within ↦ let less = lt-less rank (thread_in x t).program two.1 in lt-ltb rank b (omega (arith, less, within))
     ]
 
   above : (rank b : ℕ) → IsGreatest row b → rank < b → is_outranked x rank ≡ true
@@ -112,7 +109,7 @@ module _ (x : SpaceState) (ls : List Listed) (row : List (List ThreadNo)) (is : 
       let ready : is_ready (thread_in x found.thread).place ≡ true = one-count _ (subst (λ n. 1 ≤ n) (is.once found.thread) found.listed) in
       any_at nobody (outranks rank) x.threads found.thread.0 refl
       (and_from (is_ready (thread_in x found.thread).place) (nat_lt rank (thread_in x found.thread).program) ready
-      (lt-true rank (rank_in x found.thread) (omega (arith, less, found.rank))))
+      (lt-ltb rank (rank_in x found.thread) (omega (arith, less, found.rank))))
 
   pub best-row : (o : Option ℕ) → IsBest row o → (rank : ℕ) → is_outranked x rank ≡ is_below rank o
   best-row o best rank = elim (cases_Bool (is_outranked x rank)) [
@@ -191,7 +188,7 @@ greatest-is x (l ∷ ls) b none_above some =
                   | inr same ↦ absurd (there (ap (λ k. of_rank x k ls) (let e : rank_in x m.thread ≡ b = omega arith in e) ∙ none))
                 ]
               ] in
-              ap (λ v. if v then Some l else Some m) (lt-true (rank_in x m.thread) (rank_in x l.thread) (omega (arith, less, at)))
+              ap (λ v. if v then Some l else Some m) (lt-ltb (rank_in x m.thread) (rank_in x l.thread) (omega (arith, less, at)))
 
       more : of_rank x b ls ≢ [] → GreatestIs x ls b → GreatestIs x (l ∷ ls) b
       more others rest =

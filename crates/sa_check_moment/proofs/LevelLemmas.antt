@@ -79,12 +79,6 @@ urged-some w r None s is = absurd cc
 urged-some w r (Some life) s is = ap (has_pair w r) (same_Some s life.space is)
 
 -- of the threads in pairs one is the lowest, where none is lower
-lt-true : (a b : ℕ) → a < b → nat_lt a b ≡ true
-lt-true a b less = grind (arith, nat_tests)
-
-lt-false : (a b : ℕ) → nat_lt a b ≡ false → b ≤ a
-lt-false a b is = grind (arith, nat_tests)
-
 lower-is : (n rank k q : ℕ) → (nat_lt n rank || (n == rank && nat_lt k q)) ≡ true → (n < rank) ⊎ ((n ≡ rank) × (k < q))
 lower-is n rank k q is = grind (arith, nat_tests)
 

@@ -2,7 +2,7 @@
 use Rattle.std.proofs.Common.{◌≡◌, ◌≢◌, ℕ, zero, suc, ◌+◌, ◌-◌, ◌<◌, ◌≤◌, cond, inl, inr, refl, sym, ◌∙◌, ap, subst, arith, List, [], ◌∷◌, ◌++◌, length, true, false, map, filter, take}
 use Rattle.std.specs.Prelude.{Bool, not, ◌==◌, if◌then◌else◌, get_or, slice_get, slice_set}
 use Rattle.std.proofs.lemmas.Bool.{cases_eq, eqb-true, eq-eqb, ne_eqb, cases_Bool}
-use Rattle.std.proofs.lemmas.List.{get_or-set_same, get_or-set_other}
+use Rattle.std.proofs.lemmas.List.{get_or-set_same, get_or-set_other, append-nil}
 use Rattle.sa_base.specs.declared.number.ProcNo.{ProcNo}
 use Rattle.sa_base.specs.declared.number.ThreadNo.{ThreadNo}
 use Rattle.sa_laws.specs.declared.place.Place.{Place}
@@ -84,10 +84,6 @@ of-push x k (m ∷ ls) l = by (has_rank x k m) (of-push x k ls l) where
   by true rest = ap (λ xs. m.thread ∷ xs) rest
   by false rest = rest
 
-no-more : (xs : List ThreadNo) → xs ++ [] ≡ xs
-no-more [] = refl
-no-more (x ∷ xs) = ap (λ ys. x ∷ ys) (no-more xs)
-
 pub ranked-ready : (x : SpaceState) (ls : List Listed) (row new : List (List ThreadNo)) (t : ThreadNo) (l : Listed) → t.0 < length x.threads
     → is_ready (thread_in x t).place ≡ false → l.thread ≡ t → IsRanked x ls row → HasPut row (rank_in x t) (row_stack row (rank_in x t) ++ t ∷ []) new
     → IsRanked (put_thread place.Ready x t) (ls ++ l ∷ []) new
@@ -119,7 +115,7 @@ ranked-ready x ls row new t l made was names is put =
         | inr apart ↦
             let other : has_rank y k l ≡ false = ne_eqb (rank_in y l.thread) k (λ e. apart (sym e ∙ ap (rank_in y) names ∙ ranks t)) in
             put.others k apart ∙ is.each k ∙ sym (same k)
-            ∙ sym (of-push y k ls l ∙ ap (λ b. of_rank y k ls ++ cond b (l.thread ∷ []) []) other ∙ no-more (of_rank y k ls))
+            ∙ sym (of-push y k ls l ∙ ap (λ b. of_rank y k ls ++ cond b (l.thread ∷ []) []) other ∙ append-nil (of_rank y k ls))
       ];
     }
 

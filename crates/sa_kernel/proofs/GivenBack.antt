@@ -2,6 +2,7 @@
 use Rattle.std.proofs.Common.{◌≡◌, ℕ, ◌-◌, ◌≤◌, true, false, cond, Option, Some, None, is_some, List, [], ◌∷◌, ◌++◌, length, map, drop, get_or, slice_get, slice_set, refl, sym, ap, subst, ◌∙◌, inl, inr, arith, append_assoc}
 use Rattle.std.proofs.lemmas.Bool.{cases_lt}
 use Rattle.std.proofs.lemmas.List.{get_or_past, get_or-set_same, set-set}
+use Rattle.sa_lemmas.proofs.ListReads.{first-rest}
 use Rattle.sa_base.specs.declared.number.ActNo.{ActNo}
 use Rattle.sa_base.specs.declared.number.ProcNo.{ProcNo}
 use Rattle.sa_base.specs.declared.record.Item.{Item}
@@ -9,10 +10,6 @@ use Rattle.sa_base.specs.declared.record.Record.TheVariants.{GiveBack}
 use Rattle.sa_base.specs.Items.{items_at}
 use Rattle.sa_acts.specs.Table.{ActsView, taken_in, without, without_first, gave, gave_back}
 use Rattle.sa_kernel_model.specs.Entries.{without_acts}
-
-first-of : (xs : List ActNo) (a : ActNo) → slice_get xs 0 ≡ Some a → xs ≡ a ∷ drop 1 xs
-first-of [] a first = absurd cc
-first-of (x ∷ xs) a first = cc
 
 none-of : (xs : List ActNo) → slice_get xs 0 ≡ None → 1 ≤ length xs → ⊥
 none-of [] none some = omega arith
@@ -30,7 +27,7 @@ pub record OneBack {C : Type 0} (v w : ActsView C) (s : ℕ) (a : ActNo) : Type 
 
 one_back : {C : Type 0} (v : ActsView C) (s : ℕ) (a : ActNo) → slice_get (taken_in v s) 0 ≡ Some a → OneBack v (without (without_first v s) a) s a
 one_back v s a first =
-    let list = first-of (taken_in v s) a first in
+    let list = first-rest (taken_in v s) a first in
     let here : get_or (slice_set v.taken s (drop 1 (taken_in v s))) s [] ≡ drop 1 (taken_in v s) = elim (cases_lt s (length v.taken)) [
       | inl within ↦ get_or-set_same v.taken s (drop 1 (taken_in v s)) [] within
       | inr past ↦

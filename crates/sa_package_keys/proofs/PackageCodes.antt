@@ -1,6 +1,6 @@
 -- The bytes of a package's values and contexts say what they are of.
 use Rattle.std.proofs.Common.{◌≡◌, ℕ, ◌+◌, Bool, true, false, ◌&&◌, not, ◌==◌, is_none, List, [], ◌∷◌, ◌++◌, length, map, get_or, ◌<◌, replicate, Option, Some, None, refl, sym, ap, ◌∙◌, arith, append_assoc, append-nil}
-use Rattle.std.proofs.lemmas.Bool.{eqb-true}
+use Rattle.std.proofs.lemmas.Bool.{eqb-true, not-true, and_parts}
 use Rattle.std.specs.List.{list_all, range_with_len}
 use Rattle.std.specs.Option.{option_map}
 use Rattle.sa_base.specs.declared.number.ProcNo.{ProcNo}
@@ -154,11 +154,7 @@ semaphore-code x y r s same =
     (ap (λ n. record x { count = n }) one.0 ∙ ap (λ q. record y { queue = q }) two.0, two.1)
 
 done-code : IsPrefixCode (padded not flag)
-done-code = padded-code flag flag-code not false off
-  where
-    off : (b : Bool) → not b ≡ true → b ≡ false
-    off true is = absurd (let e : false ≡ true = is in cc)
-    off false is = refl
+done-code = padded-code flag flag-code not false not-true
 
 sync-code : IsPrefixCode sync_key
 sync-code x y r s same =
@@ -203,14 +199,10 @@ block-code x y r s same =
     (same-block x.program y.program x.pc y.pc x.regs y.regs x.place y.place two.0 three.0 four.0 (place-same x.place y.place one.0), four.1)
 
 -- a block that passes the test is that of a thread that was not made
-and-both : (a b : Bool) → a && b ≡ true → (a ≡ true) × (b ≡ true)
-and-both true b both = (refl, both)
-and-both false b both = absurd (let e : false ≡ true = both in cc)
-
 all-zero : (rs : List ℕ) → list_all is_zero rs ≡ true → rs ≡ replicate (length rs) 0
 all-zero [] all = refl
 all-zero (r ∷ rs) all =
-    let both = and-both (is_zero r) (list_all is_zero rs) all in
+    let both = and_parts (is_zero r) (list_all is_zero rs) all in
     ap (λ n. n ∷ rs) (zero-is r both.0) ∙ ap (λ z. 0 ∷ z) (all-zero rs both.1)
 
 unmade-is : (p : KeptPlace) → is_unmade p ≡ true → p ≡ Unmade
@@ -220,11 +212,11 @@ unmade-is _ is = absurd (let e : false ≡ true = is in cc)
 new-is : (b : Block) → is_new b ≡ true → b ≡ unmade
 new-is b is =
     let a1 = is_unmade b.place && b.program == 0 && b.pc == 0 && length b.regs == REGISTERS in
-    let one = and-both a1 (list_all is_zero b.regs) is in
+    let one = and_parts a1 (list_all is_zero b.regs) is in
     let a2 = is_unmade b.place && b.program == 0 && b.pc == 0 in
-    let two = and-both a2 (length b.regs == REGISTERS) one.0 in
-    let three = and-both (is_unmade b.place && b.program == 0) (b.pc == 0) two.0 in
-    let four = and-both (is_unmade b.place) (b.program == 0) three.0 in
+    let two = and_parts a2 (length b.regs == REGISTERS) one.0 in
+    let three = and_parts (is_unmade b.place && b.program == 0) (b.pc == 0) two.0 in
+    let four = and_parts (is_unmade b.place) (b.program == 0) three.0 in
     let count : length b.regs ≡ REGISTERS = eqb-true (length b.regs) REGISTERS two.1 in
     same-block b.program 0 b.pc 0 b.regs (replicate REGISTERS 0) b.place Unmade (zero-is b.program four.1) (zero-is b.pc three.1)
     (all-zero b.regs one.1 ∙ ap (λ n. replicate n (let z : ℕ = 0 in z)) count) (unmade-is b.place four.0)

@@ -1,8 +1,8 @@
 -- What is kept where one thread is put elsewhere, and where a virtual processor's life changes.
-use Rattle.std.proofs.Common.{◌≡◌, ℕ, ◌<◌, ◌≤◌, Bool, true, false, ◌||◌, List, length, Option, Some, None, inl, inr, refl, sym, ap, subst, ◌∙◌, arith}
+use Rattle.std.proofs.Common.{◌≡◌, ℕ, ◌<◌, ◌≤◌, true, List, length, Option, Some, None, inl, inr, refl, sym, ap, subst, ◌∙◌, arith}
 use Rattle.std.specs.Option.{option_map}
 use Rattle.std.proofs.Math.Path.{fun_ext}
-use Rattle.std.proofs.lemmas.Bool.{cases_eq}
+use Rattle.std.proofs.lemmas.Bool.{cases_eq, or_left}
 use Rattle.std.proofs.lemmas.List.{length-set, get_or-set_same, get_or-set_other}
 use Rattle.sa_base.specs.declared.number.SpaceNo.{SpaceNo}
 use Rattle.sa_base.specs.declared.number.ThreadNo.{ThreadNo}
@@ -120,11 +120,7 @@ is_blocked places.Waiting some = absurd (omega (arith, some))
 is_blocked places.Done some = absurd (omega (arith, some))
 is_blocked (places.Running p) some = absurd (omega (arith, some))
 
-first : (b c : Bool) → b ≡ true → b || c ≡ true
-first true c is = refl
-first false c is = cc
-
 -- a thread that is settled can be put elsewhere
 pub settled_moves : (spaces : List SpaceState) (s : SpaceNo) (t : ThreadNo) (place : Place) → is_settled place ≡ true → place_in spaces s t ≡ place
     → can_move (space_in spaces s) t ≡ true
-settled_moves spaces s t place settled is = first (is_settled (place_in spaces s t)) (is_due (space_in spaces s) t) (ap is_settled is ∙ settled)
+settled_moves spaces s t place settled is = or_left (is_settled (place_in spaces s t)) (is_due (space_in spaces s) t) (ap is_settled is ∙ settled)

@@ -2,7 +2,7 @@
 use Rattle.std.proofs.Common.{◌≡◌, ℕ, zero, suc, ◌+◌, ◌-◌, ◌^◌, ◌<◌, ◌≤◌, Bool, true, false, cond, eqb, ◌&&◌, List, [], ◌∷◌, ◌++◌, length, filter, slice_get, Option, Some, None, refl, sym, ap, subst, ◌∙◌, arith}
 use Rattle.std.proofs.lemmas.List.Elements.{All-head, All-tail}
 use Rattle.std.specs.Prelude.{All, ◌==◌, count_by, find, nat_le}
-use Rattle.std.proofs.lemmas.Bool.{eq-eqb, ne_eqb}
+use Rattle.std.proofs.lemmas.Bool.{eq-eqb, ne_eqb, and_parts}
 use Rattle.std.proofs.lemmas.Option.{same_Some}
 use Rattle.std.proofs.lemmas.List.Sums.{sum_by-cons}
 use Rattle.sa_base.specs.declared.number.ProcNo.{ProcNo}
@@ -62,10 +62,6 @@ fewer l t (y ∷ xs) = elim (is_in l y) as (λ b. of_thread t (cond b (y ∷ fil
   | false ↦ omega (arith, fewer l t xs, sum_by-cons (λ (z : Listed). cond (eqb z.thread.0 t.0) 1 0) y xs)
 ]
 
-pub second : (b c : Bool) → b && c ≡ true → c ≡ true
-second true c is = is
-second false c is = cc
-
 module _ (w : WorkloadView) (valid : IsWorkload w) (e : ℕ) (p : ProcNo) (inside : p.0 < w.processors) where
   abbrev few : w.processors ≤ MAX_PROCESSORS
   few = valid.few_processors
@@ -110,7 +106,7 @@ module _ (w : WorkloadView) (valid : IsWorkload w) (e : ℕ) (p : ProcNo) (insid
 
   moves : (v : Virtuals) → Good w v → HasRoom v.base.state.spaces → (a : ActNo) → placed_on v p ≡ Some a → (b : Bool)
       → nat_le quantum (v.steps a.0) && some_wait v.queue ≡ b → Met w e p v.base (moves_on w v p a b)
-  moves v good room a at true is = stops_now v good a at v.queue refl (second (nat_le quantum (v.steps a.0)) (some_wait v.queue) is)
+  moves v good room a at true is = stops_now v good a at v.queue refl (and_parts (nat_le quantum (v.steps a.0)) (some_wait v.queue) is).1
   moves v good room a at false is =
       steps (with_step a v) (record { stands = good.stands; quiet = good.quiet }) a at room (carried_on v p) (v.work a.0) refl refl
 

@@ -1,6 +1,6 @@
 -- A placed virtual processor makes the first thread of its work list ready; and takes a ready thread.
-use Rattle.std.proofs.Common.{◌≡◌, ◌≢◌, ℕ, ◌+◌, ◌*◌, ◌<◌, ◌≤◌, Bool, true, false, cond, eqb, nat_lt, ◌&&◌, ◌||◌, List, [], ◌∷◌, ◌++◌, length, filter, get_or, set, Option, Some, None, inl, inr, refl, sym, ap, subst, ◌∙◌, arith}
-use Rattle.std.proofs.lemmas.Bool.{cases_eq, cases_lt, ne_eqb, eq-eqb, ltb-true}
+use Rattle.std.proofs.Common.{◌≡◌, ◌≢◌, ℕ, ◌+◌, ◌*◌, ◌<◌, ◌≤◌, Bool, true, false, cond, eqb, nat_lt, ◌&&◌, List, [], ◌∷◌, ◌++◌, length, filter, get_or, set, Option, Some, None, inl, inr, refl, sym, ap, subst, ◌∙◌, arith}
+use Rattle.std.proofs.lemmas.Bool.{cases_eq, cases_lt, ne_eqb, eq-eqb, ltb-true, or_right}
 use Rattle.std.proofs.lemmas.List.{length-set, get_or-set_same, get_or-set_other, get_or_past}
 use Rattle.std.proofs.lemmas.Option.{same_Some}
 use Rattle.std.proofs.lemmas.List.Sums.{sum_by-cons, get_or-le-sum_by}
@@ -68,12 +68,8 @@ entered runners placed p q y a x at of is old = elim (cases_eq q.0 p.0) [
   | inr ne ↦ old (sym (get_or-set_other runners p.0 q.0 (Some y) None ne) ∙ is)
 ]
 
-second : (b c : Bool) → c ≡ true → b || c ≡ true
-second true c is = refl
-second false c is = is
-
 pub due_moves : (spaces : List SpaceState) (s : SpaceNo) (t : ThreadNo) → is_due (space_in spaces s) t ≡ true → can_move (space_in spaces s) t ≡ true
-due_moves spaces s t due = second (is_settled (place_in spaces s t)) (is_due (space_in spaces s) t) due
+due_moves spaces s t due = or_right (is_settled (place_in spaces s t)) (is_due (space_in spaces s) t) due
 
 -- what is placed is a virtual processor
 module _ (w : WorkloadView) (v : Parts) (runners : List (Option Runner)) (h : Holds w v runners) (p : ProcNo) (a : ActNo)

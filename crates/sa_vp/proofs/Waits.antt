@@ -4,7 +4,7 @@ use Rattle.std.proofs.Common.{◌≡◌, ◌≢◌, ℕ, ◌+◌, ◌≤◌, Boo
 use Rattle.std.specs.Prelude.{count_by}
 use Rattle.std.specs.List.{sum_by}
 use Rattle.std.proofs.lemmas.Bool.{cases_lt}
-use Rattle.std.proofs.lemmas.List.{get_or_past}
+use Rattle.std.proofs.lemmas.List.{get_or_past, nil_from_length}
 use Rattle.std.proofs.lemmas.List.FromFn.{fill_by_all}
 use Rattle.std.proofs.lemmas.List.Sums.{get_or-le-sum_by}
 use Rattle.sa_base.specs.declared.number.ProcNo.{ProcNo}
@@ -51,12 +51,8 @@ none_in f xs i d zero none = elim (cases_lt i (length xs)) [
   | inr past ↦ ap f (get_or_past xs i d past) ∙ zero
 ]
 
-no_length : (xs : List ℕ) → length xs ≡ 0 → xs ≡ []
-no_length [] none = refl
-no_length (x ∷ xs) none = cc
-
 pub read_work : (w : WorkloadView) (b : Board) → IsRead w b → CountsWork b
-read_work w b read none s l = no_length (list_in b.work s l) (none_in length (of_space b.work s).lists l.0 [] refl row) where
+read_work w b read none s l = nil_from_length (list_in b.work s l) (none_in length (of_space b.work s).lists l.0 [] refl row) where
   all : total b.work ≡ 0
   all = ap (λ (c : Board). total c.work) read.is ∙ sym read.fits.due ∙ sym (ap (λ (c : Board). c.due) read.is) ∙ none
 

@@ -2,7 +2,7 @@
 use Rattle.std.proofs.Common.{◌≡◌, ℕ, ◌+◌, ◌<◌, ◌≤◌, Bool, true, false, nat_le, nat_lt, ◌&&◌, ◌/◌, ◌%◌, List, [], ◌∷◌, length, get_or, set, Option, Some, None, inl, inr, refl, sym, ap, subst, ◌∙◌, arith}
 use Rattle.std.specs.Prelude.{All, slice_get}
 use Rattle.std.specs.Option.{option_map}
-use Rattle.std.proofs.lemmas.Bool.{cases_lt, eq-eqb, le-ltb}
+use Rattle.std.proofs.lemmas.Bool.{cases_lt, eq-eqb, le-ltb, and_parts}
 use Rattle.std.proofs.lemmas.List.Elements.{All-nil, All-cons}
 use Rattle.std.proofs.lemmas.List.{length-set}
 use Rattle.sa_base.specs.declared.number.ProcNo.{ProcNo}
@@ -141,10 +141,7 @@ module _ (w : WorkloadView) (valid : IsWorkload w) (p : ProcNo) (inside : p.0 < 
       → Goes w p v (rules.moves_on w v p a b) x (moves_on p a b (board_of w v x))
   moves a at true is =
       plainly _ _ (relieved w p v good x fits a at (placed_small w valid v good p a at) (rules.carried_on v p) v.queue refl
-      (second (nat_le rules.quantum (v.steps a.0)) (rules.some_wait v.queue) is) (all_small w valid v good)) where
-        second : (c d : Bool) → c && d ≡ true → d ≡ true
-        second true d e = e
-        second false d e = cc
+      (and_parts (nat_le rules.quantum (v.steps a.0)) (rules.some_wait v.queue) is).1 (all_small w valid v good))
   moves a at false is = with_a_step a at _ _ (stepped a at)
 
   pub turn_same : (a : ActNo) → has_had_its_turn (board_of w v x) a ≡ nat_le rules.quantum (v.steps a.0) && rules.some_wait v.queue

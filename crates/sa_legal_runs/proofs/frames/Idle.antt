@@ -1,8 +1,8 @@
 -- A life that was idle at its stop is out from then on, and runs nowhere.
-use Rattle.std.proofs.Common.{◌≡◌, ◌≢◌, ℕ, zero, suc, Bool, true, false, not, ◌&&◌, ◌||◌, if◌then◌else◌, Option, Some, None, is_none, List, [], ◌∷◌, ◌++◌, get_or, slice_set, refl, sym, ap, subst, ◌∙◌, inl, inr}
+use Rattle.std.proofs.Common.{◌≡◌, ◌≢◌, ℕ, zero, suc, Bool, true, false, not, ◌||◌, if◌then◌else◌, Option, Some, None, is_none, List, [], ◌∷◌, ◌++◌, get_or, slice_set, refl, sym, ap, subst, ◌∙◌, inl, inr}
 use Rattle.std.specs.List.{list_any}
 use Rattle.std.specs.Option.{option_map}
-use Rattle.std.proofs.lemmas.Bool.{cases_eq, and_parts}
+use Rattle.std.proofs.lemmas.Bool.{cases_eq, and_parts, or_parts, not-true}
 use Rattle.std.proofs.lemmas.Option.{same_Some, none-some}
 use Rattle.std.proofs.lemmas.List.Folds.{list_any-append}
 use Rattle.sa_lemmas.specs.Function.{put}
@@ -97,10 +97,7 @@ StopsFirst (x ∷ xs) = list_any is_stop xs ≡ false
 
 pub no-stops : (xs : List Record) → list_any is_stop xs ≡ false → StopsFirst xs
 no-stops [] none = tt
-no-stops (x ∷ xs) none = or-right (is_stop x) (list_any is_stop xs) none where
-  or-right : (a b : Bool) → (a || b) ≡ false → b ≡ false
-  or-right true b none = absurd (cc)
-  or-right false b none = none
+no-stops (x ∷ xs) none = (or_parts (is_stop x) (list_any is_stop xs) none).1
 
 pub closing-no_stop : (cl : List Record) → AreClosing cl → list_any is_stop cl ≡ false
 closing-no_stop [] closes = refl
@@ -138,14 +135,10 @@ calm-records : (w : WorkloadView) (e : ℕ) (p : ProcNo) (r : Readings) (xs : Li
     → IsCalmer (r.lives a) ((after_records w e p r xs).lives a)
 calm-records w e p r [] none a = calm-refl (r.lives a)
 calm-records w e p r (x ∷ xs) none a =
-    let parts = either (is_stop x) (list_any is_stop xs) none in
+    let parts = or_parts (is_stop x) (list_any is_stop xs) none in
     let next = after_record w e p r x in
     calm-trans (r.lives a) (next.lives a) ((after_records w e p next xs).lives a) (calm-record w e p r x parts.0 a)
     (calm-records w e p next xs parts.1 a)
-  where
-    either : (a b : Bool) → (a || b) ≡ false → (a ≡ false) × (b ≡ false)
-    either true b none = absurd (cc)
-    either false b none = (refl, none)
 
 -- An idle life runs after a record only where it ran before it.
 set-none : (xs : List (Option ActNo)) (i q : ℕ) (a : ActNo) → get_or (slice_set xs i None) q None ≡ Some a → get_or xs q None ≡ Some a
@@ -187,12 +180,8 @@ out-records : (w : WorkloadView) (e : ℕ) (p : ProcNo) (r : Readings) (xs : Lis
     → IdleAreOut r → IdleAreOut (after_records w e p r xs)
 out-records w e p r [] none h = h
 out-records w e p r (x ∷ xs) none h =
-    let parts = either (is_stop x) (list_any is_stop xs) none in
+    let parts = or_parts (is_stop x) (list_any is_stop xs) none in
     out-records w e p (after_record w e p r x) xs parts.1 (out-record w e p r x parts.0 h)
-  where
-    either : (a b : Bool) → (a || b) ≡ false → (a ≡ false) × (b ≡ false)
-    either true b none = absurd (cc)
-    either false b none = (refl, none)
 
 -- The life of a stop is idle only where it was out, and runs no longer.
 out-stop : (w : WorkloadView) (e : ℕ) (p : ProcNo) (r : Readings) (s : SpaceNo) (t : Option ThreadNo) (b : ActNo) → running_of r p ≡ Some b
@@ -212,15 +201,11 @@ out-stop w e p r s t b runs alone h a life is idle = elim (cases_eq a.0 b.0) [
       (out.0, λ q now. out.1 q (set-none r.running p.0 q.0 a now))
 ]
   where
-    and-out : (x y : Bool) → (not x && y) ≡ true → x ≡ false
-    and-out true y is = absurd (cc)
-    and-out false y is = refl
-
     own : (o : Option Life) → option_map (stopped_with t) o ≡ Some life → life.inside ≡ false
     own None at = absurd (none-some life at)
     own (Some l) at =
         let same : stopped_with t l ≡ life = same_Some (stopped_with t l) life at in
-        ap (λ (x : Life). x.inside) (sym same) ∙ and-out l.inside (is_none t) (ap (λ (x : Life). x.idle) same ∙ idle)
+        ap (λ (x : Life). x.inside) (sym same) ∙ not-true l.inside (and_parts (not l.inside) (is_none t) (ap (λ (x : Life). x.idle) same ∙ idle)).0
 
 -- Where no life that the end of an event changes is idle, each idle life is as before.
 ends-out : (f : Life → Life) (o : Option ActNo) (lives : ℕ → Option Life) (a : ActNo) (life : Life)

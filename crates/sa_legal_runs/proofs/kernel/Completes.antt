@@ -4,7 +4,7 @@ use Rattle.std.proofs.lemmas.List.Sums.{get_or-le-sum_by}
 use Rattle.std.specs.Prelude.{◌==◌, sum_by}
 use Rattle.std.proofs.lemmas.List.{append-nil}
 use Rattle.std.proofs.Common.{get_or, ◌≡◌, ℕ, suc, ◌+◌, ◌<◌, ◌≤◌, arith, sym, ◌∙◌, ap, subst, refl, true, false, Option, Some, None, List, [], ◌∷◌, ◌++◌, length, slice_get, inl, inr, Contains, Bool, All, ◌&&◌}
-use Rattle.std.proofs.lemmas.Bool.{cases_eq}
+use Rattle.std.proofs.lemmas.Bool.{cases_eq, eq-eqb}
 use Rattle.std.proofs.lemmas.Option.{same_Some, get_or_from_slice_get, none-some, slice_get_within}
 use Rattle.std.proofs.lemmas.Bool.Decides.{nat_tests}
 use Rattle.sa_base.specs.declared.record.Record.TheVariants.{Unblock, Fetched}
@@ -89,9 +89,6 @@ self-claim s a =
     let one : (s.0 == s.0) ≡ true = grind (arith, nat_tests) in
     let two : (a.0 == a.0) ≡ true = grind (arith, nat_tests) in
     ap (λ (b : Bool). once_if (b && a.0 == a.0)) one ∙ ap once_if two
-
-same-number : (a : ActNo) → (a.0 == a.0) ≡ true
-same-number a = grind (arith, nat_tests)
 
 -- A notice that waits is counted.
 claimed-note : (a : ℕ) (n : Note) (ns : List Note) → Contains ns n → note_claim a n ≡ 1 → 1 ≤ sum_by (note_claim a) ns
@@ -354,14 +351,14 @@ module _ {U C : Type 0} (level : UserLevel U C) where
 
       go : (kind : IoKind) → due_io.kind ≡ kind → (ev : Event) × Goes level w events m p after ev
       go (Plain s a) is = unblock-goes w events m p n s a io due_io c low due
-          (claims s a (ap (kind_claim s.0 a.0) is ∙ self-claim s a)) (busy a (ap (is_kind_of a) is ∙ same-number a))
+          (claims s a (ap (kind_claim s.0 a.0) is ∙ self-claim s a)) (busy a (ap (is_kind_of a) is ∙ eq-eqb a.0 a.0 refl))
           (let z = subst (λ (q : IoKind). IsKind (length m.kernel.demands) q) is is_kind in omega (arith, z, spaces))
           (subst (λ (q : IoKind). IsOver q (Unblock s (thread_of (held_of (x.kernel.acts a.0))) a ∷ [])) (sym is) (refl, refl)) can
           (λ items. ap (λ (z : Scene C). z.items)
           (over_is items ∙ ap (λ (q : IoKind). over g p io (Some q)
           (record { state = x.kernel; items = items })) is)) runs between workload event
       go (Page s a i) is = unblock-goes w events m p n s a io due_io c low due
-          (claims s a (ap (kind_claim s.0 a.0) is ∙ self-claim s a)) (busy a (ap (is_kind_of a) is ∙ same-number a))
+          (claims s a (ap (kind_claim s.0 a.0) is ∙ self-claim s a)) (busy a (ap (is_kind_of a) is ∙ eq-eqb a.0 a.0 refl))
           (let z = (subst (λ (q : IoKind). IsKind (length m.kernel.demands) q) is is_kind).0 in omega (arith, z, spaces))
           (subst (λ (q : IoKind). IsOver q (Unblock s (thread_of (held_of (x.kernel.acts a.0))) a ∷ [])) (sym is) (refl, refl)) can
           (λ items. ap (λ (z : Scene C). z.items)

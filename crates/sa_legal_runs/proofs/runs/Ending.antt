@@ -7,7 +7,7 @@ use Rattle.sa_legal_runs.proofs.matching.Shown.{runs-reads, owner-reads}
 use Rattle.sa_legal_runs.proofs.matching.Composed.{holds-at, IsComposed, read, moment}
 use Rattle.std.proofs.lemmas.Option.{get_or_from_slice_get, slice_get_within, same_Some, none-some}
 use Rattle.std.proofs.lemmas.List.Sums.{sum_by-cons}
-use Rattle.std.proofs.lemmas.Bool.{cases_eq, and_parts, false_from_ne_true}
+use Rattle.std.proofs.lemmas.Bool.{cases_eq, and_parts, false_from_ne_true, not-false}
 use Rattle.std.proofs.lemmas.Bool.Decides.{nat_tests}
 use Rattle.std.specs.Prelude.{if◌then◌else◌, sum_by}
 use Rattle.std.specs.List.{list_all}
@@ -316,12 +316,8 @@ module _ {U C : Type 0} (level : UserLevel U C) where
                   let mine_has = subst (λ (z : ActNo). Contains (untold_in k s.0) (Preempted z)) (same-act i b one) has in
                   let calm = quiet.told s (Preempted i) mine_has in
                   let idle_is : life.idle ≡ true =
-                  ap was_idle (sym is) ∙ c.history.kept.idle s.0 i mine_has ∙ un-not (idle_in (held_of (k.acts i.0))) calm in
+                  ap was_idle (sym is) ∙ c.history.kept.idle s.0 i mine_has ∙ not-false (idle_in (held_of (k.acts i.0))) calm in
                   absurd (let z : true ≡ false = sym inside ∙ (c.idle i life is idle_is).0 in cc)
-                where
-                  un-not : (b : Bool) → not b ≡ false → b ≡ true
-                  un-not true is = refl
-                  un-not false is = absurd (cc)
 
   -- Where the history is stuck, the machine is.
   stuck-back : (w : WorkloadView) (events : List Event) (m : Machine U C) → IsComposed level w events m

@@ -1,7 +1,8 @@
-use Rattle.std.proofs.Common.{◌≡◌, ◌≤◌, Bool, true, false, ◌&&◌, ◌==◌, List, [], refl, sym, ◌∙◌, ap, inl, inr, length, arith}
+use Rattle.std.proofs.Common.{◌≡◌, ◌≤◌, true, false, ◌&&◌, ◌==◌, List, [], refl, sym, ◌∙◌, ap, inl, inr, length, arith}
 use Rattle.std.specs.List.{list_any}
 use Rattle.std.proofs.lemmas.Bool.{cases_lt, false≢true}
 use Rattle.std.proofs.lemmas.List.{get_or_past}
+use Rattle.std.proofs.Math.Bool.{and-false}
 use Rattle.sa_base.specs.declared.number.SpaceNo.{SpaceNo}
 use Rattle.sa_base.specs.declared.record.Note.{Note}
 use Rattle.sa_spaces.specs.Workload.{WorkloadView}
@@ -10,10 +11,6 @@ use Rattle.sa_laws.specs.Readings.{Readings, demand_of, must_hear}
 use Rattle.sa_laws.specs.Closing.{must_want}
 use Rattle.sa_check_moment.specs.Seen.{seen}
 use Rattle.sa_check.proofs.prompt.wants_nothing.Goals as goal
-
-and-false : (b : Bool) → b && false ≡ false
-and-false true = refl
-and-false false = refl
 
 -- nothing is untold to a space that is not there
 nothing-past : (r : Readings) (s : SpaceNo) → length r.untold ≤ s.0 → must_want r s ≡ false
