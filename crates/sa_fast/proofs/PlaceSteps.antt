@@ -4,7 +4,7 @@ use Rattle.std.proofs.lemmas.Bool.{cases_eq}
 use Rattle.std.proofs.lemmas.List.{get_or-set_same, get_or-set_other, length-set}
 use Rattle.sa_base.specs.declared.number.ThreadNo.{ThreadNo}
 use Rattle.sa_instr.specs.declared.instr.Instr.{Instr}
-use Rattle.sa_instr.specs.declared.instr.Instr.TheVariants.{Compute, Set, Add, Sub, Jnz, Load, Store, Out, Fork, Join, Lock, Unlock, Wait, Signal, Io, Touch, End}
+use Rattle.sa_instr.specs.declared.instr.Instr.TheVariants.{Compute, Load, Store, Out, Fork, Join, Lock, Unlock, Wait, Signal, Io, Touch, End}
 use Rattle.sa_instr.specs.declared.instr.Reg.{Reg}
 use Rattle.sa_instr.specs.Regs.{reg_value}
 use Rattle.sa_spaces.specs.Space.{SpaceView}
@@ -18,7 +18,7 @@ use Rattle.sa_sync.specs.Calls.{Change, goes, waits, is_holder, locked, passed_o
 use Rattle.sa_fast.specs.declared.shared.Shared.{Shared}
 use Rattle.sa_fast.specs.declared.threads.Block.{Block}
 use Rattle.sa_fast.specs.declared.threads.KeptPlace.{KeptPlace}
-use Rattle.sa_fast.specs.declared.threads.KeptPlace.TheVariants.{Unmade, Ready, Running, Waiting, Blocked, Carried, Done}
+use Rattle.sa_fast.specs.declared.threads.KeptPlace.TheVariants.{Unmade, Running, Waiting, Blocked, Done}
 use Rattle.sa_fast.specs.declared.instruction.Ran.{Ran}
 use Rattle.sa_fast.specs.declared.instruction.Ran.TheVariants.{Goes, Leaves, Blocks}
 use Rattle.sa_fast.specs.declared.instruction.TheConstants.{NOT_MADE}
@@ -35,23 +35,14 @@ if_not b = cond b 0 1
 
 -- a thread that a context carries is at no other place
 carried_is : (p : KeptPlace) → if_not (is_carried p) ≡ 0 → (one_where (is_ready p) ≡ 0) × (one_where (is_done_place p) ≡ 0) × (one_where (is_unmade p) ≡ 0)
-carried_is Unmade e = absurd (omega arith)
-carried_is Ready e = absurd (omega arith)
 carried_is Running e = (refl, refl, refl)
-carried_is Waiting e = absurd (omega arith)
 carried_is Blocked e = (refl, refl, refl)
-carried_is Carried e = absurd (omega arith)
-carried_is Done e = absurd (omega arith)
+carried_is _ e = absurd (omega arith)
 
 -- nor is one that was not made
 unmade_is : (p : KeptPlace) → one_where (is_unmade p) ≡ 1 → if_not (is_carried p) ≡ 1
 unmade_is Unmade e = refl
-unmade_is Ready e = absurd (omega arith)
-unmade_is Running e = absurd (omega arith)
-unmade_is Waiting e = absurd (omega arith)
-unmade_is Blocked e = absurd (omega arith)
-unmade_is Carried e = absurd (omega arith)
-unmade_is Done e = absurd (omega arith)
+unmade_is _ e = absurd (omega arith)
 
 stays_other : (a : Ran) (t : ThreadNo) (u : ℕ) → u ≢ t.0 → stays_with a t u ≡ 0
 stays_other Goes t u ne = one_other t.0 u (λ e. ne (sym e))
@@ -266,10 +257,6 @@ module _ (def : SpaceView) (processors event : ℕ) (x : Shared) (w : Option Thr
   instr_place : (fetch pages : ℕ) (b : Block) (i : Instr) → b.place ≡ place_at x t.0 → RunStep def processors event x w t (outcome_of fetch pages x w t b i)
       → PlaceStep x t (outcome_of fetch pages x w t b i)
   instr_place fetch pages b Compute at step = shaped (went x w t b Compute) step (own_shape x.sync _ x.works w Goes refl at)
-  instr_place fetch pages b (Set reg n) at step = shaped (went x w t b (Set reg n)) step (own_shape x.sync _ x.works w Goes refl at)
-  instr_place fetch pages b (Add reg other) at step = shaped (went x w t b (Add reg other)) step (own_shape x.sync _ x.works w Goes refl at)
-  instr_place fetch pages b (Sub reg other) at step = shaped (went x w t b (Sub reg other)) step (own_shape x.sync _ x.works w Goes refl at)
-  instr_place fetch pages b (Jnz reg place) at step = shaped (went x w t b (Jnz reg place)) step (own_shape x.sync _ x.works w Goes refl at)
   instr_place fetch pages b (Load reg cell) at step = shaped (outcome_of fetch pages x w t b (Load reg cell)) step (own_shape x.sync _ x.works w Goes refl at)
   instr_place fetch pages b (Store reg cell) at step =
       shaped (outcome_of fetch pages x w t b (Store reg cell)) step (own_shape (stored x.sync cell (reg_value b.regs reg)) (next_of b) x.works w Goes refl at)
@@ -310,6 +297,7 @@ module _ (def : SpaceView) (processors event : ℕ) (x : Shared) (w : Option Thr
         done = λ u ne. omega (arith, ends u, one_other t.0 u (λ f. ne (sym f)));
         place = inr (refl, omega (arith, ends t.0, live, one_same t.0 t.0 refl));
       })
+  instr_place fetch pages b i at step = shaped (went x w t b i) step (own_shape x.sync _ x.works w Goes refl at)
 
 pub place-step : (def : SpaceView) (processors event fetch pages : ℕ) (x : Shared) (w : Option ThreadNo) (t : ThreadNo) → ArePartsFor def processors event x
     → threads_at_rest x t.0 ≡ 0

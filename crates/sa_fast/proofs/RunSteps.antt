@@ -10,7 +10,7 @@ use Rattle.sa_base.specs.declared.number.ThreadNo.{ThreadNo}
 use Rattle.sa_base.specs.declared.limits.TheConstants.{MAX_THREADS}
 use Rattle.sa_instr.specs.declared.limits.TheConstants.{MAX_START}
 use Rattle.sa_instr.specs.declared.instr.Instr.{Instr}
-use Rattle.sa_instr.specs.declared.instr.Instr.TheVariants.{Compute, Set, Add, Sub, Jnz, Load, Store, Out, Fork, Join, Lock, Unlock, Wait, Signal, Io, Touch, End}
+use Rattle.sa_instr.specs.declared.instr.Instr.TheVariants.{Compute, Load, Store, Out, Fork, Join, Lock, Unlock, Wait, Signal, Io, Touch, End}
 use Rattle.sa_instr.specs.declared.instr.Reg.{Reg}
 use Rattle.sa_instr.specs.Instr.{NamesDeclared}
 use Rattle.sa_instr.specs.Local.{pc_after, regs_after}
@@ -264,10 +264,6 @@ module _ (def : SpaceView) (processors event : ℕ) (x : Shared) (w : Option Thr
   instr-step : (fetch pages : ℕ) (b : Block) (i : Instr) → IsAt def b → i ≡ instr_of def b
       → RunStep def processors event x w t (outcome_of fetch pages x w t b i)
   instr-step fetch pages b Compute at is = went-step b Compute at is
-  instr-step fetch pages b (Set reg n) at is = went-step b (Set reg n) at is
-  instr-step fetch pages b (Add reg other) at is = went-step b (Add reg other) at is
-  instr-step fetch pages b (Sub reg other) at is = went-step b (Sub reg other) at is
-  instr-step fetch pages b (Jnz reg place) at is = went-step b (Jnz reg place) at is
   instr-step fetch pages b (Load reg cell) at is = let n = next b (Load reg cell) at is (λ e. cc) in
       goes-step (value_in b reg (cell_at x.sync cell)) (record { program = n.program; pc = n.pc })
   instr-step fetch pages b (Store reg cell) at is = stored-step (next_of b) cell (reg_value b.regs reg) (next b (Store reg cell) at is (λ e. cc))
@@ -290,6 +286,7 @@ module _ (def : SpaceView) (processors event : ℕ) (x : Shared) (w : Option Thr
   instr-step fetch pages b (Io length) at is = blocks-step (next_of b) length None (next b (Io length) at is (λ e. cc))
   instr-step fetch pages b (Touch page) at is = touched-step b fetch page (is_resident pages page) at (next b (Touch page) at is (λ e. cc))
   instr-step fetch pages b End at is = ended-step b at
+  instr-step fetch pages b i at is = went-step b i at is
 
 -- t is in its context's hand, so not at rest; threads at rest are in no work list
 pub run-step : (def : SpaceView) (processors event fetch pages : ℕ) (x : Shared) (w : Option ThreadNo) (t : ThreadNo) → IsSpace def

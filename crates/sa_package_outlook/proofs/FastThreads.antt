@@ -51,35 +51,11 @@ states n (Look i) (Hint t) e = absurd cc
 states n (Look i) Return e = absurd cc
 states n (Look i) (User t) e = absurd cc
 states n (Code f) (Look j) e = absurd cc
-states n (Code f) (Code g) e = inl e
-states n (Code f) (Work t) e = inl e
-states n (Code f) (Hint t) e = inl e
-states n (Code f) Return e = inl e
-states n (Code f) (User t) e = inl e
 states n (Work s) (Look j) e = absurd cc
-states n (Work s) (Code g) e = inl e
-states n (Work s) (Work t) e = inl e
-states n (Work s) (Hint t) e = inl e
-states n (Work s) Return e = inl e
-states n (Work s) (User t) e = inl e
 states n (Hint s) (Look j) e = absurd cc
-states n (Hint s) (Code g) e = inl e
-states n (Hint s) (Work t) e = inl e
-states n (Hint s) (Hint t) e = inl e
-states n (Hint s) Return e = inl e
-states n (Hint s) (User t) e = inl e
 states n Return (Look j) e = absurd cc
-states n Return (Code g) e = inl e
-states n Return (Work t) e = inl e
-states n Return (Hint t) e = inl e
-states n Return Return e = inl e
-states n Return (User t) e = inl e
 states n (User s) (Look j) e = absurd cc
-states n (User s) (Code g) e = inl e
-states n (User s) (Work t) e = inl e
-states n (User s) (Hint t) e = inl e
-states n (User s) Return e = inl e
-states n (User s) (User t) e = inl e
+states n _ _ e = inl e
 
 pub same-or-look : (def : Option SpaceView) (c d : Context) → plain def c ≡ plain def d → (c ≡ d) ⊎ BothLook (patience_of def) c d
 same-or-look def c d e =
@@ -97,24 +73,15 @@ same-or-look def c d e =
 module _ (u : Package) where
   coded-def : (seen : Seen) (c : Context) (f : Frame) (op : Option Op) (m : Micro) (done : MicroDone) → (coded_by u seen c f op m done).user.def ≡ u.def
   coded-def seen c f op m micros.Did = refl
-  coded-def seen c f op m micros.Spun = refl
-  coded-def seen c f op m micros.Faulted = refl
-  coded-def seen c f op m micros.Left = refl
-  coded-def seen c f op m micros.Yielded = refl
+  coded-def seen c f op m _ = refl
 
   pushing-def : (c : Context) (first : ThreadNo) (m : Micro) (done : MicroDone) → (pushing_by u c first m done).user.def ≡ u.def
   pushing-def c first m micros.Did = refl
-  pushing-def c first m micros.Spun = refl
-  pushing-def c first m micros.Faulted = refl
-  pushing-def c first m micros.Left = refl
-  pushing-def c first m micros.Yielded = refl
+  pushing-def c first m _ = refl
 
   popping-def : (c : Context) (m : Micro) (done : MicroDone) → (popping_by u c m done).user.def ≡ u.def
   popping-def c m micros.Did = refl
-  popping-def c m micros.Spun = refl
-  popping-def c m micros.Faulted = refl
-  popping-def c m micros.Left = refl
-  popping-def c m micros.Yielded = refl
+  popping-def c m _ = refl
 
   worked-def : (seen : Seen) (c : Context) (f : Option Frame) (t : Option ThreadNo) → (worked u seen c f t).user.def ≡ u.def
   worked-def seen c (Some f) t = refl
@@ -133,8 +100,7 @@ module _ (u : Package) where
 
 used-def : (u : Package) (seen : Seen) (c : Context) (t : ThreadNo) (r : Ran) (says : List Record) → (used_by u seen c t r says).user.def ≡ u.def
 used-def u seen c t rans.Goes says = refl
-used-def u seen c t rans.Leaves says = refl
-used-def u seen c t (rans.Blocks n page) says = refl
+used-def u seen c t _ says = refl
 
 stepped_at-def : (u : Package) (seen : Seen) (c : Context) (s : ContextState) → (stepped_at u seen c s).user.def ≡ u.def
 stepped_at-def u seen c (Code f) = let m = micro u.shared.state f seen.pages in coded-def u seen c f _ m m.done
@@ -221,18 +187,7 @@ told-same def u c d (Preempted a) (Preempted b) held i made e same =
 told-same def u c d (Unblocked a) (Unblocked b) held i made e same =
     let z = told_of-same u c d held i def e (cc) in
     record { user = z.0; ctx = z.1; made = made-still def u (told_of u c held).user (told_of-def u c held) made }
-told-same def u c d (Add p) (Preempted b) held i made e same = absurd cc
-told-same def u c d (Add p) (Blocked b) held i made e same = absurd cc
-told-same def u c d (Add p) (Unblocked b) held i made e same = absurd cc
-told-same def u c d (Blocked a) (Add q) held i made e same = absurd cc
-told-same def u c d (Blocked a) (Preempted b) held i made e same = absurd cc
-told-same def u c d (Blocked a) (Unblocked b) held i made e same = absurd cc
-told-same def u c d (Preempted a) (Add q) held i made e same = absurd cc
-told-same def u c d (Preempted a) (Blocked b) held i made e same = absurd cc
-told-same def u c d (Preempted a) (Unblocked b) held i made e same = absurd cc
-told-same def u c d (Unblocked a) (Add q) held i made e same = absurd cc
-told-same def u c d (Unblocked a) (Blocked b) held i made e same = absurd cc
-told-same def u c d (Unblocked a) (Preempted b) held i made e same = absurd cc
+told-same def u c d _ _ held i made e same = absurd cc
 
 -- AN ANSWER
 answered-look : (u : Package) (seen : Seen) (c : Context) (i : ℕ) → c.state ≡ Look i → answered u seen c ≡ (u, c)
@@ -261,10 +216,7 @@ module _ (def : Option SpaceView) (u : Package) (seen : Seen) (c : Context) (i j
   popping-same : (m : Micro) (done : MicroDone) → IsMade def u → min i (patience_of def) ≡ min j (patience_of def)
       → Same (popping_by u (looking c i) m done) (popping_by u (looking c j) m done)
   popping-same m micros.Did made same = record { user = refl; ctx = refl; answer = refl; made = made }
-  popping-same m micros.Spun made same = record { user = refl; ctx = plain-look same; answer = refl; made = made }
-  popping-same m micros.Faulted made same = record { user = refl; ctx = plain-look same; answer = refl; made = made }
-  popping-same m micros.Left made same = record { user = refl; ctx = plain-look same; answer = refl; made = made }
-  popping-same m micros.Yielded made same = record { user = refl; ctx = plain-look same; answer = refl; made = made }
+  popping-same m _ made same = record { user = refl; ctx = plain-look same; answer = refl; made = made }
 
   looked-same : (idle : Bool) (l : Option ℕ) → IsMade def u → min i (patience_of def) ≡ min j (patience_of def)
       → Same (looked_by u seen (looking c i) i idle l) (looked_by u seen (looking c j) j idle l)

@@ -62,18 +62,7 @@ note-base def (Preempted a) (Preempted b) h i e =
     ap {B = NamelessNote Context} (λ (x : Option (PlainStopped Context)). NamelessNote.preempted x) (stopped-same def h i (cc))
 note-base def (Unblocked a) (Unblocked b) h i e =
     ap {B = NamelessNote Context} (λ (x : Option (PlainStopped Context)). NamelessNote.unblocked x) (stopped-same def h i (cc))
-note-base def (Add p) (Preempted b) h i e = absurd cc
-note-base def (Add p) (Blocked b) h i e = absurd cc
-note-base def (Add p) (Unblocked b) h i e = absurd cc
-note-base def (Blocked a) (Add q) h i e = absurd cc
-note-base def (Blocked a) (Preempted b) h i e = absurd cc
-note-base def (Blocked a) (Unblocked b) h i e = absurd cc
-note-base def (Preempted a) (Add q) h i e = absurd cc
-note-base def (Preempted a) (Blocked b) h i e = absurd cc
-note-base def (Preempted a) (Unblocked b) h i e = absurd cc
-note-base def (Unblocked a) (Add q) h i e = absurd cc
-note-base def (Unblocked a) (Blocked b) h i e = absurd cc
-note-base def (Unblocked a) (Preempted b) h i e = absurd cc
+note-base def _ _ h i e = absurd cc
 
 told-same : (def : Option SpaceView) (v : Prio) (c d : PrioContext) (note other : Note) (h i : Option (Stopped PrioContext)) → IsMadeFor def v
     → plain_prio def c ≡ plain_prio def d → SameNote plain_prio def note h other i
