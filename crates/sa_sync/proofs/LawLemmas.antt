@@ -8,7 +8,7 @@ use Rattle.sa_links.proofs.Counting.{count_set, count-cons, count-replicate}
 use Rattle.sa_base.specs.declared.limits.TheConstants.{MAX_THREADS}
 use Rattle.sa_spaces.specs.Space.{SpaceView}
 use Rattle.sa_sync.specs.declared.answer.SyncAnswer.{SyncAnswer}
-use Rattle.sa_sync.specs.declared.answer.SyncAnswer.TheVariants.{Goes, Waits, Wakes}
+use Rattle.sa_sync.specs.declared.answer.SyncAnswer.TheVariants.{Waits}
 use Rattle.sa_sync.specs.Sync.{Sync, Mutex, Semaphore, free_mutex, semaphore_of, opening, mutex_at, semaphore_at, joiners_at, is_done, with_mutex, with_semaphore, with_joiners, waits_of, WaitsNowhere, WaitsOnce}
 use Rattle.sa_sync.specs.Calls.{Change, goes, waits, is_holder, locked, locked_by, passed_on, unlocked, waited, waited_by, signalled, signalled_by, joined, first_joiner, without_joiner}
 use Rattle.sa_sync.specs.Laws.{joining, TellsWhoWaits, IsQueueStep, without_joiners}
@@ -208,12 +208,11 @@ joiners_in_order s t (suc n) h =
 
 -- a thread stays in one queue at most
 joins_once : (a : SyncAnswer) (t u : ℕ) → (joining a t u ≡ 0) ⊎ ((t ≡ u) × (joining a t u ≡ 1))
-joins_once Goes t u = inl refl
 joins_once Waits t u = elim (cases_eq t u) [
   | inl same ↦ inr (same, ap (λ b. cond b 1 0) (eq-eqb t u same))
   | inr other ↦ inl (ap (λ b. cond b 1 0) (ne_eqb t u other))
 ]
-joins_once (Wakes x) t u = inl refl
+joins_once _ t u = inl refl
 
 pub keeps_one_queue : (s : Sync) (t : ℕ) (change : Change) → WaitsOnce s → t < MAX_THREADS → WaitsNowhere s t → TellsWhoWaits s t change
     → WaitsOnce change.state

@@ -6,7 +6,7 @@ use Rattle.sa_base.specs.declared.number.ProcNo.{ProcNo}
 use Rattle.sa_base.specs.declared.number.ThreadNo.{ThreadNo}
 use Rattle.sa_base.specs.declared.limits.TheConstants.{MAX_THREADS}
 use Rattle.sa_instr.specs.declared.instr.Instr.{Instr}
-use Rattle.sa_instr.specs.declared.instr.Instr.TheVariants.{Compute, Set, Add, Sub, Jnz, Load, Store, Out, Fork, Join, Lock, Unlock, Wait, Signal, Io, Touch, End}
+use Rattle.sa_instr.specs.declared.instr.Instr.TheVariants.{Store, Out, Fork, Join, Lock, Unlock, Wait, Signal, Io, Touch, End}
 use Rattle.sa_instr.specs.declared.instr.Reg.{Reg}
 use Rattle.sa_instr.specs.Regs.{reg_value}
 use Rattle.sa_spaces.specs.Space.{SpaceView}
@@ -185,12 +185,6 @@ module _ (x : SpaceState) (t : ThreadNo) (p : ProcNo) (runs : place_no x t.0 ≡
 
   module _ (def : SpaceView) (thread : Thread) (is : thread.place ≡ places.Running p) where
     pub tells_of : (instr : Instr) → CanDo def x t thread instr → Tells x (effect_of x t thread instr)
-    tells_of Compute can = goes_alone _ is
-    tells_of (Set reg n) can = goes_alone _ is
-    tells_of (Add reg n) can = goes_alone _ is
-    tells_of (Sub reg n) can = goes_alone _ is
-    tells_of (Jnz reg place) can = goes_alone _ is
-    tells_of (Load reg cell) can = goes_alone _ is
     tells_of (Store reg cell) can =
         alone (next thread) (stored x.sync cell (reg_value thread.regs reg)) [] (ap kind is) (λ u. omega (arith, runs_on (next thread) u (ap is_waiting is)))
     tells_of (Out reg) can = goes_alone (next thread) is
@@ -206,3 +200,4 @@ module _ (x : SpaceState) (t : ThreadNo) (p : ProcNo) (runs : place_no x t.0 ≡
     tells_of (Io length) can = goes_alone (next thread) is
     tells_of (Touch page) can = goes_alone (next thread) is
     tells_of End can = ends thread (omega (arith, can.made, can.few, can.joiners))
+    tells_of _ can = goes_alone _ is

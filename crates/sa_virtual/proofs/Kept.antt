@@ -98,27 +98,15 @@ threads_new w f a lives o have gets =
 -- where a thread of this kind is
 pub is_ready : (place : Place) → 1 ≤ one_if (kind place) 1 → place ≡ places.Ready
 is_ready places.Ready some = refl
-is_ready places.Carried some = absurd (omega (arith, some))
-is_ready places.Blocked some = absurd (omega (arith, some))
-is_ready places.Waiting some = absurd (omega (arith, some))
-is_ready places.Done some = absurd (omega (arith, some))
-is_ready (places.Running p) some = absurd (omega (arith, some))
+is_ready _ some = absurd (omega (arith, some))
 
 pub is_carried : (place : Place) → 1 ≤ one_if (kind place) 2 → place ≡ places.Carried
 is_carried places.Carried some = refl
-is_carried places.Ready some = absurd (omega (arith, some))
-is_carried places.Blocked some = absurd (omega (arith, some))
-is_carried places.Waiting some = absurd (omega (arith, some))
-is_carried places.Done some = absurd (omega (arith, some))
-is_carried (places.Running p) some = absurd (omega (arith, some))
+is_carried _ some = absurd (omega (arith, some))
 
 pub is_blocked : (place : Place) → 1 ≤ one_if (kind place) 3 → place ≡ places.Blocked
 is_blocked places.Blocked some = refl
-is_blocked places.Carried some = absurd (omega (arith, some))
-is_blocked places.Ready some = absurd (omega (arith, some))
-is_blocked places.Waiting some = absurd (omega (arith, some))
-is_blocked places.Done some = absurd (omega (arith, some))
-is_blocked (places.Running p) some = absurd (omega (arith, some))
+is_blocked _ some = absurd (omega (arith, some))
 
 -- a thread that is settled can be put elsewhere
 pub settled_moves : (spaces : List SpaceState) (s : SpaceNo) (t : ThreadNo) (place : Place) → is_settled place ≡ true → place_in spaces s t ≡ place

@@ -46,8 +46,7 @@ number_other a r k ne below is = absurd (ne (omega (arith, is, below)))
 
 pub both_true : (b c : Bool) → 1 ≤ one_where (b && c) → (b ≡ true) × (c ≡ true)
 both_true true true some = (refl, refl)
-both_true true false some = absurd (omega (arith, some))
-both_true false c some = absurd (omega (arith, some))
+both_true _ _ some = absurd (omega (arith, some))
 
 -- one that comes to run on a processor
 pub entered : (runners : List (Option Runner)) (placed : List (Option ActNo)) (p q : ProcNo) (y : Runner) (a : ActNo) (x : Runner)

@@ -39,11 +39,7 @@ use Rattle.sa_virtual.proofs.Pushed.{known, number_is, number_other}
 -- who is in a queue waits
 waits_then : (place : Place) (n m : ℕ) → n + m ≡ one_where (is_waiting place) → 1 ≤ n → place ≡ places.Waiting
 waits_then places.Waiting n m sum some = refl
-waits_then places.Ready n m sum some = absurd (omega (arith, sum, some))
-waits_then places.Carried n m sum some = absurd (omega (arith, sum, some))
-waits_then places.Blocked n m sum some = absurd (omega (arith, sum, some))
-waits_then places.Done n m sum some = absurd (omega (arith, sum, some))
-waits_then (places.Running p) n m sum some = absurd (omega (arith, sum, some))
+waits_then _ n m sum some = absurd (omega (arith, sum, some))
 
 module _ (w : WorkloadView) (v : Parts) (runners : List (Option Runner)) (h : Holds w v runners) (p : ProcNo) (a : ActNo)
     (at : get_or v.placed p.0 None ≡ Some a)

@@ -6,7 +6,7 @@ use Rattle.sa_base.specs.declared.number.SpaceNo.{SpaceNo}
 use Rattle.sa_base.specs.declared.number.ThreadNo.{ThreadNo}
 use Rattle.sa_base.specs.declared.limits.TheConstants.{MAX_THREADS}
 use Rattle.sa_instr.specs.declared.instr.Instr.{Instr}
-use Rattle.sa_instr.specs.declared.instr.Instr.TheVariants.{Store, Fork, Join, Lock, Unlock, Wait, Signal, End}
+use Rattle.sa_instr.specs.declared.instr.Instr.TheVariants.{Fork, Join, Lock, Unlock, Wait, Signal}
 use Rattle.sa_instr.specs.Regs.{reg_value}
 use Rattle.sa_spaces.specs.Workload.{WorkloadView}
 use Rattle.sa_sync.specs.declared.answer.SyncAnswer.{SyncAnswer}
@@ -81,15 +81,13 @@ joins s change false is = same s
 told : (x : SpaceState) (t : ThreadNo) (thread : Thread) (sync : Sync) (answer : SyncAnswer) → IsOneMore x.sync sync
     → IsOneMore x.sync (answered (with_sync x sync) t thread answer).space.sync
 told x t thread sync answers.Goes is = is
-told x t thread sync answers.Waits is = is
-told x t thread sync (answers.Wakes u) is = is
+told x t thread sync _ is = is
 
 forks : (x : SpaceState) (a b : Effect) (c : Bool) → IsOneMore x.sync a.space.sync → IsOneMore x.sync b.space.sync → IsOneMore x.sync (cond c a b).space.sync
 forks x a b true is other = is
 forks x a b false is other = other
 
 pub one_more : (x : SpaceState) (t : ThreadNo) (thread : Thread) (i : Instr) → IsOneMore x.sync (effect_of x t thread i).space.sync
-one_more x t thread (Store reg cell) = same x.sync
 one_more x t thread (Fork reg program) = forks x _ _ (nat_lt (length x.threads) MAX_THREADS) (same x.sync) (same x.sync)
 one_more x t thread (Join reg) = let change = joined x.sync t.0 (reg_value thread.regs reg) (length x.threads) in
     told x t _ change.state change.answer (joins x.sync (waits _) _ (same x.sync))
@@ -101,8 +99,7 @@ one_more x t thread (Wait j) =
     told x t (next thread) (waited x.sync t.0 j).state (waited x.sync t.0 j).answer
     (waits' x.sync t.0 j (semaphore_at x.sync j).count (semaphore_at x.sync j).queue refl)
 one_more x t thread (Signal j) = told x t (next thread) (signalled x.sync j).state (signalled x.sync j).answer (signals x.sync j (semaphore_at x.sync j).queue)
-one_more x t thread End = same x.sync
-one_more x t thread i = same x.sync
+one_more x t thread _ = same x.sync
 
 -- a record
 pub ins_below : (w : WorkloadView) (c : ℕ) (a : State) (s : SpaceNo) (t : ThreadNo) → IsBelow c a.spaces

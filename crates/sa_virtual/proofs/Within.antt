@@ -7,7 +7,7 @@ use Rattle.std.proofs.lemmas.List.Elements.{All-get_or}
 use Rattle.sa_base.specs.declared.number.ThreadNo.{ThreadNo}
 use Rattle.sa_base.specs.declared.limits.TheConstants.{MAX_THREADS}
 use Rattle.sa_instr.specs.declared.instr.Instr.{Instr}
-use Rattle.sa_instr.specs.declared.instr.Instr.TheVariants.{Compute, Set, Add, Sub, Jnz, Load, Store, Out, Fork, Join, Lock, Unlock, Wait, Signal, Io, Touch, End}
+use Rattle.sa_instr.specs.declared.instr.Instr.TheVariants.{Compute, Load, Store, Out, Fork, Join, Lock, Unlock, Wait, Signal, Io, Touch, End}
 use Rattle.sa_instr.specs.declared.instr.Reg.{Reg}
 use Rattle.sa_instr.specs.Instr.{NamesDeclared}
 use Rattle.sa_instr.specs.Local.{pc_after, regs_after}
@@ -59,9 +59,8 @@ module _ (def : SpaceView) (space : IsSpace def) (x : SpaceState) (t : ThreadNo)
   goes after there = one after x.sync there
 
   told : (after : Thread) (sync : Sync) (answer : SyncAnswer) → IsAt def after → AllAt def (answered (with_sync x sync) t after answer).space
-  told after sync answers.Goes there = one after sync there
   told after sync answers.Waits there = one (record after { place = places.Waiting }) sync (record { in_space = there.in_space; in_program = there.in_program })
-  told after sync (answers.Wakes u) there = one after sync there
+  told after sync _ there = one after sync there
 
   synced : (after : Thread) (change : Change) → IsAt def after → AllAt def (sync_effect x t after change).space
   synced after change there = told after change.state change.answer there
@@ -107,10 +106,6 @@ module _ (def : SpaceView) (space : IsSpace def) (x : SpaceState) (t : ThreadNo)
 
   pub within_of : (i : Instr) → i ≡ instr_in def thread → AllAt def (effect_of x t thread i).space
   within_of Compute is = local Compute is
-  within_of (Set reg n) is = local (Set reg n) is
-  within_of (Add reg n) is = local (Add reg n) is
-  within_of (Sub reg n) is = local (Sub reg n) is
-  within_of (Jnz reg n) is = local (Jnz reg n) is
   within_of (Load reg cell) is = goes _ (behind_with (Load reg cell) reg _ is (λ e. cc))
   within_of (Store reg cell) is = one (next thread) (stored x.sync cell (reg_value thread.regs reg)) (behind (Store reg cell) is (λ e. cc))
   within_of (Out reg) is = goes (next thread) (behind (Out reg) is (λ e. cc))
@@ -124,3 +119,4 @@ module _ (def : SpaceView) (space : IsSpace def) (x : SpaceState) (t : ThreadNo)
   within_of (Touch n) is = goes (next thread) (behind (Touch n) is (λ e. cc))
   within_of End is =
       one (record thread { place = places.Done }) (end_effect x t thread).space.sync (record { in_space = at.in_space; in_program = at.in_program })
+  within_of i is = local i is

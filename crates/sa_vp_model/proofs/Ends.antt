@@ -42,19 +42,11 @@ head_counts (t ∷ ts) some = omega (arith, count_same t t ts refl)
 
 waits_one : (place : Place) (n m : ℕ) → n + m ≡ one_where (is_waiting place) → 1 ≤ m → (is_waiting place && n == 0) ≡ true
 waits_one places.Waiting n m sum some = eq-eqb n 0 (omega (arith, sum, some))
-waits_one places.Ready n m sum some = absurd (omega (arith, sum, some))
-waits_one places.Carried n m sum some = absurd (omega (arith, sum, some))
-waits_one places.Blocked n m sum some = absurd (omega (arith, sum, some))
-waits_one places.Done n m sum some = absurd (omega (arith, sum, some))
-waits_one (places.Running p) n m sum some = absurd (omega (arith, sum, some))
+waits_one _ n m sum some = absurd (omega (arith, sum, some))
 
 waits_none : (place : Place) (n m : ℕ) → n + m ≡ one_where (is_waiting place) → m ≡ 0 → (is_waiting place && n == 0) ≡ false
 waits_none places.Waiting n m sum none = ne_eqb n 0 (λ e. absurd (omega (arith, sum, none, e)))
-waits_none places.Ready n m sum none = refl
-waits_none places.Carried n m sum none = refl
-waits_none places.Blocked n m sum none = refl
-waits_none places.Done n m sum none = refl
-waits_none (places.Running p) n m sum none = refl
+waits_none _ n m sum none = refl
 
 module _ (w : WorkloadView) (b : Board) (read : IsRead w b) where
   abbrev v : Virtuals
@@ -115,9 +107,7 @@ module _ (w : WorkloadView) (b : Board) (read : IsRead w b) where
     due = nobody (eqb-true b.due 0 due);
     ios = sym ios_are ∙ no_ios b.devices.ios.under_way ios;
   }
-  stuck true true false rest due ios not all = cc
-  stuck true false i rest due ios not all = cc
-  stuck false d i rest due ios not all = cc
+  stuck _ _ _ rest due ios not all = cc
 
   not_stuck : (r d i : Bool) → list_all are_at_rest b.state.spaces ≡ r → (b.due == 0) ≡ d → no_io b.devices.ios.under_way ≡ i → r && (d && i) ≡ false
       → IsStuck v → ⊥

@@ -47,11 +47,7 @@ worked_all work s t processors c are =
 
 waiting_there : (place : Place) → 1 ≤ one_where (is_waiting place) → place ≡ places.Waiting
 waiting_there places.Waiting some = refl
-waiting_there places.Ready some = absurd (omega (arith, some))
-waiting_there places.Carried some = absurd (omega (arith, some))
-waiting_there places.Blocked some = absurd (omega (arith, some))
-waiting_there places.Done some = absurd (omega (arith, some))
-waiting_there (places.Running p) some = absurd (omega (arith, some))
+waiting_there _ some = absurd (omega (arith, some))
 
 pub waiting_made : (x : SpaceState) (u : ℕ) → place_no x u ≡ places.Waiting → u < length x.threads
 waiting_made x u is = elim (cases_lt u (length x.threads)) [

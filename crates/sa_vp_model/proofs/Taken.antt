@@ -72,9 +72,8 @@ last_some x (y ∷ ys) is =
     last_some y ys (sym (ap (slice_get (x ∷ y ∷ ys)) place) ∙ is)
 
 chosen_some : (xs : List Listed) (own : Bool) → has_some xs ≡ true → chosen xs own ≡ None → ⊥
-chosen_some [] own some is = cc
 chosen_some (x ∷ xs) true some is = last_some x xs is
-chosen_some (x ∷ xs) false some is = cc
+chosen_some _ _ some is = cc
 
 -- a thread is in one list at most
 newest_two : (t : ℕ) (xs : List Listed) (k l : ℕ) → k ≢ l

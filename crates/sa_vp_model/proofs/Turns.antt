@@ -37,11 +37,7 @@ use Rattle.sa_vp_model.proofs.Main.{turns}
 -- LOSSES
 ready_same : (place : Place) → is_ready place ≡ legal.is_ready place
 ready_same places.Ready = refl
-ready_same places.Carried = refl
-ready_same places.Blocked = refl
-ready_same places.Waiting = refl
-ready_same places.Done = refl
-ready_same (places.Running p) = refl
+ready_same _ = refl
 
 ready_count : (threads : List Thread) → count_in is_ready threads ≡ count_by (λ (y : Thread). legal.is_ready y.place) threads
 ready_count threads = ap (λ (f : Place → Bool). count_by (λ (y : Thread). f y.place) threads) (fun_ext ready_same)
