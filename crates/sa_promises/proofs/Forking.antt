@@ -13,7 +13,7 @@ use Rattle.sa_histories.specs.Short.{at, s0, p0, t0}
 use Rattle.sa_promises.specs.Packages.{Package, Fast, Prio, rules_of}
 use Rattle.sa_promises.specs.Examples.{forking_program, forking, forking_run, older_taken, stops_at, t1, t2}
 use Rattle.sa_promises.proofs.Calm.{one-share}
-use Rattle.sa_promises.proofs.Right.{IsRight, RightAlong, over, ◌►◌, and-then, breaks-then}
+use Rattle.sa_promises.proofs.Right.{IsRightAt, RightAlong, over, ◌►◌, and-then, breaks-then}
 use Rattle.sa_promises.proofs.Unlocked.{AreFew, few-along}
 use Rattle.sa_promises.proofs.Smallest.{before-instruction, takes0}
 use Rattle.sa_promises.proofs.Steps.{up-to-order, frees, run-but-order, readies, takes_for_push, takes_for_pop, goes}
@@ -22,7 +22,7 @@ abbrev before : Package → ℕ → Readings
 before which n = after_events (rules_of which).inside forking (opening_readings forking) (take n forking_run)
 
 abbrev Right : Package → ℕ → Event → Type 0
-Right which n e = IsRight (rules_of which) forking (before which n) e
+Right which n e = IsRightAt (rules_of which) forking (before which n) e
 
 few : (which : Package) (n : ℕ) → AreFew (before which n).lives
 few which n = few-along (rules_of which).inside forking (opening_readings forking) n forking_run refl (record { others = λ a high. refl })

@@ -1,10 +1,9 @@
 -- What the rules that are a package's own ask of a step of one record, by how its life stands.
-use Rattle.std.proofs.Common.{◌≡◌, ℕ, ◌≤◌, inl, inr, refl, sym, ◌∙◌, ap, subst, arith, Some, None, List, [], ◌∷◌, true, false}
+use Rattle.std.proofs.Common.{◌≡◌, ℕ, ◌≤◌, inl, inr, refl, sym, ◌∙◌, ap, subst, Some, None, List, [], ◌∷◌, true, false}
 use Rattle.std.specs.Prelude.{Option, Bool, slice_index_or, ◌&&◌, not, nat_lt, is_some}
 use Rattle.std.specs.List.{list_any}
 use Rattle.std.specs.Option.{option_map}
-use Rattle.std.proofs.lemmas.Bool.{false≢true, or_right}
-use Rattle.std.proofs.lemmas.Bool.Decides.{nat_tests}
+use Rattle.std.proofs.lemmas.Bool.{false≢true, ltb-false, or_right}
 use Rattle.std.proofs.lemmas.Option.{same_Some}
 use Rattle.sa_base.specs.declared.number.ActNo.{ActNo}
 use Rattle.sa_base.specs.declared.number.ProcNo.{ProcNo}
@@ -93,15 +92,12 @@ nothing-owed w r x (Some life) s due thread is none =
             cont = ap (λ (y : Stand). y.cont) same;
             hand = ap (λ (y : Stand). y.hand) same;
           };
-          announced = above (demand_of r life.space) (usable w r life.space) announced;
+          announced = ltb-false (demand_of r life.space) (usable w r life.space) announced;
           given = or_right (is_some (carried_by r life)) (not (many_taken r life.space)) (ap not few);
         });
       };
       unurged = record { unurged = λ bound. inr (ap (λ tests. slice_index_or tests 2 true) of) };
     }
-  where
-    above : (a b : ℕ) → nat_lt a b ≡ false → b ≤ a
-    above a b is = grind (arith, nat_tests)
 
 pub in-demand : (which : Package) (w : WorkloadView) (r : Readings) (e : Event) → (1 ≤ e.number → BeginsFreely w r e.proc e.records)
     → (1 ≤ e.number → BeginsUnurged w r e.proc e.records) → (rules_of which).Demand w r e

@@ -21,7 +21,7 @@ use Rattle.sa_promises.specs.Packages.{Prio}
 use Rattle.sa_promises.specs.RankedExamples.{racing, racing_run, p1, at1, line_again, line_unasked, outranked_run, back_alone, pair_unserved}
 use Rattle.sa_promises.proofs.Plain.{before-demand}
 use Rattle.sa_promises.proofs.Calm.{prompt-calm, no-wants, no-shares}
-use Rattle.sa_promises.proofs.Right.{IsRight, RightAlong, over, ◌►◌, lawfully, breaks-then}
+use Rattle.sa_promises.proofs.Right.{IsRightAt, RightAlong, over, ◌►◌, lawfully, breaks-then}
 use Rattle.sa_promises.proofs.Unlocked.{AreFew, few-along}
 use Rattle.sa_promises.proofs.Seen.{is-calm}
 use Rattle.sa_promises.proofs.Steps.{up-to-order, with-order, frees, run-but-order, readies, takes_for_push, takes_for_pop, goes}
@@ -46,7 +46,7 @@ abbrev before : ℕ → Readings
 before n = after_events is_inside_or_urged racing start (take n racing_run)
 
 abbrev Right : ℕ → Event → Type 0
-Right n e = IsRight prio_threads racing (before n) e
+Right n e = IsRightAt prio_threads racing (before n) e
 
 few : (n : ℕ) → AreFew (before n).lives
 few n = few-along is_inside_or_urged racing start n racing_run refl (record { others = λ a high. refl })

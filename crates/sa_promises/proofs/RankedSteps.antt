@@ -1,10 +1,9 @@
 -- What is thread priorities' own: a thread that gives way, and a line that a user level asks for.
-use Rattle.std.proofs.Common.{◌≡◌, ℕ, ◌<◌, refl, sym, ◌∙◌, ap, arith, Some, None, List, [], ◌∷◌, map, true, false}
+use Rattle.std.proofs.Common.{◌≡◌, ℕ, refl, sym, ◌∙◌, ap, arith, Some, None, List, [], ◌∷◌, map, true, false}
 use Rattle.std.specs.Prelude.{Option, Bool, slice_index_or, nat_lt, is_some}
 use Rattle.std.specs.Option.{option_map}
-use Rattle.std.proofs.lemmas.Bool.{false≢true}
+use Rattle.std.proofs.lemmas.Bool.{false≢true, ltb-true}
 use Rattle.std.proofs.lemmas.Option.{same_Some}
-use Rattle.std.proofs.lemmas.Bool.Decides.{nat_tests}
 use Rattle.sa_base.specs.declared.number.ProcNo.{ProcNo}
 use Rattle.sa_base.specs.declared.number.SpaceNo.{SpaceNo}
 use Rattle.sa_base.specs.declared.number.ThreadNo.{ThreadNo}
@@ -27,7 +26,7 @@ use Rattle.sa_ranks.specs.Locks.{KeepsTheLockIf}
 use Rattle.sa_promises.specs.Packages.{Prio}
 use Rattle.sa_promises.proofs.Plain.{alone, before-turns}
 use Rattle.sa_promises.proofs.Calm.{prompt-calm}
-use Rattle.sa_promises.proofs.Right.{IsRight, ◌&◌}
+use Rattle.sa_promises.proofs.Right.{IsRightAt, ◌&◌}
 use Rattle.sa_promises.proofs.Seen.{Covers, SeemsCalm, is-calm}
 use Rattle.sa_promises.proofs.OwnRules.{Stand, stand, stands, standing, unbound, in-demand}
 use Rattle.sa_promises.proofs.Steps.{with-order}
@@ -41,7 +40,7 @@ pub gives_way : {w : WorkloadView} {r : Readings} {n : ℕ} {p : ProcNo} {s : Sp
     → Covers prio_threads w r (alone n p (Back s t)) → SeemsCalm prio_threads w r (alone n p (Back s t))
     → standing r p ≡ Some (stands s locks due hand thread)
     → AreSteps w n p (event_begun w (alone n p (Back s t)) r) (Back s t ∷ [])
-    → GivesWayIn w r (alone n p (Back s t)) → IsRight prio_threads w r (alone n p (Back s t))
+    → GivesWayIn w r (alone n p (Back s t)) → IsRightAt prio_threads w r (alone n p (Back s t))
 gives_way {w} {r} {n} {p} {s} {t} {thread} {locks} {due} {hand} covered seems is steps turn =
     let allowed = unbound w r (Back s t) (life_on r p) (stands s locks due hand thread) is (λ life same. refl) in
     with-order Prio (record {
@@ -96,9 +95,9 @@ before-line {w} {r} {n} {p} {q} last is =
     let after = after_event is_inside_or_urged w r (alone n p (Line q)) in
     record {
       number = ap (λ (y : SeenOfLine). y.4) is;
-      proc = below p.0 w.processors (test 1);
+      proc = ltb-true p.0 w.processors (test 1);
       some = λ no. cc;
-      opening = λ no. absurd (let later = below 0 n (test 0) in omega arith);
+      opening = λ no. absurd (let later = ltb-true 0 n (test 0) in omega arith);
     }
     & record { steps = (tt, tt) }
     & record { told = (tt, tt) }
@@ -108,6 +107,3 @@ before-line {w} {r} {n} {p} {q} last is =
     & record { blocks = (tt, tt) }
     & record { interrupt = λ raised. absurd (false≢true (ap is_some (sym line) ∙ raised)); calm = λ no. absurd no }
     & tt
-  where
-    below : (a b : ℕ) → nat_lt a b ≡ true → a < b
-    below a b is = grind (arith, nat_tests)

@@ -15,13 +15,13 @@ use Rattle.sa_histories.specs.Short.{at}
 use Rattle.sa_histories.proofs.Legality.{with-end, break-behind}
 use Rattle.sa_promises.specs.Examples.{stops_at}
 
-pub record IsRight (u : UserRules) (w : WorkloadView) (r : Readings) (e : Event) : Type 0 where
+pub record IsRightAt (u : UserRules) (w : WorkloadView) (r : Readings) (e : Event) : Type 0 where
   pub lawful : IsLawful u w r e
   pub goes_on : GoesOn (after_event u.inside w r e)
 
 pub data RightAlong (u : UserRules) (w : WorkloadView) : Readings → List Event → Type 0 where
   over : {r : Readings} → RightAlong u w r []
-  ◌►◌ : {r : Readings} {e : Event} {es : List Event} → IsRight u w r e → RightAlong u w (after_event u.inside w r e) es → RightAlong u w r (e ∷ es)
+  ◌►◌ : {r : Readings} {e : Event} {es : List Event} → IsRightAt u w r e → RightAlong u w (after_event u.inside w r e) es → RightAlong u w r (e ∷ es)
 
 infixr 20 ◌►◌
 -- one rule after another
@@ -35,7 +35,7 @@ goes-on r done rest = record { done = λ no. cc; stuck = λ no. let h = no.rest 
 
 pub lawfully : {u : UserRules} {w : WorkloadView} {r : Readings} {e : Event} → IsLawful u w r e
     → list_all are_done (after_event u.inside w r e).state.spaces ≡ false → list_all are_at_rest (after_event u.inside w r e).state.spaces ≡ false
-    → IsRight u w r e
+    → IsRightAt u w r e
 lawfully {u} {w} {r} {e} law done rest = record { lawful = law; goes_on = goes-on (after_event u.inside w r e) done rest }
 
 pub are-right : {u : UserRules} {w : WorkloadView} {r : Readings} {es : List Event} → RightAlong u w r es → AreRight u w r es

@@ -1,8 +1,8 @@
 -- What is seen at an event of one record in a calm moment.
-use Rattle.std.proofs.Common.{◌≡◌, ℕ, ◌≤◌, ◌<◌, sym, ap, arith, None, List, [], ◌∷◌, map, true, false}
+use Rattle.std.proofs.Common.{◌≡◌, ℕ, ◌≤◌, sym, ap, None, List, [], ◌∷◌, map, true, false}
 use Rattle.std.specs.Prelude.{Option, Bool, slice_index_or, nat_lt}
 use Rattle.std.specs.List.{list_all}
-use Rattle.std.proofs.lemmas.Bool.Decides.{nat_tests}
+use Rattle.std.proofs.lemmas.Bool.{ltb-true}
 use Rattle.sa_base.specs.declared.number.ProcNo.{ProcNo}
 use Rattle.sa_base.specs.declared.number.SpaceNo.{SpaceNo}
 use Rattle.sa_base.specs.declared.record.Note.{Note}
@@ -57,8 +57,8 @@ pub is-calm : {u : UserRules} {w : WorkloadView} {r : Readings} {n : ℕ} {p : P
 is-calm {u} {w} {r} {n} {p} {x} is covered steps =
     let test = λ (k : ℕ). ap (λ (y : Seen). slice_index_or y.6 k true) is in
     record {
-      later = below 0 n (test 2);
-      proc = below p.0 w.processors (test 3);
+      later = ltb-true 0 n (test 2);
+      proc = ltb-true p.0 w.processors (test 3);
       steps = steps;
       reads = (
         ap (λ (y : Seen). y.7) is,
@@ -71,6 +71,3 @@ is-calm {u} {w} {r} {n} {p} {x} is covered steps =
       );
       covered = covered;
     }
-  where
-    below : (a b : ℕ) → nat_lt a b ≡ true → a < b
-    below a b is = grind (arith, nat_tests)

@@ -15,7 +15,7 @@ use Rattle.sa_promises.specs.Packages.{Package, Fast, Prio, rules_of}
 use Rattle.sa_promises.specs.Examples.{smallest_run, smallest_trace}
 use Rattle.sa_promises.proofs.Calm.{prompt-calm, no-wants, one-share}
 use Rattle.sa_promises.proofs.Plain.{plain-lawful}
-use Rattle.sa_promises.proofs.Right.{IsRight, RightAlong, over, ◌►◌, lawfully, lawful-to}
+use Rattle.sa_promises.proofs.Right.{IsRightAt, RightAlong, over, ◌►◌, lawfully, lawful-to}
 use Rattle.sa_promises.proofs.Unlocked.{AreFew, few-along}
 use Rattle.sa_promises.proofs.OwnRules.{nothing-owed, in-demand, in-turn, all-locks, kept-by, in-locks, in-order}
 use Rattle.sa_promises.proofs.Steps.{TakesList, frees, run-but-order, with-order, takes_for_pop}
@@ -76,13 +76,13 @@ pub few : (which : Package) (g : List (List Instr)) (n : ℕ) → AreFew (before
 few which g n =
     few-along (rules_of which).inside (workload_of g) (opening_readings (workload_of g)) n smallest_run refl (record { others = λ a high. refl })
 
-right2 : (which : Package) (g : List (List Instr)) → IsRight (rules_of which) (workload_of g) (before which g 2) (at 2 (Take s0 p0 None ∷ []))
+right2 : (which : Package) (g : List (List Instr)) → IsRightAt (rules_of which) (workload_of g) (before which g 2) (at 2 (Take s0 p0 None ∷ []))
 right2 which g = takes_for_pop which one-share refl refl refl refl (takes0 which g) (record { few = few which g 2; zeroth = refl; first = refl }) refl
 
-right3 : (which : Package) (g : List (List Instr)) → IsRight (rules_of which) (workload_of g) (before which g 3) (at 3 (Run s0 t0 ∷ []))
+right3 : (which : Package) (g : List (List Instr)) → IsRightAt (rules_of which) (workload_of g) (before which g 3) (at 3 (Run s0 t0 ∷ []))
 right3 which g = with-order which (run-but-order which one-share refl refl ((refl, refl, refl), tt) refl refl) (in-order which _ _ _ refl refl)
 
-pub right4 : (which : Package) (g : List (List Instr)) → IsRight (rules_of which) (workload_of g) (before which g 4) (at 4 (Free s0 p0 (Some t0) ∷ []))
+pub right4 : (which : Package) (g : List (List Instr)) → IsRightAt (rules_of which) (workload_of g) (before which g 4) (at 4 (Free s0 p0 (Some t0) ∷ []))
 right4 which g = frees which one-share refl refl refl
 
 pub before-instruction : (which : Package) (g : List (List Instr)) → RightAlong (rules_of which) (workload_of g) (before which g 0) (take 5 smallest_run)

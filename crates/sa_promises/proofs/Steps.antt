@@ -26,7 +26,7 @@ use Rattle.sa_ranks.specs.Steps.{the_list}
 use Rattle.sa_ranks.specs.Locks.{TakesFor}
 use Rattle.sa_promises.specs.Packages.{Package, Fast, Prio, rules_of}
 use Rattle.sa_promises.proofs.Plain.{is_plain, alone, IsCalm, before-order, plain-lawful}
-use Rattle.sa_promises.proofs.Right.{IsRight, lawfully}
+use Rattle.sa_promises.proofs.Right.{IsRightAt, lawfully}
 use Rattle.sa_promises.proofs.Unlocked.{NoLock, is_of, is_held_by, none-locked, holds-none}
 use Rattle.sa_promises.proofs.Seen.{Seen, SeemsCalm, Covers, is-calm}
 use Rattle.sa_promises.proofs.OwnRules.{Stand, stand, stands, standing, taken, OwesNone, unbound, nothing-owed, in-demand, TurnOf, in-turn, KeepsBy, kept-by, in-locks, in-order}
@@ -45,7 +45,7 @@ pub up-to-order : {which : Package} {w : WorkloadView} {r : Readings} {n : ℕ} 
 up-to-order {which} {w} {r} {n} {p} {x} last step = before-order (rules_of which) w r n p x last step.plain step.calm step.demand step.turns step.locks
 
 pub with-order : (which : Package) {w : WorkloadView} {r : Readings} {n : ℕ} {p : ProcNo} {x : Record} → ButOrder which w r n p x
-    → (rules_of which).Order w r (alone n p x) → IsRight (rules_of which) w r (alone n p x)
+    → (rules_of which).Order w r (alone n p x) → IsRightAt (rules_of which) w r (alone n p x)
 with-order which {w} {r} {n} {p} {x} step order =
     lawfully (plain-lawful (rules_of which) w r n p x step.plain step.calm step.demand step.turns step.locks order)
     (ap (λ (y : Seen). slice_index_or y.6 0 true) step.seems) (ap (λ (y : Seen). slice_index_or y.6 1 true) step.seems)
@@ -55,7 +55,7 @@ pub frees : (which : Package) {w : WorkloadView} {r : Readings} {n : ℕ} {p : P
     {locks : List Lock} {due : List ThreadNo} {thread : Option ThreadNo}
     → Covers (rules_of which) w r (alone n p (Free s l t)) → SeemsCalm (rules_of which) w r (alone n p (Free s l t))
     → standing r p ≡ Some (stands s (taken l t push true own ∷ locks) due hand thread)
-    → TurnOf w r (alone n p (Free s l t)) → IsRight (rules_of which) w r (alone n p (Free s l t))
+    → TurnOf w r (alone n p (Free s l t)) → IsRightAt (rules_of which) w r (alone n p (Free s l t))
 frees which {w} {r} {n} {p} {s} {l} {t} {push} {own} {hand} {locks} {due} {thread} covered seems is turn =
     let y : Stand = stands s (taken l t push true own ∷ locks) due hand thread in
     let allowed = unbound w r (Free s l t) (life_on r p) y is (λ life same. refl) in
@@ -119,7 +119,7 @@ pub readies : (which : Package) {w : WorkloadView} {r : Readings} {n : ℕ} {p :
     → is_resident (event_begun w (alone n p (Ready s t)) r) s PACKAGE_PAGE ≡ true
     → counts (space_at r.state s) t ≡ true
     → NoLock (is_held_by t) r.lives
-    → TurnOf w r (alone n p (Ready s t)) → IsRight (rules_of which) w r (alone n p (Ready s t))
+    → TurnOf w r (alone n p (Ready s t)) → IsRightAt (rules_of which) w r (alone n p (Ready s t))
 readies which {w} {r} {n} {p} {s} {t} {l} {of} {own} {hand} {locks} {due} {thread} covered seems is steps page counted none turn =
     let y : Stand = stands s (taken l of true false own ∷ locks) (t ∷ due) hand thread in
     let begun = event_begun w (alone n p (Ready s t)) r in
@@ -159,7 +159,7 @@ pub takes_for_push : (which : Package) {w : WorkloadView} {r : Readings} {n : �
     → Covers (rules_of which) w r (alone n p (Take s l t)) → SeemsCalm (rules_of which) w r (alone n p (Take s l t))
     → standing r p ≡ Some (stands s [] due true t)
     → TakesList which w p l → NoLock (is_of l) r.lives
-    → TurnOf w r (alone n p (Take s l t)) → IsRight (rules_of which) w r (alone n p (Take s l t))
+    → TurnOf w r (alone n p (Take s l t)) → IsRightAt (rules_of which) w r (alone n p (Take s l t))
 takes_for_push which {w} {r} {n} {p} {s} {l} {t} {due} covered seems is list none turn =
     let allowed = unbound w r (Take s l t) (life_on r p) (stands s [] due true t) is (λ life same. ap (λ (z : Stand). not z.hand) same) in
     with-order which (record {
@@ -199,7 +199,7 @@ pub takes_for_pop : (which : Package) {w : WorkloadView} {r : Readings} {n : ℕ
     → standing r p ≡ Some (stands s [] due false None)
     → OwesNone w r s → has_ready r s l ≡ true
     → TakesList which w p l → NoLock (is_of l) r.lives
-    → TurnOf w r (alone n p (Take s l None)) → IsRight (rules_of which) w r (alone n p (Take s l None))
+    → TurnOf w r (alone n p (Take s l None)) → IsRightAt (rules_of which) w r (alone n p (Take s l None))
 takes_for_pop which {w} {r} {n} {p} {s} {l} {due} covered seems is owes some list none turn =
     let allowed = nothing-owed w r (Take s l None) (life_on r p) s due None is owes in
     with-order which (record {
@@ -256,7 +256,7 @@ pub goes : (which : Package) {w : WorkloadView} {r : Readings} {n : ℕ} {p : Pr
     → standing r p ≡ Some (stands s [] due false thread)
     → OwesNone w r s
     → AreSteps w n p (event_begun w (alone n p (Ins s t i)) r) (Ins s t i ∷ [])
-    → TurnOf w r (alone n p (Ins s t i)) → IsRight (rules_of which) w r (alone n p (Ins s t i))
+    → TurnOf w r (alone n p (Ins s t i)) → IsRightAt (rules_of which) w r (alone n p (Ins s t i))
 goes which {w} {r} {n} {p} {s} {t} {i} {due} {thread} covered seems is owes steps turn =
     let allowed = nothing-owed w r (Ins s t i) (life_on r p) s due thread is owes in
     with-order which (record {

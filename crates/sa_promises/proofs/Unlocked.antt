@@ -1,10 +1,9 @@
 -- Who has which lock where no more than two activation numbers are in use.
-use Rattle.std.proofs.Common.{◌≡◌, ℕ, zero, suc, ◌<◌, ◌≤◌, inl, inr, refl, sym, ◌∙◌, ap, subst, arith, Some, None, List, [], ◌∷◌, take, true, false}
+use Rattle.std.proofs.Common.{◌≡◌, ℕ, zero, suc, ◌≤◌, inl, inr, refl, sym, ◌∙◌, ap, subst, arith, Some, None, List, [], ◌∷◌, take, true, false}
 use Rattle.std.specs.Prelude.{Option, Bool, Contains, ◌==◌, if◌then◌else◌, nat_lt}
 use Rattle.std.specs.List.{list_all, list_any}
 use Rattle.std.specs.Option.{option_map}
-use Rattle.std.proofs.lemmas.Bool.{false≢true, cases_eq, or_parts, and_parts}
-use Rattle.std.proofs.lemmas.Bool.Decides.{nat_tests}
+use Rattle.std.proofs.lemmas.Bool.{false≢true, cases_eq, eq-eqb, ltb-true, or_parts, and_parts}
 use Rattle.sa_lemmas.specs.Function.{put}
 use Rattle.sa_lemmas.proofs.FunctionUpdates.{put-at, put-other}
 use Rattle.sa_lemmas.proofs.Membership.{contains-nil}
@@ -56,7 +55,7 @@ abbrev pub has_low_ups : Event → Bool
 has_low_ups e = list_all is_low_up e.records
 
 few-record : (w : WorkloadView) (p : ProcNo) (r : Readings) (x : Record) → is_low_up x ≡ true → AreFew r.lives → AreFew (lives_after w p r x)
-few-record w p r (Up s a) low few = few-put r.lives a.0 _ (λ high. absurd (let below : a.0 < 2 = grind (arith, nat_tests) in omega arith)) few
+few-record w p r (Up s a) low few = few-put r.lives a.0 _ (λ high. absurd (let below = ltb-true a.0 2 low in omega arith)) few
 few-record w p r (GiveBack a) low few = few-put r.lives a.0 None (λ high. refl) few
 few-record w p r (Told (note.Preempted a)) low few = few-handed r.upped a (r.lives a.0) r.lives few
 few-record w p r (Told (note.Unblocked a)) low few = few-handed r.upped a (r.lives a.0) r.lives few
@@ -131,10 +130,7 @@ is_of l lock = lock.list.0 == l.0
 pub none-locked : {r : Readings} {s : SpaceNo} {l : ProcNo} → NoLock (is_of l) r.lives → IsLocked r s l → ⊥
 none-locked {r} {s} {l} none locked =
     let fails = each-fails (is_of l) r.lives none locked.act.0 locked.life locked.has.lock locked.is locked.has.among in
-    false≢true (sym fails ∙ ap (λ (x : ProcNo). x.0 == l.0) locked.has.list ∙ itself l.0)
-  where
-    itself : (n : ℕ) → (n == n) ≡ true
-    itself n = grind (arith, nat_tests)
+    false≢true (sym fails ∙ ap (λ (x : ProcNo). x.0 == l.0) locked.has.list ∙ eq-eqb l.0 l.0 refl)
 
 -- and a thread holds no lock
 abbrev pub is_named : ThreadNo → Option ThreadNo → Bool
@@ -147,7 +143,4 @@ is_held_by t lock = is_named t lock.thread
 pub holds-none : {r : Readings} {s : SpaceNo} {t : ThreadNo} → NoLock (is_held_by t) r.lives → HoldsLock r s t → ⊥
 holds-none {r} {s} {t} none holds =
     let fails = each-fails (is_held_by t) r.lives none holds.act.0 holds.life holds.lock holds.is holds.among in
-    false≢true (sym fails ∙ ap (is_named t) holds.thread ∙ itself t.0)
-  where
-    itself : (n : ℕ) → (n == n) ≡ true
-    itself n = grind (arith, nat_tests)
+    false≢true (sym fails ∙ ap (is_named t) holds.thread ∙ eq-eqb t.0 t.0 refl)

@@ -18,7 +18,7 @@ use Rattle.sa_promises.specs.Examples.{smallest_run, stops_at, t1}
 use Rattle.sa_promises.specs.RankedExamples.{urging_programs, urging, urging_run, back_for_nothing, own_line, p1, other_list_taken, goes_on_outranked, lesser_taken}
 use Rattle.sa_promises.proofs.Plain.{before-demand, before-locks}
 use Rattle.sa_promises.proofs.Calm.{one-share}
-use Rattle.sa_promises.proofs.Right.{IsRight, RightAlong, over, ◌►◌, and-then, breaks-then}
+use Rattle.sa_promises.proofs.Right.{IsRightAt, RightAlong, over, ◌►◌, and-then, breaks-then}
 use Rattle.sa_promises.proofs.Unlocked.{AreFew, few-along}
 use Rattle.sa_promises.proofs.Smallest.{smallest_programs, before-instruction}
 use Rattle.sa_promises.proofs.Seen.{is-calm}
@@ -30,7 +30,7 @@ abbrev before : ℕ → Readings
 before n = after_events is_inside_or_urged urging (opening_readings urging) (take n urging_run)
 
 abbrev Right : ℕ → Event → Type 0
-Right n e = IsRight prio_threads urging (before n) e
+Right n e = IsRightAt prio_threads urging (before n) e
 
 few : (n : ℕ) → AreFew (before n).lives
 few n = few-along is_inside_or_urged urging (opening_readings urging) n urging_run refl (record { others = λ a high. refl })

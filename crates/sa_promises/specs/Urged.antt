@@ -19,32 +19,33 @@ use Rattle.sa_promises.specs.Along.{last_seen}
 use Rattle.sa_promises.specs.Moments.{is_first, machine_of}
 
 -- The line of a processor is raised from a line record of it until the next event of the processor begins.
-abbrev pub raise_said : ProcNo → List Item → Item → Option Bool
-raise_said q past x =
+abbrev pub line_said : ProcNo → List Item → Item → Option Bool
+line_said q past x =
     if line_in q x.what then Some true else if x.proc.0 == q.0 && is_first x.event past then Some false else None
 
 abbrev pub line_is_raised : List Item → ProcNo → Bool
-line_is_raised items q = last_seen (raise_said q) false items
+line_is_raised items q = last_seen (line_said q) false items
 
--- A processor has a pair of a space where the thread that runs there is of the space, its line is low, and a ready thread of
--- the space outranks that thread.
-abbrev pub outranks_it : SpaceState → SpaceNo → Bool → Option Runner → Bool
-outranks_it x s raised None = false
-outranks_it x s raised (Some runner) = runner.space.0 == s.0 && not raised && is_outranked x (rank_in x runner.thread)
+-- A processor is in a pair of a space if the thread that runs there is of the space, the processor's line is low, and a ready
+-- thread of the space outranks the running one.
+abbrev pub is_in_pair : SpaceState → SpaceNo → Bool → Option Runner → Bool
+is_in_pair x s raised None = false
+is_in_pair x s raised (Some runner) = runner.space.0 == s.0 && not raised && is_outranked x (rank_in x runner.thread)
 
-abbrev pub has_pair_on : WorkloadView → List Item → SpaceNo → ℕ → Bool
-has_pair_on w items s q =
-    outranks_it (space_at (machine_of w items) s) s (line_is_raised items (proc_no q)) (runner_on (machine_of w items) (proc_no q))
+abbrev pub is_paired_on : WorkloadView → List Item → SpaceNo → ℕ → Bool
+is_paired_on w items s q =
+    is_in_pair (space_at (machine_of w items) s) s (line_is_raised items (proc_no q)) (runner_on (machine_of w items) (proc_no q))
 
 abbrev pub has_pair_in : WorkloadView → List Item → SpaceNo → Bool
-has_pair_in w items s = is_some (least_below w.processors (has_pair_on w items s))
+has_pair_in w items s = is_some (least_below w.processors (is_paired_on w items s))
 
--- Pairs are asked for at an event's end; but where only its slice closes it, directly before its closing.
+-- The items up to the moment at which pairs are asked for: an event's end; but if only its slice closes it, the moment directly
+-- before its closing.
 abbrev pub asked_at : List Item → Event → List Item
 asked_at past e =
     past ++ items_at e.number e.proc (if has_entry e.records then e.records else own_part e.records)
 
--- FastThreads has none.
+-- By thread priorities a pair keeps a life in; by FastThreads' rules none does.
 abbrev pub is_urged : Package → WorkloadView → List Item → SpaceNo → Bool
 is_urged Fast w items s = false
 is_urged Prio w items s = has_pair_in w items s

@@ -154,8 +154,6 @@ bare-step w p st r (Told (note.Unblocked a)) rest agrees was law runs bare =
     let up = runs law.1 in
     bare-handed st r p a up.0 up.2 (took (st a.0)) (life_of r a) up.1 up.3
     (apart-told st a.0 up.0.0 up.2 was.0 p (Returned was.0) up.3 was.1 (λ e. cc)) refl bare
-bare-step w p st r (Told (note.Add q)) rest agrees was law runs bare = bare
-bare-step w p st r (Told (note.Blocked a)) rest agrees was law runs bare = bare
 bare-step w p st r (GiveBack a) rest agrees was law runs bare = λ n life at. elim (cases_eq n a.0) [
   | inl same ↦ absurd (none-some life (sym (put-at r.lives a.0 n None same) ∙ at))
   | inr apart ↦
@@ -278,8 +276,6 @@ popped-step w p r (Up s a) rest law popped = λ n life at. elim (cases_eq n a.0)
 ]
 popped-step w p r (Told (note.Preempted a)) rest law popped = popped-handed r a (life_of r a) refl popped
 popped-step w p r (Told (note.Unblocked a)) rest law popped = popped-handed r a (life_of r a) refl popped
-popped-step w p r (Told (note.Add q)) rest law popped = popped
-popped-step w p r (Told (note.Blocked a)) rest law popped = popped
 popped-step w p r (GiveBack a) rest law popped = λ n life at. elim (cases_eq n a.0) [
   | inl same ↦ absurd (none-some life (sym (put-at r.lives a.0 n None same) ∙ at))
   | inr apart ↦ popped n life (sym (put-other r.lives a.0 n None apart) ∙ at)
@@ -476,8 +472,6 @@ holds-step w p st r (Told (note.Unblocked a)) rest s t agrees was law known runs
     let space : space_of (r.lives a.0) ≡ Some told.0 = agrees.lives a ∙ ap space_in (agrees.returned told.0 a told.2) in
     holds-handed st r a up.0 s told.0 t (life_of r a) ⊥ up.1
     (apart-told st a.0 up.0.0 up.2 was.0 p (Returned was.0) up.3 was.1 (λ e. cc)) refl space told.1 holds
-holds-step w p st r (Told (note.Add q)) rest s t agrees was law known runs bare popped holds = inl holds
-holds-step w p st r (Told (note.Blocked a)) rest s t agrees was law known runs bare popped holds = inl holds
 holds-step w p st r (GiveBack a) rest s t agrees was law known runs bare popped holds = elim (cases_eq holds.act a.0) [
   | inl same ↦
       let none = bare holds.act holds.life holds.is (ap (λ n. is_taken (st n)) same ∙ ap is_taken was.1) in

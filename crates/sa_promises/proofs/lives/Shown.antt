@@ -90,8 +90,6 @@ running-shown w p st r (Told (note.Preempted a)) rest s q b shows was law within
     shows.running s q b (moved-on p q st s a b (took (st a.0)) (ap (λ y. proc_in (took y)) was.1) is)
 running-shown w p st r (Told (note.Unblocked a)) rest s q b shows was law within is =
     shows.running s q b (moved-on p q st s a b (took (st a.0)) (ap (λ y. proc_in (took y)) was.1) is)
-running-shown w p st r (Told (note.Add o)) rest s q b shows was law within is = shows.running s q b is
-running-shown w p st r (Told (note.Blocked a)) rest s q b shows was law within is = shows.running s q b is
 running-shown w p st r (GiveBack a) rest s q b shows was law within is = shows.running s q b (moved-on p q st s a b Nowhere refl is)
 running-shown w p st r x rest s q b shows was law within is = shows.running s q b is
 
@@ -146,8 +144,6 @@ blocked-shown w e p st r (Told (note.Preempted a)) s b shows was is =
     shows.blocked s b (blocked-on st s a b (took (st a.0)) (ap (λ y. is_blocked (took y)) was.1) is).1
 blocked-shown w e p st r (Told (note.Unblocked a)) s b shows was is =
     shows.blocked s b (blocked-on st s a b (took (st a.0)) (ap (λ y. is_blocked (took y)) was.1) is).1
-blocked-shown w e p st r (Told (note.Add o)) s b shows was is = shows.blocked s b is
-blocked-shown w e p st r (Told (note.Blocked a)) s b shows was is = shows.blocked s b is
 blocked-shown w e p st r (GiveBack a) s b shows was is = shows.blocked s b (blocked-on st s a b Nowhere refl is).1
 blocked-shown w e p st r x s b shows was is = shows.blocked s b is
 
@@ -194,8 +190,6 @@ stopped-shown w p st r x s b shows was within is = one x was is where
   one (Told (note.Unblocked a)) was' is' =
       stays-there (Told (note.Unblocked a)) (λ no_told. cc)
       (waits-on is_stopped st a b (took (st a.0)) (Stopped s) refl (ap (λ y. is_stopped (took y)) was'.1) is').1
-  one (Told (note.Add o)) was' is' = stays-there (Told (note.Add o)) (λ no_told. cc) is'
-  one (Told (note.Blocked a)) was' is' = stays-there (Told (note.Blocked a)) (λ no_told. cc) is'
   one (GiveBack a) was' is' = stays-there (GiveBack a) (λ no_told. cc) (waits-on is_stopped st a b Nowhere (Stopped s) refl refl is').1
   one y was' is' = stays-there y (λ no_told. cc) is'
 
@@ -223,8 +217,6 @@ returned-shown w p st r x s b shows was within is = one x was is where
   one (Told (note.Preempted a)) was' is' =
       stays-there (Told (note.Preempted a)) (λ no_told. cc)
       (waits-on is_returned st a b (took (st a.0)) (Returned s) refl (ap (λ y. is_returned (took y)) was'.1) is').1
-  one (Told (note.Add o)) was' is' = stays-there (Told (note.Add o)) (λ no_told. cc) is'
-  one (Told (note.Blocked a)) was' is' = stays-there (Told (note.Blocked a)) (λ no_told. cc) is'
   one (GiveBack a) was' is' = stays-there (GiveBack a) (λ no_told. cc) (waits-on is_returned st a b Nowhere (Returned s) refl refl is').1
   one y was' is' = stays-there y (λ no_told. cc) is'
 

@@ -256,7 +256,6 @@ stopped-step p st r x s b agrees was has = elim (untold-cases r x s (note.Preemp
     | inl same ↦ absurd (other (ap (λ c. Told (note.Preempted c)) (act-by_number a b (sym same))))
     | inr apart ↦ put-other st a.0 b.0 (took (st a.0)) apart ∙ is
   ]
-  stopped-old (Told (note.Unblocked a)) was' is other = stays p st (Told (note.Unblocked a)) b.0 (Stopped s) was' is (λ e. cc)
   stopped-old (Told (note.Add q)) was' is other = is
   stopped-old (Told (note.Blocked a)) was' is other = is
   stopped-old y was' is other = stays p st y b.0 (Stopped s) was' is (λ e. cc)
@@ -278,7 +277,6 @@ returned-step p st r x s b agrees was has = elim (untold-cases r x s (note.Unblo
     | inl same ↦ absurd (other (ap (λ c. Told (note.Unblocked c)) (act-by_number a b (sym same))))
     | inr apart ↦ put-other st a.0 b.0 (took (st a.0)) apart ∙ is
   ]
-  returned-old (Told (note.Preempted a)) was' is other = stays p st (Told (note.Preempted a)) b.0 (Returned s) was' is (λ e. cc)
   returned-old (Told (note.Add q)) was' is other = is
   returned-old (Told (note.Blocked a)) was' is other = is
   returned-old y was' is other = stays p st y b.0 (Returned s) was' is (λ e. cc)

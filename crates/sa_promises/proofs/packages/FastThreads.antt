@@ -1,5 +1,5 @@
 -- FastThreads meets what is needed of a user level.
-use Rattle.std.proofs.Common.{◌≡◌, ℕ, refl, sym, ◌∙◌, subst, Some, None, List, [], ◌∷◌, true, false}
+use Rattle.std.proofs.Common.{◌≡◌, ℕ, refl, sym, ◌∙◌, subst, Some, None, List, ◌∷◌, true, false}
 use Rattle.std.specs.Prelude.{Option, Bool, nat_lt}
 use Rattle.sa_base.specs.declared.number.ProcNo.{ProcNo}
 use Rattle.sa_base.specs.declared.number.SpaceNo.{SpaceNo}

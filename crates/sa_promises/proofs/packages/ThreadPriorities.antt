@@ -1,5 +1,5 @@
 -- The package with thread priorities meets what is needed of a user level.
-use Rattle.std.proofs.Common.{◌≡◌, ℕ, refl, sym, ◌∙◌, subst, Some, None, List, [], ◌∷◌, true, false}
+use Rattle.std.proofs.Common.{◌≡◌, ℕ, refl, sym, ◌∙◌, subst, Some, None, List, ◌∷◌, true, false}
 use Rattle.std.specs.Prelude.{Option, Bool, nat_lt}
 use Rattle.std.proofs.lemmas.Bool.{or_left}
 use Rattle.sa_base.specs.declared.number.ProcNo.{ProcNo}

@@ -201,8 +201,6 @@ taken-all-step past e p x all a home is stand =
           (was-said a b (life.Running p) life.Taken (stand_of past a) other st)
       one (Told (note.Preempted b)) at st = told-has past a b home (taken_in past home.space) at st (all a home at)
       one (Told (note.Unblocked b)) at st = told-has past a b home (taken_in past home.space) at st (all a home at)
-      one (Told (note.Add q)) at st = all a home at st
-      one (Told (note.Blocked b)) at st = all a home at st
       one (GiveBack b) at st =
           let other = not-said a b life.Unused life.Taken (stand_of past a) (λ e'. cc) st in
           let was = all a home at (was-said a b life.Unused life.Taken (stand_of past a) other st) in

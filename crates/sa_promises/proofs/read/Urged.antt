@@ -27,7 +27,7 @@ use Rattle.sa_histories.proofs.Walk.{item}
 use Rattle.sa_promises.specs.Packages.{Package, Fast, Prio, rules_of}
 use Rattle.sa_promises.specs.Words.{line_in}
 use Rattle.sa_promises.specs.Moments.{is_first, machine_by, machine_of, record_of_event}
-use Rattle.sa_promises.specs.Urged.{raise_said, line_is_raised, outranks_it, has_pair_on, has_pair_in, asked_at, is_urged}
+use Rattle.sa_promises.specs.Urged.{line_said, line_is_raised, is_in_pair, is_paired_on, has_pair_in, asked_at, is_urged}
 use Rattle.sa_promises.specs.Along.{says_on}
 use Rattle.sa_promises.proofs.words.Reads.{last-more, set-said}
 use Rattle.sa_promises.proofs.read.Along.{along-more}
@@ -71,7 +71,7 @@ raised-by : (past : List Item) (e : ℕ) (p q : ProcNo) (x : Record) (first : Bo
     ≡ line_is_raised (past ++ item e p x ∷ []) q
 raised-by past e p q x first is =
     ap (λ b. unwrap_or (if line_in q x then Some true else if p.0 == q.0 && b then Some false else None) (line_is_raised past q)) (sym is)
-    ∙ sym (along-more (says_on (raise_said q)) false past (item e p x))
+    ∙ sym (along-more (says_on (line_said q)) false past (item e p x))
 
 lines-first : (w : WorkloadView) (e : ℕ) (p : ProcNo) (past : List Item) (lines : List (Option ℕ)) (x : Record) → is_first e past ≡ true → LinesSaid w past lines
     → LinesSaid w (past ++ item e p x ∷ []) (lines_after e (slice_set lines p.0 None) x)
@@ -142,7 +142,7 @@ low-is None = refl
 low-is (Some e) = refl
 
 pair-is : (r : Readings) (s : SpaceNo) (q : ProcNo) (runner : Option Runner)
-    → is_some (outranked_by r s q runner) ≡ outranks_it (space_at r.state s) s (is_some (line_of r q)) runner
+    → is_some (outranked_by r s q runner) ≡ is_in_pair (space_at r.state s) s (is_some (line_of r q)) runner
 pair-is r s q None = refl
 pair-is r s q (Some runner) =
     let rank = rank_in (space_at r.state s) runner.thread in
@@ -151,10 +151,10 @@ pair-is r s q (Some runner) =
 
 pairs-same : (w : WorkloadView) (r : Readings) (s : SpaceNo) (items : List Item) → r.state ≡ machine_of w items → LinesSaid w items r.lines
     → has_pair w r s ≡ has_pair_in w items s
-pairs-same w r s items state said = ap is_some (least-same w.processors (is_pair_on r s) (has_pair_on w items s) (λ k below.
+pairs-same w r s items state said = ap is_some (least-same w.processors (is_pair_on r s) (is_paired_on w items s) (λ k below.
     pair-is r s (proc_no k) (runner_on r.state (proc_no k))
-    ∙ ap (λ (a : State). outranks_it (space_at a s) s (is_some (line_of r (proc_no k))) (runner_on a (proc_no k))) state
-    ∙ ap (λ b. outranks_it (space_at (machine_of w items) s) s b (runner_on (machine_of w items) (proc_no k))) (said.each (proc_no k) below)))
+    ∙ ap (λ (a : State). is_in_pair (space_at a s) s (is_some (line_of r (proc_no k))) (runner_on a (proc_no k))) state
+    ∙ ap (λ b. is_in_pair (space_at (machine_of w items) s) s b (runner_on (machine_of w items) (proc_no k))) (said.each (proc_no k) below)))
 
 -- What a package's test of which lives are in asks beyond FastThreads'.
 abbrev pub urges : Package → WorkloadView → Readings → SpaceNo → Bool

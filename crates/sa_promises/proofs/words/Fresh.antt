@@ -73,8 +73,6 @@ used-cases w p r (Free s l t) a used = inl (used-with without_lock (running_of r
 used-cases w p r (Up s b) a used = inl (used-put r.lives b a (new_life s p) used)
 used-cases w p r (Told (note.Preempted b)) a used = inl (used-handed r.upped b (life_of r b) r.lives a used)
 used-cases w p r (Told (note.Unblocked b)) a used = inl (used-handed r.upped b (life_of r b) r.lives a used)
-used-cases w p r (Told (note.Add q)) a used = inl used
-used-cases w p r (Told (note.Blocked b)) a used = inl used
 used-cases w p r (GiveBack b) a used = elim (cases_eq a.0 b.0) [
   | inl same ↦ inr (ap GiveBack (act-by_number b a (sym same)))
   | inr apart ↦ inl (ap is_some (put-other r.lives b.0 a.0 None apart) ∙ used)
