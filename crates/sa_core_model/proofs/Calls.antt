@@ -258,12 +258,11 @@ module _ {U C : Type 0} (f : Calls U C) (stands : Standing U C) (keep : Keeps f 
   pub handed-next : (e : ℕ) (m : Machine U C) (p : ProcNo) (s : SpaceNo) (note : Note) (notes : List Note) → Stands stands e m
       → (here : IsAt f stands keep m p s)
       → m.kernel.telling ≡ note ∷ notes → AreClaimed m.kernel s.0 → IsHanded (contexts_of m s.0) here.act.0 note (held_for m.kernel note)
-  handed-next e m p s (Add q) notes st here is claimed = refl
-  handed-next e m p s (Blocked b) notes st here is claimed = refl
   handed-next e m p s (Preempted b) notes st here is claimed =
       over-next e m p s b st here (next-kept s.0 (Preempted b) notes b.0 m.kernel is (grind (arith, nat_tests)) claimed)
   handed-next e m p s (Unblocked b) notes st here is claimed =
       over-next e m p s b st here (next-kept s.0 (Unblocked b) notes b.0 m.kernel is (grind (arith, nat_tests)) claimed)
+  handed-next e m p s _ notes st here is claimed = refl
 
   -- an upcall's context is about to be told these notices
   pub record Tells (w : WorkloadView) (e g : ℕ) (p : ProcNo) (s : SpaceNo) (notes : List Note) (m : Machine U C) : Type 0 where

@@ -11,7 +11,7 @@ use Rattle.sa_acts.specs.declared.acts.Act.{Act}
 use Rattle.sa_acts.specs.Table.{runs_in, holding}
 use Rattle.sa_assign.specs.Aims.{least_below, is_aim}
 use Rattle.sa_devices.specs.declared.kind.IoKind.{IoKind}
-use Rattle.sa_devices.specs.declared.kind.IoKind.TheVariants.{Plain, Page, Upcall}
+use Rattle.sa_devices.specs.declared.kind.IoKind.TheVariants.{Plain}
 use Rattle.sa_kernel_model.specs.State.{KernelState, Scene, owner_of, can_upcall}
 use Rattle.sa_kernel_model.specs.Parts.{fetch_page, leave, moved, upcall, go_to_by, raised}
 use Rattle.sa_kernel_model.specs.Closing.{spaces, want_one, want_for, wants, must_want, aims, interrupt, interrupt_one, interrupt_for, must_interrupt, has_low_line, closed}
@@ -69,8 +69,7 @@ module _ {C : Type 0} where
 
   same-over_for : (e : ℕ) (p : ProcNo) (kind : IoKind) (x : Scene C) → SameRuns x.state (over_for e p kind x).state
   same-over_for e p (Plain s a) x = record { lives = refl; acts = refl; telling = refl; demands = refl }
-  same-over_for e p (Page s a k) x = record { lives = refl; acts = refl; telling = refl; demands = refl }
-  same-over_for e p (Upcall s) x = record { lives = refl; acts = refl; telling = refl; demands = refl }
+  same-over_for e p _ x = record { lives = refl; acts = refl; telling = refl; demands = refl }
 
   pub same-over : (e : ℕ) (p : ProcNo) (io : IoNo) (kind : Option IoKind) (x : Scene C) → SameRuns x.state (over e p io kind x).state
   same-over e p io None x = record { lives = refl; acts = refl; telling = refl; demands = refl }

@@ -35,23 +35,21 @@ pub there-set : {A B : Type 0} (xs : List (Option A)) (ys : List (Option B)) (p 
     → ((q : ℕ) → is_some (get_or xs q None) ≡ is_some (get_or ys q None)) → (q : ℕ)
     → is_some (get_or (slice_set xs p x) q None) ≡ is_some (get_or (slice_set ys p y) q None)
 there-set [] [] p x y size same each q = refl
-there-set [] (b ∷ ys) p x y size same each q = absurd (omega (arith, size))
-there-set (a ∷ xs) [] p x y size same each q = absurd (omega (arith, size))
 there-set (a ∷ xs) (b ∷ ys) zero x y size same each zero = same
 there-set (a ∷ xs) (b ∷ ys) zero x y size same each (suc q) = each (suc q)
 there-set (a ∷ xs) (b ∷ ys) (suc p) x y size same each zero = each zero
 there-set (a ∷ xs) (b ∷ ys) (suc p) x y size same each (suc q) = there-set xs ys p x y (omega (arith, size)) same (λ r. each (suc r)) q
+there-set _ _ p x y size same each q = absurd (omega (arith, size))
 
 pub there-put : {A B : Type 0} (xs : List (Option A)) (ys : List (Option B)) (p : ℕ) (x : A) → length xs ≡ length ys → is_some (get_or ys p None) ≡ true
     → ((q : ℕ) → is_some (get_or xs q None) ≡ is_some (get_or ys q None)) → (q : ℕ)
     → is_some (get_or (slice_set xs p (Some x)) q None) ≡ is_some (get_or ys q None)
 there-put [] [] p x size here each q = refl
-there-put [] (b ∷ ys) p x size here each q = absurd (omega (arith, size))
-there-put (a ∷ xs) [] p x size here each q = absurd (omega (arith, size))
 there-put (a ∷ xs) (b ∷ ys) zero x size here each zero = sym here
 there-put (a ∷ xs) (b ∷ ys) zero x size here each (suc q) = each (suc q)
 there-put (a ∷ xs) (b ∷ ys) (suc p) x size here each zero = each zero
 there-put (a ∷ xs) (b ∷ ys) (suc p) x size here each (suc q) = there-put xs ys p x (omega (arith, size)) here (λ r. each (suc r)) q
+there-put _ _ p x size here each q = absurd (omega (arith, size))
 
 pub some-is : {A : Type 0} (o : Option A) → is_some o ≡ true → (x : A) × (o ≡ Some x)
 some-is None e = absurd cc

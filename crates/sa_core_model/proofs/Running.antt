@@ -43,10 +43,9 @@ module _ {C : Type 0} where
 
   pub running-put_other : (lives : List (Option ActNo)) (contexts : List (Option C)) (p n : ℕ) (c : Option C)
       → is_life n (get_or lives p None) ≡ false → running lives (slice_set contexts p c) n ≡ running lives contexts n
-  running-put_other [] contexts p n c old = refl
-  running-put_other (x ∷ lives) [] p n c old = refl
   running-put_other (x ∷ lives) (y ∷ contexts) zero n c old = rw old refl
   running-put_other (x ∷ lives) (y ∷ contexts) (suc p) n c old = ap (λ r. if is_life n x then y else r) (running-put_other lives contexts p n c old)
+  running-put_other _ _ p n c old = refl
 
   pub running-at : (lives : List (Option ActNo)) (contexts : List (Option C)) (p n : ℕ) → is_life n (get_or lives p None) ≡ true
       → ((q : ℕ) → is_life n (get_or lives q None) ≡ true → q ≡ p) → length contexts ≡ length lives → running lives contexts n ≡ get_or contexts p None
@@ -60,9 +59,8 @@ module _ {C : Type 0} where
 
   pub running-none : (lives : List (Option ActNo)) (contexts : List (Option C)) (n : ℕ) → ((q : ℕ) → is_life n (get_or lives q None) ≡ false)
       → running lives contexts n ≡ None
-  running-none [] contexts n none = refl
-  running-none (x ∷ lives) [] n none = refl
   running-none (x ∷ lives) (y ∷ contexts) n none = let f = none 0 in rw f (running-none lives contexts n (λ q. none (suc q)))
+  running-none _ _ n none = refl
 
   -- an activation of a space that runs
   abbrev pub RunsOn : List (Option SpaceNo) → List (Option ActNo) → (ℕ → Option (Act C)) → ℕ → ActNo → SpaceNo → Type 0

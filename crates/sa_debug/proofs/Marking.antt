@@ -15,8 +15,7 @@ second false y z h = refl
 
 third : (x y z : Bool) → z ≡ false → (x && y && z) ≡ false
 third true true z h = h
-third true false z h = refl
-third false y z h = refl
+third _ _ z h = refl
 
 -- two numbers of which one has its slot set and the other not
 apart : (slots : List Bool) (m n : ℕ) → slice_index_or slots (m % 64) false ≡ false → slice_index_or slots (n % 64) false ≡ true → (m == n) ≡ false
@@ -46,9 +45,8 @@ no_place threads places points now p i same slot marked unset =
 stays : (slots : List Bool) (i j : ℕ) → get_or slots j false ≡ true → get_or (set slots i true) j false ≡ true
 stays [] i j h = let bad : false ≡ true = h in cc
 stays (x ∷ xs) zero zero h = refl
-stays (x ∷ xs) zero (suc j) h = h
-stays (x ∷ xs) (suc i) zero h = h
 stays (x ∷ xs) (suc i) (suc j) h = stays xs i j h
+stays (x ∷ xs) _ _ h = h
 
 is_set : (slots : List Bool) (i j : ℕ) → i ≡ j → i < length slots → get_or (set slots i true) j false ≡ true
 is_set slots i j is within = ap (λ k. get_or (set slots i true) k false) (sym is) ∙ get_or-set_same slots i true false within

@@ -5,7 +5,7 @@ use Rattle.sa_spaces.specs.Space.{SpaceView}
 use Rattle.sa_links.specs.Lists.{list_at, count_in, count_in_all}
 use Rattle.sa_fast.specs.declared.shared.Shared.{Shared}
 use Rattle.sa_fast.specs.declared.instruction.Ran.{Ran}
-use Rattle.sa_fast.specs.declared.instruction.Ran.TheVariants.{Goes, Leaves, Blocks}
+use Rattle.sa_fast.specs.declared.instruction.Ran.TheVariants.{Leaves}
 use Rattle.sa_fast.specs.Work.{Work, with_name, work_of}
 use Rattle.sa_fast.specs.Instruction.{Outcome}
 use Rattle.sa_fast.specs.Rest.{one_if, one_of, threads_at_rest, empty_at, AreWorks, ArePartsFor, AgreesAt, not_carried}
@@ -20,9 +20,8 @@ pub record WorkStep (old new : Work) (lost gained : ℕ → ℕ) : Type 0 where
 
 -- the thread stays with its context, or is at rest after the instruction
 abbrev pub stays_with : Ran → ThreadNo → ℕ → ℕ
-stays_with Goes t u = one_if t.0 u
 stays_with Leaves t u = 0
-stays_with (Blocks length page) t u = one_if t.0 u
+stays_with _ t u = one_if t.0 u
 
 -- an instruction of thread t, whose context has the work list w
 pub record RunStep (def : SpaceView) (processors event : ℕ) (x : Shared) (w : Option ThreadNo) (t : ThreadNo) (o : Outcome) : Type 0 where

@@ -45,9 +45,8 @@ unmade_is Unmade e = refl
 unmade_is _ e = absurd (omega arith)
 
 stays_other : (a : Ran) (t : ThreadNo) (u : ℕ) → u ≢ t.0 → stays_with a t u ≡ 0
-stays_other Goes t u ne = one_other t.0 u (λ e. ne (sym e))
 stays_other Leaves t u ne = refl
-stays_other (Blocks length page) t u ne = one_other t.0 u (λ e. ne (sym e))
+stays_other _ t u ne = one_other t.0 u (λ e. ne (sym e))
 
 -- where the thread of the instruction is after it, by the answer
 abbrev IsPlaceFor : Shared → ThreadNo → Sync → KeptPlace → Ran → Type 0

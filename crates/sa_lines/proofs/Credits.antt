@@ -3,13 +3,13 @@ use Rattle.std.proofs.Common.{◌≡◌, ℕ, ◌-◌, ◌<◌, ◌≤◌, nat_l
 use Rattle.std.proofs.lemmas.Bool.Decides.{nat_tests}
 use Rattle.std.proofs.lemmas.List.{set-set}
 use Rattle.sa_base.specs.declared.limits.TheConstants.{MAX_EVENTS}
-use Rattle.sa_base.specs.declared.record.End.TheVariants.{AllDone, Stuck, Budget}
+use Rattle.sa_base.specs.declared.record.End.TheVariants.{AllDone}
 use Rattle.sa_lines.specs.declared.credit.Account.{Account}
 use Rattle.sa_lines.specs.declared.credit.Credit.{Credit}
 use Rattle.sa_lines.specs.declared.credit.Credit.TheVariants.{Turns, End as Ended}
 use Rattle.sa_lines.specs.declared.view.Lane.{Lane}
 use Rattle.sa_lines.specs.declared.view.View.{View}
-use Rattle.sa_lines.specs.declared.view.View.TheVariants.{Keeping, Polling, Spent}
+use Rattle.sa_lines.specs.declared.view.View.TheVariants.{Keeping}
 use Rattle.sa_lines.specs.Credit.{credited, MayCredit, number_of, end_of, credit_of}
 use Rattle.sa_lines.specs.Words.{lane_at, changed, lanes_of, IsKeeping}
 use Rattle.sa_lines.specs.Steps.{granted, cleared, on_lane}
@@ -24,14 +24,12 @@ turns_back false n e le = refl
 pub credit_back : (c : Credit) (a : Account) → MayCredit a c → credit_of (number_of c) ≡ c
 credit_back (Turns n) a may = turns_back (nat_lt MAX_EVENTS n) n refl (let room = may.1 in omega (arith, room))
 credit_back (Ended AllDone) a may = refl
-credit_back (Ended Stuck) a may = refl
-credit_back (Ended Budget) a may = refl
+credit_back _ a may = refl
 
 pub number_some : (c : Credit) (a : Account) → MayCredit a c → 0 < number_of c
 number_some (Turns n) a may = may.0
 number_some (Ended AllDone) a may = omega arith
-number_some (Ended Stuck) a may = omega arith
-number_some (Ended Budget) a may = omega arith
+number_some _ a may = omega arith
 
 room_for : (c : Credit) (a : Account) → MayCredit a c → a.count ≤ MAX_EVENTS → (credited c a).count ≤ MAX_EVENTS
 room_for (Turns n) a may le = may.1
@@ -66,8 +64,7 @@ credit_lanes lanes p c lt none_handed back =
 pub credit_view : (v : View) (p : ℕ) (c : Credit) → IsKeeping v → p < length (lanes_of v) → (lane_at (lanes_of v) p).handed ≡ None → credit_of (number_of c) ≡ c
     → on_lane p cleared (on_lane p (granted (number_of c)) v) ≡ on_lane p (credited_lane c) v
 credit_view (Keeping lanes split) p c k lt none_handed back = ap (λ (l : List Lane). Keeping l split) (credit_lanes lanes p c lt none_handed back)
-credit_view (Polling q own) p c k lt none_handed back = refl
-credit_view Spent p c k lt none_handed back = refl
+credit_view _ p c k lt none_handed back = refl
 
 -- the same, with the processor and the number as the code has them
 pub grants : (v : View) (lanes : List Lane) (p q n : ℕ) (c : Credit) → q ≡ p → n ≡ number_of c → lanes_of v ≡ lanes → IsKeeping v
@@ -89,5 +86,4 @@ credits v granted_one cleared_one lanes p q n c same is known k quiet lt may one
 
 pub lanes_on : (v : View) (p : ℕ) (change : Lane → Lane) → lanes_of (on_lane p change v) ≡ changed p change (lanes_of v)
 lanes_on (Keeping lanes split) p change = refl
-lanes_on (Polling q own) p change = refl
-lanes_on Spent p change = refl
+lanes_on _ p change = refl

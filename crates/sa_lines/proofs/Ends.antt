@@ -21,9 +21,8 @@ use Rattle.sa_lines.proofs.Steps.{lane_here, lane_else, length_changed, set_at}
 -- the making
 
 lane_fresh : (n q : ℕ) → lane_at (replicate n fresh_lane) q ≡ fresh_lane
-lane_fresh zero q = refl
-lane_fresh (suc n) zero = refl
 lane_fresh (suc n) (suc q) = lane_fresh n q
+lane_fresh _ _ = refl
 
 module _ (words : List ℕ) (n : ℕ) (size : length words ≡ 2 * n) (zeros : (i : ℕ) → slice_index words i ≡ 0) where
   fresh_agree : (p : ℕ) → AgreeAt words p fresh_lane fresh_polled
@@ -242,18 +241,16 @@ joins_there id other lanes n p own inside =
 
 pub joins : {S : Type 0} (id other : ℕ) (v w : View) (p : ℕ) → IsKeeping v → IsPollerOf w p → p < length (lanes_of v)
     → Joins {S = S} Holds id v other w (joined_view v w) spent_view
-joins id other (Polling q own) w p k l lt = absurd k
-joins id other Spent w p k l lt = absurd k
 joins id other (Keeping lanes n) (Keeping others m) p k l lt = absurd l
 joins id other (Keeping lanes n) Spent p k l lt = absurd l
 joins id other (Keeping lanes n) (Polling q own) p k l lt = joins_there id other lanes n q own (subst (λ z. z < length lanes) (sym l) lt)
+joins id other _ w p k l lt = absurd k
 
 -- the close
 
 known : (v : View) (p : ℕ) (b : Polled) → IsKeeping v → (lane_at (lanes_of v) p).joined ≡ Some b → Knows v p b
 known (Keeping lanes n) p b k e = inr e
-known (Polling q own) p b k e = absurd k
-known Spent p b k e = absurd k
+known _ p b k e = absurd k
 
 settles : (words : List ℕ) (p : ℕ) (l : Lane) (o : Option Polled) → l.handed ≡ None → ((b : Polled) → o ≡ Some b → AgreeAt words p l b)
     → MatchOption o (Unit {0}) (λ b. (b.account ≡ l.account) × All (IsLineOf l.raised) b.read)

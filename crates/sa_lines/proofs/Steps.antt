@@ -16,7 +16,7 @@ use Rattle.sa_base.specs.declared.limits.TheConstants.{MAX_EVENTS}
 use Rattle.sa_lines.specs.declared.view.Lane.{Lane}
 use Rattle.sa_lines.specs.declared.view.Polled.{Polled}
 use Rattle.sa_lines.specs.declared.view.View.{View}
-use Rattle.sa_lines.specs.declared.view.View.TheVariants.{Keeping, Polling, Spent}
+use Rattle.sa_lines.specs.declared.view.View.TheVariants.{Keeping, Polling}
 use Rattle.sa_lines.specs.Credit.{applied}
 use Rattle.sa_lines.specs.Words.{line_word, credit_word, proc_of, lane_at, changed, fresh_lane, Agree, AgreeAt, IsKeeping, lanes_of, Knows, FitsWords, Holds}
 use Rattle.sa_lines.specs.Steps.{raised, lowered, granted, cleared, polled, taken, on_lane, on_poller, Becomes, Raises, Lowers, Polls, Grants, Takes, Clears}
@@ -33,19 +33,9 @@ proc_credit p = grind arith
 -- lanes when one is changed
 pub same_field : {B : Type 0} (g : Lane → B) (change : Lane → Lane) → ((l : Lane) → g (change l) ≡ g l) → (lanes : List Lane) (p q : ℕ)
     → g (lane_at (changed p change lanes) q) ≡ g (lane_at lanes q)
-same_field g change keep [] p q = refl
 same_field g change keep (l ∷ lanes) zero zero = keep l
-same_field g change keep (l ∷ lanes) zero (suc q) = refl
-same_field g change keep (l ∷ lanes) (suc p) zero = refl
 same_field g change keep (l ∷ lanes) (suc p) (suc q) = same_field g change keep lanes p q
-
-pub all_changed : (P : Lane → Type 0) (change : Lane → Lane) (lanes : List Lane) (p q : ℕ) → ((i : ℕ) → P (lane_at lanes i)) → P (change (lane_at lanes p))
-    → P (lane_at (changed p change lanes) q)
-all_changed P change [] p q all now = all q
-all_changed P change (l ∷ lanes) zero zero all now = now
-all_changed P change (l ∷ lanes) zero (suc q) all now = all (suc q)
-all_changed P change (l ∷ lanes) (suc p) zero all now = all zero
-all_changed P change (l ∷ lanes) (suc p) (suc q) all now = all_changed P change lanes p q (λ i. all (suc i)) now
+same_field g change keep _ _ _ = refl
 
 pub lane_here : (p : ℕ) (change : Lane → Lane) (lanes : List Lane) → p < length lanes → lane_at (changed p change lanes) p ≡ change (lane_at lanes p)
 lane_here p change lanes lt = get_or-set_same lanes p (change (lane_at lanes p)) fresh_lane lt
@@ -227,8 +217,6 @@ module _ {S : Type 0} (slots id : ℕ) (held : List (ℕ × S)) where
 
   raise_keeps : (v : View) (p e : ℕ) → IsKeeping v
       → Allows Holds slots id (v, held) (line_word p) (λ _. e + 1) (λ _. Raises (step slots (line_word p) (e + 1) 0 none) (v, held) (e + 1))
-  raise_keeps (Polling q own) p e k = absurd k
-  raise_keeps Spent p e k = absurd k
   raise_keeps (Keeping lanes split) p e k = λ s h len is fits. (
     on_lane p (raised e) (Keeping lanes split),
     keeps,
@@ -239,11 +227,10 @@ module _ {S : Type 0} (slots id : ℕ) (held : List (ℕ × S)) where
     ap (λ (z : ℕ). (on_lane p (raised z) (Keeping lanes split), held)) (sym (one_less e))
         ∙ becomes_at (raised (e + 1 - 1)) (Keeping lanes split) p (proc_of (line_word p)) (proc_line p),
   )
+  raise_keeps _ p e k = absurd k
 
   lower_keeps : (v : View) (p : ℕ) → IsKeeping v
       → Allows Holds slots id (v, held) (line_word p) (λ _. 0) (λ _. Lowers (step slots (line_word p) 0 0 none) (v, held) 0)
-  lower_keeps (Polling q own) p k = absurd k
-  lower_keeps Spent p k = absurd k
   lower_keeps (Keeping lanes split) p k = λ s h len is fits. (
     on_lane p lowered (Keeping lanes split),
     keeps,
@@ -253,11 +240,10 @@ module _ {S : Type 0} (slots id : ℕ) (held : List (ℕ × S)) where
         (agree_lowered (slice_index s.words (line_word p)) (slice_index s.words (credit_word p)) (lane_at lanes p) b a)),
     becomes_at lowered (Keeping lanes split) p (proc_of (line_word p)) (proc_line p),
   )
+  lower_keeps _ p k = absurd k
 
   grant_keeps : (v : View) (p n : ℕ) → MayGrant p n v
       → Allows Holds slots id (v, held) (credit_word p) (λ _. n) (λ _. Grants (step slots (credit_word p) n 0 none) (v, held) n)
-  grant_keeps (Polling q own) p n may = absurd may.keeping
-  grant_keeps Spent p n may = absurd may.keeping
   grant_keeps (Keeping lanes split) p n may = λ s h len is fits. (
     on_lane p (granted n) (Keeping lanes split),
     keeps,
@@ -267,6 +253,7 @@ module _ {S : Type 0} (slots id : ℕ) (held : List (ℕ × S)) where
         (agree_granted (slice_index s.words (line_word p)) (slice_index s.words (credit_word p)) n (lane_at lanes p) b may.some may.none_handed may.room a)),
     becomes_at (granted n) (Keeping lanes split) p (proc_of (credit_word p)) (proc_credit p),
   )
+  grant_keeps _ p n may = absurd may.keeping
 
   -- a word is as it was
   same_word : (words : List ℕ) (place p : ℕ) (l : Lane) (b : Polled) → AgreeAt words p l b → AgreeAt (slice_set words place (slice_index words place)) p l b
@@ -305,9 +292,8 @@ module _ {S : Type 0} (slots id : ℕ) (held : List (ℕ × S)) where
 
   clear_keeps : (v : View) (p : ℕ) → IsKeeping v
       → Allows Holds slots id (v, held) (credit_word p) (λ n. n) (Clears (step slots (credit_word p) 0 0 none) (v, held))
-  clear_keeps (Polling q own) p k = absurd k
-  clear_keeps Spent p k = absurd k
   clear_keeps (Keeping lanes split) p k = λ s h len is fits. clear_goes lanes split p s h is (slice_index s.words (credit_word p) == 0) refl
+  clear_keeps _ p k = absurd k
 
   poll_own : (q : ProcNo) (own : Polled)
       → Allows Holds slots id (Polling q own, held) (line_word q.0) (λ n. n) (Polls (step slots (line_word q.0) 0 0 none) (Polling q own, held))
@@ -323,11 +309,10 @@ module _ {S : Type 0} (slots id : ℕ) (held : List (ℕ × S)) where
 
   poll_keeps : (v : View) (p : ℕ) → IsPollerOf v p
       → Allows Holds slots id (v, held) (line_word p) (λ n. n) (Polls (step slots (line_word p) 0 0 none) (v, held))
-  poll_keeps (Keeping lanes split) p k = absurd k
-  poll_keeps Spent p k = absurd k
   poll_keeps (Polling q own) p k =
       subst (λ z. Allows Holds slots id (Polling q own, held) (line_word z) (λ n. n) (Polls (step slots (line_word z) 0 0 none) (Polling q own, held))) k
       (poll_own q own)
+  poll_keeps _ p k = absurd k
 
   -- the number that is taken leaves room in the account
   room_after : (q : ProcNo) (own : Polled) (n : ℕ) → 0 < n → (s : State S View) → Holds s → get_elem? s.views id ≡ some (Polling q own)
@@ -367,12 +352,11 @@ module _ {S : Type 0} (slots id : ℕ) (held : List (ℕ × S)) where
 
   take_keeps : (v : View) (p n : ℕ) → IsPollerOf v p → 0 < n
       → Allows Holds slots id (v, held) (credit_word p) (λ m. either (m == n) 0 m) (Takes (step slots (credit_word p) n 0 none) (v, held))
-  take_keeps (Keeping lanes split) p n k pos = absurd k
-  take_keeps Spent p n k pos = absurd k
   take_keeps (Polling q own) p n k pos =
       subst (λ z. Allows Holds slots id (Polling q own, held) (credit_word z) (λ m. either (m == n) 0 m)
       (Takes (step slots (credit_word z) n 0 none) (Polling q own, held))) k
       (λ s h len is fits. take_goes q own n pos s h is (slice_index s.words (credit_word q.0) == n) refl)
+  take_keeps _ p n k pos = absurd k
 
   -- the same, with the place of the word as the code gives it
   pub raise_allows : (v : View) (p e i : ℕ) → i ≡ line_word p → IsKeeping v

@@ -47,9 +47,8 @@ abbrev zeros : ℕ → List ℕ
 zeros n = replicate n 0
 
 zero-at : (n p : ℕ) → count_at (zeros n) p ≡ 0
-zero-at zero p = refl
-zero-at (suc n) zero = refl
 zero-at (suc n) (suc p) = zero-at n p
+zero-at _ _ = refl
 
 length-zeros : (n : ℕ) → length (zeros n) ≡ n
 length-zeros zero = refl

@@ -37,9 +37,8 @@ module _ {U C : Type 0} where
   }
 
   says-called_by : (call : U → C → U × C) (p : ProcNo) (s : SpaceNo) (u : Option U) (c : Option C) (m : Machine U C) → Says m (called_by call p s u c m)
-  says-called_by call p s None c m = says-self m
-  says-called_by call p s (Some u) None m = says-self m
   says-called_by call p s (Some u) (Some c) m = record { event = refl; tells = tells-same m.event (scene_of m) _ refl refl }
+  says-called_by call p s _ _ m = says-self m
 
   says-sliced_if : (p : ProcNo) (b : Bool) (m : Machine U C) → Says m (sliced_if p b m)
   says-sliced_if p false m = says-self m
@@ -124,9 +123,8 @@ module _ {U C : Type 0} (f : Calls U C) where
   says-asked p a (InterruptOwn q) m = says-hinted p a (InterruptOwnEntry q) m
 
   says-stepped_by : (p : ProcNo) (s : SpaceNo) (seen : Seen) (u : Option U) (c : Option C) (m : Machine U C) → Says m (stepped_by f p s seen u c m).0
-  says-stepped_by p s seen None c m = says-self m
-  says-stepped_by p s seen (Some u) None m = says-self m
   says-stepped_by p s seen (Some u) (Some c) m = record { event = refl; tells = tells-more m.event (scene_of m) _ _ refl refl }
+  says-stepped_by p s seen _ _ m = says-self m
 
   says-turned_owned : (p : ProcNo) (a : ActNo) (o : Option SpaceNo) (m : Machine U C) → Says m (turned_owned f p a o m)
   says-turned_owned p a None m = says-again m (ticked p m) _ (says-ticked p m) (says-sliced p (ticked p m))
@@ -152,9 +150,8 @@ module _ {U C : Type 0} (f : Calls U C) where
       (h.event, tells-again n.event (scene_of m) (scene_of n) _ (tells-same n.event (scene_of m) (scene_of n) refl refl) h.tells)
 
   says-gone_by : (p : ProcNo) (s : SpaceNo) (seen : Seen) (n : ℕ) (u : Option U) (c : Option C) (m : Machine U C) → Says m (gone_by f p s seen n u c m)
-  says-gone_by p s seen n None c m = says-self m
-  says-gone_by p s seen n (Some u) None m = says-self m
   says-gone_by p s seen n (Some u) (Some c) m = record { event = refl; tells = tells-more m.event (scene_of m) _ _ refl refl }
+  says-gone_by p s seen n _ _ m = says-self m
 
   says-gone_in : (p : ProcNo) (n : ℕ) (o : Option SpaceNo) (m : Machine U C) → Says m (gone_in f p n o m)
   says-gone_in p n None m = says-self m

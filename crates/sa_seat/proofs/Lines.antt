@@ -11,7 +11,7 @@ use Rattle.sa_base.specs.declared.number.IoNo.{IoNo}
 use Rattle.sa_base.specs.declared.context.Stopped.{Stopped}
 use Rattle.sa_base.specs.declared.record.Item.{Item}
 use Rattle.sa_base.specs.declared.record.Note.{Note}
-use Rattle.sa_base.specs.declared.record.Note.TheVariants.{Add, Preempted, Blocked, Unblocked}
+use Rattle.sa_base.specs.declared.record.Note.TheVariants.{Preempted, Unblocked}
 use Rattle.sa_base.specs.declared.record.Record.{Record}
 use Rattle.sa_base.specs.declared.record.Record.TheVariants.{Line, Aim, Move, Up, Told}
 use Rattle.sa_base.specs.Items.{items_at}
@@ -22,7 +22,7 @@ use Rattle.sa_assign.specs.Reaim.{proc_no, line_at, raised, lines_with, lines_af
 use Rattle.sa_devices.specs.Ios.{without}
 use Rattle.sa_devices.specs.Pages.{completed}
 use Rattle.sa_devices.specs.declared.kind.IoKind.{IoKind}
-use Rattle.sa_devices.specs.declared.kind.IoKind.TheVariants.{Plain, Page, Upcall}
+use Rattle.sa_devices.specs.declared.kind.IoKind.TheVariants.{Plain}
 use Rattle.sa_kernel_model.specs.declared.entry.Entry.{Entry}
 use Rattle.sa_kernel_model.specs.declared.entry.Entry.TheVariants.{Interrupt, Block as BlockEntry, Complete, More as MoreEntry, Idle as IdleEntry, GiveBack as GiveBackEntry, InterruptOwn as InterruptOwnEntry}
 use Rattle.sa_kernel_model.specs.State.{KernelState, Scene, owner_of, aim_of, life_of, can_upcall, is_fetching, untold_of}
@@ -35,11 +35,9 @@ use Rattle.sa_seat.specs.Chain.{line_item, HasLine}
 
 -- a line after a write to the lines
 set-cases : (ls : List (Option ℕ)) (i q : ℕ) (v : Option ℕ) → ((q ≡ i) × (line_at (slice_set ls i v) q ≡ v)) ⊎ (line_at (slice_set ls i v) q ≡ line_at ls q)
-set-cases [] i q v = inr refl
 set-cases (x ∷ xs) zero zero v = inl (refl, refl)
-set-cases (x ∷ xs) zero (suc q) v = inr refl
-set-cases (x ∷ xs) (suc i) zero v = inr refl
 set-cases (x ∷ xs) (suc i) (suc q) v = elim (set-cases xs i q v) [ inl h ↦ inl (ap suc h.0, h.1) | inr h ↦ inr h ]
+set-cases _ _ _ v = inr refl
 
 -- the records of raised lines among those of changed aims
 
@@ -205,10 +203,8 @@ module _ {C : Type 0} where
   tells-go_to_aim e p a (Some s) x = tells-go_to_by e p s a (is_aim s.0 (owner_of x.state p)) (can_upcall x.state s) x
 
   tells-stopped : (e : ℕ) (p : ProcNo) (o : Option SpaceNo) (l : Option ActNo) (h : Option (Stopped C)) (x : Scene C) → Tells e x (stopped e p o l h x)
-  tells-stopped e p None l h x = tells-same e x x refl refl
-  tells-stopped e p (Some s) None h x = tells-same e x x refl refl
-  tells-stopped e p (Some s) (Some a) None x = tells-same e x x refl refl
   tells-stopped e p (Some s) (Some a) (Some held) x = tells-more e x _ _ refl refl
+  tells-stopped e p _ _ _ x = tells-same e x x refl refl
 
   tells-interrupted : (e : ℕ) (p : ProcNo) (a : ActNo) (h : Option (Stopped C)) (x : Scene C) → Tells e x (interrupted e p a h x)
   tells-interrupted e p a h x =
@@ -224,17 +220,15 @@ module _ {C : Type 0} where
 
   tells-blocked_by : (e : ℕ) (p : ProcNo) (fresh : ActNo) (o : Option SpaceNo) (l : Option ActNo) (held : Stopped C) (len : ℕ) (page : Option ℕ) (x : Scene C)
       → Tells e x (blocked_by e p fresh o l held len page x)
-  tells-blocked_by e p fresh None l held len page x = tells-same e x x refl refl
-  tells-blocked_by e p fresh (Some s) None held len page x = tells-same e x x refl refl
   tells-blocked_by e p fresh (Some s) (Some a) held len page x =
       let y = block_begun e p s a held len page x in
       tells-again e x y (told_or_left e p s fresh (can_upcall x.state s) y) (tells-more e x y _ refl refl)
       (tells-told_or_left e p s fresh (can_upcall x.state s) y)
+  tells-blocked_by e p fresh _ _ held len page x = tells-same e x x refl refl
 
   tells-over_for : (e : ℕ) (p : ProcNo) (kind : IoKind) (x : Scene C) → Tells e x (over_for e p kind x)
   tells-over_for e p (Plain s a) x = tells-more e x _ _ refl refl
-  tells-over_for e p (Page s a k) x = tells-more e x _ _ refl refl
-  tells-over_for e p (Upcall s) x = tells-more e x _ _ refl refl
+  tells-over_for e p _ x = tells-more e x _ _ refl refl
 
   tells-over : (e : ℕ) (p : ProcNo) (io : IoNo) (kind : Option IoKind) (x : Scene C) → Tells e x (over e p io kind x)
   tells-over e p io None x = tells-same e x x refl refl
@@ -270,8 +264,6 @@ module _ {C : Type 0} where
   -- a context fetches what it is told
 
   tells-fetched : (e : ℕ) (note : Note) (k : KernelState C) → (fetched note k).assign ≡ k.assign
-  tells-fetched e (Add p) k = refl
-  tells-fetched e (Blocked a) k = refl
   tells-fetched e (Preempted a) k = by (held_of (k.acts a.0)) where
     by : (h : Option (Stopped C)) → (handed_by h a k).assign ≡ k.assign
     by None = refl
@@ -280,6 +272,7 @@ module _ {C : Type 0} where
     by : (h : Option (Stopped C)) → (handed_by h a k).assign ≡ k.assign
     by None = refl
     by (Some held) = refl
+  tells-fetched e _ k = refl
 
   pub same-fetched : (note : Note) (k : KernelState C) → (fetched note k).assign ≡ k.assign
   same-fetched note k = tells-fetched 0 note k

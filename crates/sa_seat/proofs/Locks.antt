@@ -58,9 +58,8 @@ module _ {U C : Type 0} (f : Calls U C) (stands : Standing U C) (keep : Keeps f 
   no-line w p = all-same w.processors p None
 
   fresh-at : (n p : ℕ) → lane_at (replicate n fresh_lane) p ≡ fresh_lane
-  fresh-at zero p = refl
-  fresh-at (suc n) zero = refl
   fresh-at (suc n) (suc p) = fresh-at n p
+  fresh-at _ _ = refl
 
   pub follows-opening : (w : WorkloadView) (table : TableId) (budget places : ℕ) (m : Machine U C) → IsWorkload w → m ≡ opening f w → budget ≤ MAX_EVENTS
       → MayFollow m (replicate places None) (fresh_keeper table w.processors)

@@ -10,7 +10,7 @@ use Rattle.sa_base.specs.declared.record.Item.{Item}
 use Rattle.sa_text.proofs.Spelling.{decimal-is_spelling}
 use Rattle.sa_trace.specs.declared.field.Field.{Field}
 use Rattle.sa_trace.specs.declared.kind.Kind.{Kind}
-use Rattle.sa_trace.specs.declared.kind.Kind.TheVariants.{Ins, Out, Run, Stop, Block, Unblock, Cont, Back, Ready, Take, Free, Up, ToldAdd, ToldPreempted, ToldBlocked, ToldUnblocked, Move, Want, Aim, Line, Fetch, Fetched, GiveBack, Idle, Spin, Tick}
+use Rattle.sa_trace.specs.declared.kind.Kind.TheVariants.{Ins}
 use Rattle.sa_trace.specs.Field.{range_of, AllFit}
 use Rattle.sa_trace.specs.Kind.{form_of}
 use Rattle.sa_trace.specs.Parts.{parts_of}
@@ -50,31 +50,7 @@ plain-fields (f ∷ fields) (Some n ∷ vs) h =
 
 plain-word : (kind : Kind) → is_plain (form_of kind).word ≡ true
 plain-word Ins = refl
-plain-word Out = refl
-plain-word Run = refl
-plain-word Stop = refl
-plain-word Block = refl
-plain-word Unblock = refl
-plain-word Cont = refl
-plain-word Back = refl
-plain-word Ready = refl
-plain-word Take = refl
-plain-word Free = refl
-plain-word Up = refl
-plain-word ToldAdd = refl
-plain-word ToldPreempted = refl
-plain-word ToldBlocked = refl
-plain-word ToldUnblocked = refl
-plain-word Move = refl
-plain-word Want = refl
-plain-word Aim = refl
-plain-word Line = refl
-plain-word Fetch = refl
-plain-word Fetched = refl
-plain-word GiveBack = refl
-plain-word Idle = refl
-plain-word Spin = refl
-plain-word Tick = refl
+plain-word _ = refl
 
 pub plain-line : (i : Item) → FitsItem i → is_plain (line_of i) ≡ true
 plain-line i fits =

@@ -176,19 +176,13 @@ module _ (p : ProcNo) (f c : Level) (Q : State → Type 0)
 -- SAME. What shows the same.
 space-joins : (a b d : Option SpaceNo) → same_space a b ≡ true → same_space b d ≡ true → same_space a d ≡ true
 space-joins None None None h g = refl
-space-joins None None (Some u) h g = absurd (cc)
-space-joins None (Some s) d h g = absurd (cc)
-space-joins (Some s) None d h g = absurd (cc)
-space-joins (Some s) (Some u) None h g = absurd (cc)
 space-joins (Some s) (Some u) (Some v) h g = eq-eqb s.0 v.0 (eqb-true s.0 u.0 h ∙ eqb-true u.0 v.0 g)
+space-joins _ _ _ h g = absurd (cc)
 
 act-joins : (a b d : Option ActNo) → same_act a b ≡ true → same_act b d ≡ true → same_act a d ≡ true
 act-joins None None None h g = refl
-act-joins None None (Some u) h g = absurd (cc)
-act-joins None (Some s) d h g = absurd (cc)
-act-joins (Some s) None d h g = absurd (cc)
-act-joins (Some s) (Some u) None h g = absurd (cc)
 act-joins (Some s) (Some u) (Some v) h g = eq-eqb s.0 v.0 (eqb-true s.0 u.0 h ∙ eqb-true u.0 v.0 g)
+act-joins _ _ _ h g = absurd (cc)
 
 space-itself : (a : Option SpaceNo) → same_space a a ≡ true
 space-itself None = refl

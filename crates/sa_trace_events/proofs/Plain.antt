@@ -40,10 +40,8 @@ plain-append : (xs ys : List ℕ) → is_plain xs ≡ true → is_plain ys ≡ t
 plain-append xs ys p q = list_all-append is_plain_byte xs ys ∙ and_from (is_plain xs) (is_plain ys) p q
 
 or-third : (a b c d : Bool) → c ≡ true → (((a || b) || c) || d) ≡ true
-or-third true b c d h = refl
-or-third false true c d h = refl
-or-third false false true d h = refl
 or-third false false false d h = absurd (cc)
+or-third _ _ _ d h = refl
 
 plain-digit : (b : ℕ) → 48 ≤ b → b ≤ 57 → is_plain_byte b ≡ true
 plain-digit b low high =
@@ -69,31 +67,7 @@ plain-fields (f ∷ fields) (Some n ∷ vs) h =
 
 plain-word : (k : Kind) → is_plain (form_of k).word ≡ true
 plain-word kind.Ins = refl
-plain-word kind.Out = refl
-plain-word kind.Run = refl
-plain-word kind.Stop = refl
-plain-word kind.Block = refl
-plain-word kind.Unblock = refl
-plain-word kind.Cont = refl
-plain-word kind.Back = refl
-plain-word kind.Ready = refl
-plain-word kind.Take = refl
-plain-word kind.Free = refl
-plain-word kind.Up = refl
-plain-word kind.ToldAdd = refl
-plain-word kind.ToldPreempted = refl
-plain-word kind.ToldBlocked = refl
-plain-word kind.ToldUnblocked = refl
-plain-word kind.Move = refl
-plain-word kind.Want = refl
-plain-word kind.Aim = refl
-plain-word kind.Line = refl
-plain-word kind.Fetch = refl
-plain-word kind.Fetched = refl
-plain-word kind.GiveBack = refl
-plain-word kind.Idle = refl
-plain-word kind.Spin = refl
-plain-word kind.Tick = refl
+plain-word _ = refl
 
 pub plain-record : (i : Item) → FitsItem i → is_plain (record_text i.what) ≡ true
 plain-record i fits =
@@ -123,14 +97,9 @@ plain-act None h = refl
 plain-act (Some a) h = plain-numbered (codes "activation ") a.0 refl h
 
 plain-work : (l : Look) → FitsLook l → is_plain (work_name l) ≡ true
-plain-work look.Unowned h = refl
 plain-work (look.Thread s t) h = plain-numbered (codes "thread ") t.0 refl h.1
-plain-work (look.Package s) h = refl
-plain-work (look.Placed s) h = refl
-plain-work (look.GoesOn s) h = refl
 plain-work (look.List s l) h = plain-numbered (codes "list ") l.0 refl h.1
-plain-work (look.Idle s) h = refl
-plain-work (look.Section s) h = refl
+plain-work _ h = refl
 
 plain-context : (l : Level) (c : Context) → FitsLook c.look × FitsAct c.act → is_plain (context_name l c) ≡ true
 plain-context Owner c h = plain-owner c.look h.0
@@ -138,15 +107,10 @@ plain-context Activation c h = plain-act c.act h.1
 plain-context Work c h = plain-work c.look h.0
 
 plain-doing : (d : Doing) → FitsDoing d → is_plain (doing_name d) ≡ true
-plain-doing doing.Unseen h = refl
-plain-doing doing.Ready h = refl
 plain-doing (doing.Runs p) h = plain-numbered (codes "runs on processor ") p.0 refl h
 plain-doing (doing.Section p) h = plain-numbered (codes "section on processor ") p.0 refl h
-plain-doing doing.Stopped h = refl
 plain-doing (doing.Blocked io) h = plain-numbered (codes "blocked: io ") io.0 refl h
-plain-doing doing.Returned h = refl
-plain-doing doing.Hand h = refl
-plain-doing doing.Away h = refl
+plain-doing _ h = refl
 
 plain-holder : (k : Holder) → FitsHolder k → is_plain (holder_name k) ≡ true
 plain-holder holder.Nobody h = refl

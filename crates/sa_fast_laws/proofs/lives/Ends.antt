@@ -10,7 +10,7 @@ use Rattle.sa_base.specs.declared.number.ActNo.{ActNo}
 use Rattle.sa_base.specs.declared.number.ProcNo.{ProcNo}
 use Rattle.sa_base.specs.declared.number.ThreadNo.{ThreadNo}
 use Rattle.sa_base.specs.declared.record.Note.{Note}
-use Rattle.sa_base.specs.declared.record.Note.TheVariants.{Add, Preempted, Blocked, Unblocked}
+use Rattle.sa_base.specs.declared.record.Note.TheVariants.{Preempted, Blocked, Unblocked}
 use Rattle.sa_fast.specs.Rest.{is_unmade, is_carried, place_at}
 use Rattle.sa_fast.specs.Threads.{unmade, block_at, is_active, is_done as is_ended, done_of, active_of}
 use Rattle.sa_fast.specs.declared.threads.KeptPlace.{KeptPlace}
@@ -204,10 +204,9 @@ module _ (s : Setting) (e : ℕ) (r : Readings) (u : Package) (cs : Contexts Con
   Stirs = (are_at_rest (space_at r.state s.space) ≡ false) ⊎ ((b : ActNo) × (life : Life) × (life_of r b ≡ Some life) × (life.inside ≡ true))
 
   gone-place : (g : Stage) (y : ProcNo) → is_gone g ≡ true → place_of g y ≡ place.Carried
-  gone-place Runs y is = absurd cc
-  gone-place InBlock y is = absurd cc
   gone-place Stopped y is = refl
   gone-place Returned y is = refl
+  gone-place _ y is = absurd cc
 
   busy-inside : (b : Bool) (o : Option ThreadNo) → (not b && is_none o) ≡ false → o ≡ None → b ≡ true
   busy-inside true o busy none = refl
@@ -228,8 +227,6 @@ module _ (s : Setting) (e : ℕ) (r : Readings) (u : Package) (cs : Contexts Con
           (ap is_at_rest (l.place t at ∙ gone-place (stage_of r s.space a life) life.proc gone)))
 
     pub must-hear : (note : Note) → Contains (untold_of r s.space) note → must_hear r note ≡ true → Stirs
-    must-hear (Add y) has must = absurd cc
-    must-hear (Blocked a) has must = absurd cc
     must-hear (Preempted a) has must = by (cs a.0) refl (k.noted a (inl has)) where
       by : (o : Option Context) → cs a.0 ≡ o → IsSome (cs a.0) → Stirs
       by None none some = absurd (let no_such = subst IsSome none some in cc)
@@ -255,3 +252,4 @@ module _ (s : Setting) (e : ℕ) (r : Readings) (u : Package) (cs : Contexts Con
           ∙ ap (λ x. stage_by false x (is_act a (running_of r its.0.proc))) here in
           let said = (rests a c.0 its.0 c.1 its.1).idle (ap is_running stage) in
           stirs a c.0 its.0 c.1 its.1 (ap is_gone stage) (sym said ∙ ap (λ g. was_idle g its.0) stage)
+    must-hear _ has must = absurd cc

@@ -19,13 +19,12 @@ pub record IsKernels (own : List Record) : Type 0 where
 
 -- the kinds of the kernel's events
 interrupt-is : (own : List Record) → IsInterrupt own → IsKernels own
-interrupt-is [] h = absurd h
 interrupt-is (records.Stop s t a ∷ xs) h = record { first = records.Stop s t a; rest = xs; is = refl; step = refl; locks = passage-plain xs h }
 interrupt-is (records.Up s a ∷ xs) h =
     record { first = records.Up s a; rest = xs; is = refl; step = refl; locks = passage-plain (records.Up s a ∷ xs) h }
 interrupt-is (records.Move old new ∷ xs) h =
     record { first = records.Move old new; rest = xs; is = refl; step = refl; locks = passage-plain (records.Move old new ∷ xs) h }
-interrupt-is (x ∷ xs) h = absurd h
+interrupt-is _ h = absurd h
 
 over-is : (kind : IoKind) (own : List Record) → IsOver kind own → IsKernels own
 over-is (Plain s a) (records.Unblock of t b ∷ []) h = record { first = records.Unblock of t b; rest = []; is = refl; step = refl; locks = refl }

@@ -38,9 +38,8 @@ use Rattle.sa_fast_laws.specs.View.{view}
 
 -- nothing of a life that runs is untold
 pub runs-only : (stopped returned runs : Bool) → stage_by stopped returned runs ≡ Runs → (stopped ≡ false) × (returned ≡ false)
-runs-only true returned runs is = absurd (let no_such = ap is_running is in cc)
-runs-only false true runs is = absurd (let no_such = ap is_running is in cc)
 runs-only false false runs is = (refl, refl)
+runs-only _ _ runs is = absurd (let no_such = ap is_running is in cc)
 
 -- A LIFE CEASES TO RUN: others run where they ran.
 module _ (s : SpaceNo) (r q : Readings) (u : Package) (cs : Contexts Context) (k : Holds s r u cs) (p : ProcNo) (a : ActNo) (life : Life)

@@ -48,10 +48,9 @@ use Rattle.sa_fast_laws.proofs.steps.GivingMoves as moves
 
 pub outside_calm : (t : Option ThreadNo) (o : Option ℕ) (bulk : Bool) → stands_inside (settled_to t false (is_some o) bulk) ≡ false
     → (o ≡ None) × (is_none t ≡ true → bulk ≡ false)
-outside_calm t (Some n) bulk e = absurd cc
-outside_calm None None true e = absurd cc
 outside_calm None None false e = (refl, λ none. refl)
 outside_calm (Some t) None bulk e = (refl, λ none. absurd cc)
+outside_calm _ _ _ e = absurd cc
 
 module _ (set : Setting) (e : ℕ) (u : Package) (cs : Contexts Context) (w : WorkloadView) (r : Readings) (p : ProcNo) (a : ActNo) (life : Life)
     (seen : Seen) where

@@ -56,9 +56,8 @@ module _ (u : Package) (seen : Seen) where
   settled-step : (t : Option ThreadNo) (o : Option ℕ) (b : Bool) → owed u seen ≡ o → has_bulk seen ≡ b
       → let state = settled_to t false (is_some o) b in stepped u seen (calm state) ≡ stepped_at u seen (calm state) state
   settled-step t (Some n) b owes bulk = ap (λ o. let d = if_owed u seen (calm (Hint t)) t o in stepped_at u seen d d.state) owes
-  settled-step (Some t) None b owes bulk = refl
   settled-step None None true owes bulk = ap (λ z. let d = if_bulk u seen (calm Return) z in stepped_at u seen d d.state) bulk
-  settled-step None None false owes bulk = refl
+  settled-step _ None _ owes bulk = refl
 
   hint-again : (t : Option ThreadNo) → owed u seen ≡ None → SettlesAgain u seen (Hint t) t
   hint-again t none = record {

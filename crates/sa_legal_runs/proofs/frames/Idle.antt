@@ -142,19 +142,15 @@ calm-records w e p r (x ∷ xs) none a =
 
 -- An idle life runs after a record only where it ran before it.
 set-none : (xs : List (Option ActNo)) (i q : ℕ) (a : ActNo) → get_or (slice_set xs i None) q None ≡ Some a → get_or xs q None ≡ Some a
-set-none [] i q a runs = runs
 set-none (x ∷ xs) zero zero a runs = absurd (cc)
-set-none (x ∷ xs) zero (suc q) a runs = runs
-set-none (x ∷ xs) (suc i) zero a runs = runs
 set-none (x ∷ xs) (suc i) (suc q) a runs = set-none xs i q a runs
+set-none _ _ _ a runs = runs
 
 set-some : (xs : List (Option ActNo)) (i q : ℕ) (n a : ActNo) → get_or (slice_set xs i (Some n)) q None ≡ Some a → a ≢ n
     → get_or xs q None ≡ Some a
-set-some [] i q n a runs apart = runs
 set-some (x ∷ xs) zero zero n a runs apart = absurd (apart (sym (same_Some n a runs)))
-set-some (x ∷ xs) zero (suc q) n a runs apart = runs
-set-some (x ∷ xs) (suc i) zero n a runs apart = runs
 set-some (x ∷ xs) (suc i) (suc q) n a runs apart = set-some xs i q n a runs apart
+set-some _ _ _ n a runs apart = runs
 
 runs-before : (w : WorkloadView) (e : ℕ) (p : ProcNo) (r : Readings) (x : Record) (a : ActNo) (life : Life) (q : ProcNo)
     → life_of (after_record w e p r x) a ≡ Some life → life.idle ≡ true → running_of (after_record w e p r x) q ≡ Some a

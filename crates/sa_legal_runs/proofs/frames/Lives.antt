@@ -52,9 +52,8 @@ module _ {C : Type 0} where
 
   mapped : (x : Option (Act C)) (o : Option Life) (f : Life → Life) → KeepsThread f → Matches x o → Matches x (option_map f o)
   mapped None None f keeps h = tt
-  mapped None (Some life) f keeps h = absurd h
-  mapped (Some act) None f keeps h = absurd h
   mapped (Some act) (Some life) f keeps h = ((keeps life).0 ∙ h.0, held-mapped act.held life (f life) (keeps life).1 h.1)
+  mapped _ _ f keeps h = absurd h
 
   pub matched-with : (f : Life → Life) (o : Option ActNo) (acts : ℕ → Option (Act C)) (lives : ℕ → Option Life) → KeepsThread f
       → AreMatched acts lives → AreMatched acts (with_life f o lives)
@@ -80,9 +79,8 @@ module _ {C : Type 0} where
       → ((life : Life) → ((f life).space ≡ life.space) × ((f life).thread ≡ held.thread)) → Matches x o
       → Matches (holding held x) (option_map f o)
   aside None None held f keeps h = tt
-  aside None (Some life) held f keeps h = absurd h
-  aside (Some act) None held f keeps h = absurd h
   aside (Some act) (Some life) held f keeps h = ((keeps life).0 ∙ h.0, (keeps life).1)
+  aside _ _ held f keeps h = absurd h
 
   pub matched-aside : (b : ActNo) (held : Stopped C) (f : Life → Life) (acts : ℕ → Option (Act C)) (lives : ℕ → Option Life)
       → ((life : Life) → ((f life).space ≡ life.space) × ((f life).thread ≡ held.thread)) → AreMatched acts lives
@@ -93,9 +91,8 @@ module _ {C : Type 0} where
   -- A context that was put aside is taken.
   taken-one : (x : Option (Act C)) (o : Option Life) → Matches x o → Matches (taken_from x) o
   taken-one None None h = tt
-  taken-one None (Some life) h = absurd h
-  taken-one (Some act) None h = absurd h
   taken-one (Some act) (Some life) h = (h.0, tt)
+  taken-one _ _ h = absurd h
 
   pub matched-taken : (b : ℕ) (acts : ℕ → Option (Act C)) (lives : ℕ → Option Life) → AreMatched acts lives
       → AreMatched (put acts b (taken_from (acts b))) lives
@@ -165,13 +162,11 @@ module _ {C : Type 0} where
   -- What the end of an own event says of a life does not matter here.
   pub to-unended : (x : Option (Act C)) (o : Option Life) → Matches x o → Matches x (unended o)
   to-unended None None h = tt
-  to-unended None (Some life) h = absurd h
-  to-unended (Some act) None h = absurd h
   to-unended (Some act) (Some life) h = (h.0, held-mapped act.held life (record life { inside = false; freed = false; scans = 0 }) refl h.1)
+  to-unended _ _ h = absurd h
 
   pub from-unended : (x : Option (Act C)) (o : Option Life) → Matches x (unended o) → Matches x o
   from-unended None None h = tt
-  from-unended None (Some life) h = absurd h
-  from-unended (Some act) None h = absurd h
   from-unended (Some act) (Some life) h =
       (h.0, held-mapped act.held (record life { inside = false; freed = false; scans = 0 }) life refl h.1)
+  from-unended _ _ h = absurd h

@@ -41,11 +41,9 @@ put-again l m n a b = record {
 
 -- Raising a line lowers none.
 raised-set : (lines : List (Option ℕ)) (p q e : ℕ) → IsSome (get_or lines p None) → IsSome (get_or (slice_set lines q (Some e)) p None)
-raised-set [] p q e raised = raised
 raised-set (x ∷ lines) zero zero e raised = refl
-raised-set (x ∷ lines) zero (suc q) e raised = raised
-raised-set (x ∷ lines) (suc p) zero e raised = raised
 raised-set (x ∷ lines) (suc p) (suc q) e raised = raised-set lines p q e raised
+raised-set _ _ _ e raised = raised
 
 -- These records change nothing of any space.
 abbrev pub is_plain : Record → Bool

@@ -53,21 +53,19 @@ use Rattle.sa_legal_runs.proofs.frames.Lives.{Matches}
 alike-all : {A B : Type 0} (g : A → Bool) (h : B → Bool) (xs : List A) (ys : List B) → length xs ≡ length ys
     → ((i : ℕ) (x : A) (y : B) → slice_get xs i ≡ Some x → slice_get ys i ≡ Some y → g x ≡ h y) → list_all g xs ≡ list_all h ys
 alike-all g h [] [] size same = refl
-alike-all g h [] (y ∷ ys) size same = absurd (omega (arith, size))
-alike-all g h (x ∷ xs) [] size same = absurd (omega (arith, size))
 alike-all g h (x ∷ xs) (y ∷ ys) size same =
     ap (λ (b : Bool). b && list_all g xs) (same 0 x y refl refl)
     ∙ ap (λ (b : Bool). h y && b) (alike-all g h xs ys (omega (arith, size)) (λ i u v a b. same (suc i) u v a b))
+alike-all g h _ _ size same = absurd (omega (arith, size))
 
 bit-few : (b : Bool) → once_if b ≤ 1
 bit-few true = omega arith
 bit-few false = omega arith
 
 claim-few : (a : ℕ) (n : Note) → note_claim a n ≤ 1
-claim-few a (Add q) = omega arith
-claim-few a (Blocked b) = omega arith
 claim-few a (Preempted b) = bit-few (a == b.0)
 claim-few a (Unblocked b) = bit-few (a == b.0)
+claim-few a _ = omega arith
 
 -- What is claimed is claimed by some notice.
 find-claim : (a : ℕ) (notes : List Note) → 1 ≤ sum_by (note_claim a) notes → (note : Note) × Contains notes note × (note_claim a note ≡ 1)
@@ -111,15 +109,12 @@ module _ {C : Type 0} where
   matched-act : (x : Option (Act C)) (o : Option Life) (life : Life) → o ≡ Some life → Matches x o
       → (act : Act C) × (x ≡ Some act) × (life.space ≡ act.space)
   matched-act None None life is h = absurd (none-some life is)
-  matched-act None (Some l) life is h = absurd h
-  matched-act (Some act) None life is h = absurd h
   matched-act (Some act) (Some l) life is h = (act, refl, ap (λ (y : Life). y.space) (sym (same_Some l life is)) ∙ h.0)
+  matched-act _ _ life is h = absurd h
 
   -- A context that runs, runs on some processor.
   running-on : (lives : List (Option ActNo)) (contexts : List (Option C)) (a : ℕ) → IsSome (running lives contexts a)
       → (q : ℕ) × (is_life a (get_or lives q None) ≡ true)
-  running-on [] contexts a some = absurd (cc)
-  running-on (l ∷ lives) [] a some = absurd (cc)
   running-on (l ∷ lives) (x ∷ contexts) a some = go (is_life a l) refl some (running-on lives contexts a)
     where
       go : (b : Bool) → is_life a l ≡ b → IsSome (if b then x else running lives contexts a)
@@ -127,6 +122,7 @@ module _ {C : Type 0} where
           → (q : ℕ) × (is_life a (get_or (l ∷ lives) q None) ≡ true)
       go true is here again = (0, is)
       go false is here again = let z = again here in (suc z.0, z.1)
+  running-on _ _ a some = absurd (cc)
 
   context-some : (s : ℕ) (x : Option (Act C)) (act : Act C) (o : Option C) → x ≡ Some act → act.held ≡ None
       → IsSome (context_in s x o) → IsSome o

@@ -8,7 +8,7 @@ use Rattle.sa_base.specs.declared.number.SpaceNo.{SpaceNo}
 use Rattle.sa_base.specs.declared.number.ActNo.{ActNo}
 use Rattle.sa_base.specs.declared.context.Stopped.{Stopped}
 use Rattle.sa_base.specs.declared.record.Note.{Note}
-use Rattle.sa_base.specs.declared.record.Note.TheVariants.{Add, Preempted, Blocked, Unblocked}
+use Rattle.sa_base.specs.declared.record.Note.TheVariants.{Preempted, Unblocked}
 use Rattle.sa_base.specs.declared.number.IoNo.{IoNo}
 use Rattle.sa_lemmas.specs.Function.{put}
 use Rattle.sa_lemmas.proofs.FunctionUpdates.{put-other, put-at}
@@ -83,10 +83,8 @@ module _ {C : Type 0} where
 
   home-stopped : (n e : ℕ) (p : ProcNo) (o : Option SpaceNo) (l : Option ActNo) (held : Option (Stopped C)) (x : Scene C)
       → AreHomed n x.state.acts → AreHomed n (stopped e p o l held x).state.acts
-  home-stopped n e p None l held x h = h
-  home-stopped n e p (Some s) None held x h = h
-  home-stopped n e p (Some s) (Some a) None x h = h
   home-stopped n e p (Some s) (Some a) (Some held) x h = home-aside n x.state.acts a held h
+  home-stopped n e p _ _ _ x h = h
 
   home-told : (n e : ℕ) (p : ProcNo) (s : SpaceNo) (a : ActNo) (b : Bool) (x : Scene C) → s.0 < n → AreHomed n x.state.acts
       → AreHomed n (told_or_left e p s a b x).state.acts
@@ -96,11 +94,10 @@ module _ {C : Type 0} where
   home-blocked : (n e : ℕ) (p : ProcNo) (fresh : ActNo) (o : Option SpaceNo) (l : Option ActNo) (held : Stopped C) (len : ℕ)
       (page : Option ℕ) (x : Scene C) → ((s : SpaceNo) → o ≡ Some s → s.0 < n) → AreHomed n x.state.acts
       → AreHomed n (blocked_by e p fresh o l held len page x).state.acts
-  home-blocked n e p fresh None l held len page x below h = h
-  home-blocked n e p fresh (Some s) None held len page x below h = h
   home-blocked n e p fresh (Some s) (Some a) held len page x below h =
       home-told n e p s fresh (can_upcall x.state s) (block_begun e p s a held len page x) (below s refl)
       (home-aside n x.state.acts a held h)
+  home-blocked n e p fresh _ _ held len page x below h = h
 
   home-gave : (n e : ℕ) (p : ProcNo) (o : Option SpaceNo) (x : Scene C) → AreHomed n x.state.acts
       → AreHomed n (gave_back e p o x).state.acts
@@ -129,10 +126,9 @@ module _ {C : Type 0} where
   home-handed n (Some held) a k h = home-put n k.acts a.0 (taken_from (k.acts a.0)) h (home-taken n (k.acts a.0) (λ act is. h a.0 act is))
 
   home-fetched : (n : ℕ) (note : Note) (k : KernelState C) → AreHomed n k.acts → AreHomed n (fetched note k).acts
-  home-fetched n (Add q) k h = h
-  home-fetched n (Blocked a) k h = h
   home-fetched n (Preempted a) k h = home-handed n (held_of (k.acts a.0)) a k h
   home-fetched n (Unblocked a) k h = home-handed n (held_of (k.acts a.0)) a k h
+  home-fetched n _ k h = h
 
 module _ {U C : Type 0} (f : Calls U C) where
   abbrev IsHomed : ℕ → Machine U C → Type 0

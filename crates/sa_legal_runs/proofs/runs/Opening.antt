@@ -1,6 +1,6 @@
 -- The opening is lawful, and each space fits after it.
 use Rattle.sa_kernel_model.specs.Opening as kernel
-use Rattle.std.proofs.Common.{replicate, get_or, IsSome, cond, zero, suc, false, Option, None, length-append, ◌≡◌, ◌≢◌, ℕ, ◌+◌, arith, sym, ◌∙◌, ap, subst, refl, Bool, true, List, [], ◌∷◌, ◌++◌, map, length}
+use Rattle.std.proofs.Common.{replicate, get_or, IsSome, cond, suc, false, Option, None, length-append, ◌≡◌, ◌≢◌, ℕ, ◌+◌, arith, sym, ◌∙◌, ap, subst, refl, Bool, true, List, [], ◌∷◌, ◌++◌, map, length}
 use Rattle.std.proofs.lemmas.List.{length-map, length-replicate}
 use Rattle.std.proofs.lemmas.Option.{none-some}
 use Rattle.sa_devices.specs.Pages.{opening_pages}
@@ -64,8 +64,7 @@ opening-some w ok empty =
 opening-first : (rules : UserRules) (w : WorkloadView) (r : Readings) (p : ProcNo) (ss : List SpaceNo) (lines : List (Option ℕ))
     (cs : List Change) → FirstLineIsAsked rules.Lines w r p (map want_one ss ++ records_of 0 lines cs)
 opening-first rules w r p [] lines [] = tt
-opening-first rules w r p [] lines (c ∷ cs) = tt
-opening-first rules w r p (s ∷ ss) lines cs = tt
+opening-first rules w r p _ lines _ = tt
 
 -- Where nobody ran, an event is a step of nobody.
 no-runner : (test : Test) (w : WorkloadView) (before : Readings) (e : Event) (after : Readings) (records : List Record)
@@ -80,9 +79,8 @@ no-runner test w before e after (x ∷ xs) lives none = go (is_step x) refl wher
 
 -- Nothing is read before the opening.
 none-read : {A : Type 0} (n i : ℕ) → get_or (replicate {A = Option A} n None) i None ≡ None
-none-read zero i = refl
-none-read (suc n) zero = refl
 none-read (suc n) (suc i) = none-read n i
+none-read _ _ = refl
 
 sized-opening : (w : WorkloadView) → IsSized w (opening_readings w)
 sized-opening w = record {

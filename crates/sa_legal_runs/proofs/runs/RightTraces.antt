@@ -6,7 +6,7 @@ use Rattle.std.proofs.lemmas.Option.{same_Some, none-some}
 use Rattle.std.proofs.lemmas.Bool.{cases_eq}
 use Rattle.std.proofs.lemmas.Bool.Decides.{nat_tests}
 use Rattle.sa_base.specs.declared.record.End.{End}
-use Rattle.sa_base.specs.declared.record.End.TheVariants.{AllDone, Stuck, Budget}
+use Rattle.sa_base.specs.declared.record.End.TheVariants.{Budget}
 use Rattle.sa_spaces.specs.Workload.{WorkloadView, IsWorkload}
 use Rattle.sa_laws.specs.Event.{Event, events_of}
 use Rattle.sa_laws.specs.Ends.{GoesOn, LastLine, IsToldEnd, EndsWith}
@@ -50,12 +50,10 @@ rights : (u : UserRules) (w : WorkloadView) (r : Readings) (es : List Event) (li
     → GoOn u.inside w r es → IsToldEnd (after_events u.inside w r es) line.end → line.events + 1 ≡ r.number + length es
     → (n : ℕ) (e : Event) → slice_get es n ≡ Some e
     → HoldEach u w all_rules (after_events u.inside w r (take n es)) e (last_at n (length es) line)
-rights u w r [] line law on end count n e is = absurd (none-some e is)
 rights u w r (x ∷ []) line law on end count zero e is =
     let numbered = law.0.numbered.number in
     subst (λ (y : Event). HoldEach u w all_rules r y (last_at 0 1 line)) (same_Some x e is)
     (with-end u w r x (Some line) law.0 (omega (arith, count, numbered), end))
-rights u w r (x ∷ []) line law on end count (suc n) e is = absurd (none-some e is)
 rights u w r (x ∷ y ∷ es) line law on end count zero e is =
     let no : (0 + 1 == length (x ∷ y ∷ es)) ≡ false = grind (arith, nat_tests) in
     subst (λ (z : Event). HoldEach u w all_rules r z (last_at 0 (length (x ∷ y ∷ es)) line)) (same_Some x e is)
@@ -65,11 +63,11 @@ rights u w r (x ∷ y ∷ es) line law on end count (suc n) e is =
     subst (λ (o : Option LastLine). HoldEach u w all_rules
     (after_events u.inside w (after_event u.inside w r x) (take n (y ∷ es))) e o) (sym (last-later n (length (y ∷ es)) line))
     (rights u w (after_event u.inside w r x) (y ∷ es) line law.1 on.1 end (omega (arith, count, next)) n e is)
+rights u w r _ line law on end count _ e is = absurd (none-some e is)
 
 told-end : (budget n : ℕ) (r : Readings) (e : End) → EndsWith budget r n (Some e) → IsToldEnd r e
-told-end budget n r AllDone h = h
-told-end budget n r Stuck h = h
 told-end budget n r Budget h = h.0
+told-end budget n r _ h = h
 
 -- Where the run goes on after each event but the last, it does so after the one at a place.
 go-on-at : (test : Test) (w : WorkloadView) (r : Readings) (es : List Event) (n : ℕ) → GoOn test w r es → suc n < length es

@@ -152,9 +152,8 @@ begins (x ∷ xs) ys is = (x, xs ++ ys, refl, is)
 block-first : (rules : UserRules) (w : WorkloadView) (r : Readings) (p : ProcNo) (says rest : List Record) (s : SpaceNo)
     (t : Option ThreadNo) (a : ActNo) (io : IoNo) → AreUsers says
     → FirstLineIsAsked rules.Lines w r p (says ++ Block s t a io ∷ rest)
-block-first rules w r p [] rest s t a io are = tt
 block-first rules w r p (Line q ∷ xs) rest s t a io are = absurd (cc)
-block-first rules w r p (x ∷ xs) rest s t a io are = tt
+block-first rules w r p _ rest s t a io are = tt
 
 io-same : (s : SpaceNo) (a : ActNo) (page : Option ℕ) → io_of s a page ≡ io_for s a page
 io-same s a None = refl
