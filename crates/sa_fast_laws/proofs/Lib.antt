@@ -52,6 +52,7 @@
 --   Answers: An upcall ends: its context settles, and its life is in where that shows so.
 --   KernelEvents: Events of the kernel alone are no steps, and have no operation on lists.
 --   Ends: The end: what a package counts is what the history reads of its threads, and for whose sake its space must hear.
+--   Waiting: A thread that is left waits in a queue, where no life is in and each context runs, or its stop or its return is untold.
 --   Openings: At the opening a space has one thread, which is ready, and no life.
 -- steps: Steps of a life as whole events: in the package's code, between routines, at a look and at a hint. A move cites no rule of a user level.
 --   Events: FastThreads' relation as the laws of user levels take it, and what a closing leaves of it.

@@ -9,4 +9,5 @@ pub mod LifeEnds
 pub mod Answers
 pub mod KernelEvents
 pub mod Ends
+pub mod Waiting
 pub mod Openings

@@ -48,6 +48,7 @@
 --   Opening: The opening is lawful, and each space fits after it.
 --   Homes: Each activation is one of a space of the workload.
 --   Ending: How a run ends: what the machine says is so in the history.
+--   OnTheWay: Where no I/O is under way, each context of a space has an activation that runs, or whose stop or return is untold.
 --   LegalRuns: Each run from the opening, by any list of turns and commits, is a legal run by its user level's rules.
 --   RightTraces: A run that was driven until its end: its trace is right, with the last line that tells this end.
 --   Instructions: What local instructions that are committed at once add to the history.

@@ -68,7 +68,7 @@ claim-few a (Unblocked b) = bit-few (a == b.0)
 claim-few a _ = omega arith
 
 -- What is claimed is claimed by some notice.
-find-claim : (a : ℕ) (notes : List Note) → 1 ≤ sum_by (note_claim a) notes → (note : Note) × Contains notes note × (note_claim a note ≡ 1)
+pub find-claim : (a : ℕ) (notes : List Note) → 1 ≤ sum_by (note_claim a) notes → (note : Note) × Contains notes note × (note_claim a note ≡ 1)
 find-claim a [] some = absurd (omega (arith, some))
 find-claim a (n ∷ ns) some = elim (cases_eq (note_claim a n) 1) [
   | inl one ↦ (n, (0, omega arith, refl), one)
@@ -83,10 +83,10 @@ bit-one : (b : Bool) → once_if b ≡ 1 → b ≡ true
 bit-one true is = refl
 bit-one false is = absurd (omega (arith, is))
 
-same-act : (a b : ActNo) → once_if (a.0 == b.0) ≡ 1 → b ≡ a
+pub same-act : (a b : ActNo) → once_if (a.0 == b.0) ≡ 1 → b ≡ a
 same-act a b is = ap (λ i. record { 0 = i }) (let t = bit-one (a.0 == b.0) is in let e : b.0 ≡ a.0 = grind (arith, nat_tests, t) in e)
 
-zero-if : (b : Bool) (n : ℕ) → n ≡ 0 → (if b then n else 0) ≡ 0
+pub zero-if : (b : Bool) (n : ℕ) → n ≡ 0 → (if b then n else 0) ≡ 0
 zero-if true n is = is
 zero-if false n is = refl
 
@@ -101,7 +101,7 @@ some-below [] s note has = absurd (let z = has.1 in omega (arith, z))
 some-below (u ∷ us) zero note has = omega arith
 some-below (u ∷ us) (suc s) note has = let z = some-below us s note has in omega (arith, z)
 
-life-of : (a : ActNo) (o : Option ActNo) → is_life a.0 o ≡ true → o ≡ Some a
+pub life-of : (a : ActNo) (o : Option ActNo) → is_life a.0 o ≡ true → o ≡ Some a
 life-of a None is = absurd (cc)
 life-of a (Some b) is = ap Some (ap (λ i. record { 0 = i }) (let e : b.0 ≡ a.0 = grind (arith, nat_tests, is) in e))
 
@@ -113,7 +113,7 @@ module _ {C : Type 0} where
   matched-act _ _ life is h = absurd h
 
   -- A context that runs, runs on some processor.
-  running-on : (lives : List (Option ActNo)) (contexts : List (Option C)) (a : ℕ) → IsSome (running lives contexts a)
+  pub running-on : (lives : List (Option ActNo)) (contexts : List (Option C)) (a : ℕ) → IsSome (running lives contexts a)
       → (q : ℕ) × (is_life a (get_or lives q None) ≡ true)
   running-on (l ∷ lives) (x ∷ contexts) a some = go (is_life a l) refl some (running-on lives contexts a)
     where
@@ -135,7 +135,7 @@ module _ {C : Type 0} where
       by true some = some
       by false some = absurd (cc)
 
-  held-one : (s : ℕ) (x : Option (Act C)) (act : Act C) (held : Stopped C) → x ≡ Some act → act.held ≡ Some held → s ≡ act.space.0
+  pub held-one : (s : ℕ) (x : Option (Act C)) (act : Act C) (held : Stopped C) → x ≡ Some act → act.held ≡ Some held → s ≡ act.space.0
       → held_in s x ≡ 1
   held-one s None act held is has same = absurd (none-some act is)
   held-one s (Some y) act held is has same =
