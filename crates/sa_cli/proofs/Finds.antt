@@ -15,11 +15,12 @@ use Rattle.sa_check_moment.specs.Rules.{rules_of}
 use Rattle.sa_check.proofs.VerdictLemmas.{one-verdict}
 use Rattle.sa_cli.specs.declared.found.Found.{Found}
 use Rattle.sa_cli.specs.declared.found.Found.TheVariants.{Judged, BadWorkload, BadTrace}
-use Rattle.sa_cli.specs.declared.limits.TheConstants.{TEXTS_LIMIT}
+use Rattle.sa_input.specs.declared.limits.TheConstants.{TRACE_LIMIT}
 use Rattle.sa_io.specs.Input.{ReadsInput}
-use Rattle.sa_cli.specs.Refusals.{too_long}
+use Rattle.sa_input.specs.Refusals.{too_long}
 use Rattle.sa_workload_lines.specs.Texts.{workload_part, second_part}
-use Rattle.sa_cli.specs.Texts.{HasWorkload, last_told, IsJudged, HasBadWorkload, HasBadTrace, IsFound}
+use Rattle.sa_input.specs.Parts.{HasWorkload, HasBadWorkload, HasBadTrace}
+use Rattle.sa_cli.specs.Texts.{last_told, IsJudged, IsFound}
 use Rattle.sa_cli.proofs.Inputs.{all-parted, refused-once, text-not_refused}
 use Rattle.sa_cli.proofs.Refusals.{long-front}
 
@@ -72,14 +73,14 @@ told-found_once rules left input a b told found is =
     let P : Option (List ℕ) → Type 0 = λ o. IfSome o (λ whole. IsFound rules whole a) in one-found rules input a b (subst P told found) is
 
 -- what is found of an input that is not too long is not for its length
-whole-of : (rules : Rules) (input : List ℕ) (a : Found) → length input ≤ TEXTS_LIMIT → IsFound rules input a
+whole-of : (rules : Rules) (input : List ℕ) (a : Found) → length input ≤ TRACE_LIMIT → IsFound rules input a
     → (xs ys : List ℕ) → xs ≡ input ++ ys → ys ≡ [] → IsFound rules xs a
 whole-of rules input a short found xs ys is none =
     let same : input ≡ xs = sym (is ∙ ap (λ v. input ++ v) none ∙ append-nil input) in
     let P : List ℕ → Type 0 = λ v. IsFound rules v a in subst P same found
 
 -- what is found of the input as it was read is what it is found to be
-pub read-found : (rules : Rules) (before after : Option (List ℕ)) (bytes : List ℕ) (a : Found) → ReadsInput TEXTS_LIMIT before after bytes → IsFound rules bytes a
+pub read-found : (rules : Rules) (before after : Option (List ℕ)) (bytes : List ℕ) (a : Found) → ReadsInput TRACE_LIMIT before after bytes → IsFound rules bytes a
     → IfSome before (λ whole. IsFound rules whole a)
 read-found rules None after bytes a reads found = tt
 read-found rules (Some xs) None bytes a reads found = absurd reads.taken
@@ -92,7 +93,7 @@ read-found rules (Some xs) (Some ys) bytes (BadTrace bad) reads (inl long) =
     let len = ap length reads.taken in
     inl (
       omega (arith, long.0),
-      long.1 ∙ sym (ap (too_long TEXTS_LIMIT) reads.taken ∙ long-front TEXTS_LIMIT bytes ys (omega (arith, long.0))),
+      long.1 ∙ sym (ap (too_long TRACE_LIMIT) reads.taken ∙ long-front TRACE_LIMIT bytes ys (omega (arith, long.0))),
     )
 read-found rules (Some xs) (Some ys) bytes (BadTrace bad) reads (inr wrong) =
     whole-of rules bytes (BadTrace bad) wrong.has.whole (inr wrong) xs ys reads.taken (reads.end refl wrong.has.whole)

@@ -6,9 +6,10 @@ use Rattle.sa_spaces.specs.Workload.{WorkloadView}
 use Rattle.sa_workload_lines.specs.Text.{IsText, IsText1}
 use Rattle.sa_workload_lines.specs.Bad.{BadAt, BadAt1}
 use Rattle.sa_workload.proofs.whole.Whole.{answers, answers1}
-use Rattle.sa_cli.specs.declared.limits.TheConstants.{INPUT_LIMIT}
+use Rattle.sa_input.specs.declared.limits.TheConstants.{WORKLOAD_LIMIT}
 use Rattle.sa_cli.specs.Input.{Texts, GaveText}
-use Rattle.sa_cli.specs.Refusals.{Badness, IsInputRefused, IsRefused}
+use Rattle.sa_input.specs.Refusals.{Badness, IsInputRefused}
+use Rattle.sa_cli.specs.Refusals.{IsRefused}
 
 -- texts and what is bad are apart, and bytes are bad in one way
 pub record AreParted (is_text : Texts) (is_bad : Badness) : Type 0 where
@@ -32,14 +33,14 @@ module _ (is_text : Texts) (is_bad : Badness) (parted : AreParted is_text is_bad
   refused-once input a b (inr wrong) (inr bad) =
       let one = parted.once input a.line b.line a.why b.why wrong.1 bad.1 in same_bad a b one.0 one.1
 
-  pub text-not_refused : (input : List ℕ) (w : WorkloadView) (bad : Bad) → is_text input w → length input ≤ INPUT_LIMIT
+  pub text-not_refused : (input : List ℕ) (w : WorkloadView) (bad : Bad) → is_text input w → length input ≤ WORKLOAD_LIMIT
       → IsInputRefused is_bad input bad → ⊥
   text-not_refused input w bad is short (inl long) = absurd (omega (arith, long.0, short))
   text-not_refused input w bad is short (inr wrong) = parted.apart input w bad.line bad.why is wrong.1
 
   -- the same of what a source told
   pub told-not_refused : (left : Option (List ℕ)) (input : List ℕ) (w : WorkloadView) (bad : Bad) → left ≡ Some input
-      → is_text input w → length input ≤ INPUT_LIMIT → IsRefused is_bad left bad → ⊥
+      → is_text input w → length input ≤ WORKLOAD_LIMIT → IsRefused is_bad left bad → ⊥
   told-not_refused left input w bad told is short refused =
       let P : Option (List ℕ) → Type 0 = λ o. IsRefused is_bad o bad in text-not_refused input w bad is short (subst P told refused)
 

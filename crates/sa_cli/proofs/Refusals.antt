@@ -10,8 +10,9 @@ use Rattle.sa_base.specs.declared.refusal.Unread.TheVariants as unread
 use Rattle.sa_workload.specs.Answer.{IfBad}
 use Rattle.sa_cli.specs.declared.outcome.Status.{Status}
 use Rattle.sa_cli.specs.Outcome.{status_of_unread}
-use Rattle.sa_cli.specs.declared.limits.TheConstants.{INPUT_LIMIT}
-use Rattle.sa_cli.specs.Refusals.{Badness, IsInputRefused, IsRefused, NothingRead, too_long}
+use Rattle.sa_input.specs.declared.limits.TheConstants.{WORKLOAD_LIMIT}
+use Rattle.sa_input.specs.Refusals.{Badness, IsInputRefused, too_long}
+use Rattle.sa_cli.specs.Refusals.{IsRefused, NothingRead}
 use Rattle.sa_io.specs.Input.{ReadsInput}
 
 -- the line is told by what comes before the limit
@@ -21,7 +22,7 @@ long-front limit bytes more long =
     ap (λ (v : List ℕ). bad_at (count_by (λ b. b == 10) v + 1) TooMany) (take-append-le limit bytes more long)
 
 -- an input that was read, and is refused as it was read, is refused
-pub read-refused : (is_bad : Badness) (before after : Option (List ℕ)) (bytes : List ℕ) (bad : Bad) → ReadsInput INPUT_LIMIT before after bytes
+pub read-refused : (is_bad : Badness) (before after : Option (List ℕ)) (bytes : List ℕ) (bad : Bad) → ReadsInput WORKLOAD_LIMIT before after bytes
     → IsInputRefused is_bad bytes bad → IsRefused is_bad before bad
 read-refused is_bad None after bytes bad reads refused = tt
 read-refused is_bad (Some xs) None bytes bad reads refused = absurd reads.taken
@@ -30,14 +31,14 @@ read-refused is_bad (Some xs) (Some ys) bytes bad reads (inl long) =
     let len = ap length reads.taken in
     inl (
       omega arith,
-      long.1 ∙ sym (ap (too_long INPUT_LIMIT) reads.taken ∙ long-front INPUT_LIMIT bytes ys (omega (arith, long.0))),
+      long.1 ∙ sym (ap (too_long WORKLOAD_LIMIT) reads.taken ∙ long-front WORKLOAD_LIMIT bytes ys (omega (arith, long.0))),
     )
 read-refused is_bad (Some xs) (Some ys) bytes bad reads (inr wrong) =
     let same : bytes ≡ xs = sym (reads.taken ∙ ap (λ v. bytes ++ v) (reads.end refl wrong.0) ∙ append-nil bytes) in
     let P : List ℕ → Type 0 = λ v. IsInputRefused is_bad v bad in subst P same (inr wrong)
 
 pub unread-refused : {A : Type 0} (is_bad : Badness) (before after : Option (List ℕ)) (bytes : List ℕ) (old new : ℕ) (why : Unread) (result : Result A Status)
-    → ReadsInput INPUT_LIMIT before after bytes → IfBad why (IsInputRefused is_bad bytes)
+    → ReadsInput WORKLOAD_LIMIT before after bytes → IfBad why (IsInputRefused is_bad bytes)
     → IsErrAnd result (λ (status : Status). status ≡ status_of_unread why) → IfErr result (NothingRead is_bad before old new)
 unread-refused is_bad before after bytes old new why (Ok x) reads refused is = absurd is
 unread-refused is_bad before after bytes old new (unread.Bad bad) (Err status) reads refused is =

@@ -9,7 +9,7 @@ use Rattle.sa_workload_lines.specs.Text.{IsText}
 use Rattle.sa_workload.proofs.whole.OneBad.{texts_differ}
 use Rattle.sa_debug.specs.declared.script.command.DebugCommand.{DebugCommand}
 use Rattle.sa_debug.specs.script.Reading.{script_of}
-use Rattle.sa_cli.specs.declared.limits.TheConstants.{SCRIPTS_LIMIT}
+use Rattle.sa_input.specs.declared.limits.TheConstants.{SCRIPT_LIMIT}
 use Rattle.sa_cli.specs.declared.outcome.Ran.{Ran}
 use Rattle.sa_cli.specs.declared.outcome.Status.{Status}
 use Rattle.sa_cli.specs.declared.outcome.Status.TheVariants as status
@@ -18,7 +18,7 @@ use Rattle.sa_cli.specs.Complete.{Debugs}
 use Rattle.sa_cli.specs.Debugging.{BeginsWith, IsScriptOf, RefusesWorkload, RefusesScript, Scripted, IsScripted, status_of_scripted, GaveScripted, AnswersDebug}
 use Rattle.sa_cli.specs.Debugging.Scripted.{Accepted, BadWorkload, BadScript}
 use Rattle.sa_io.specs.Input.{ReadsInput}
-use Rattle.sa_cli.specs.Refusals.{too_long}
+use Rattle.sa_input.specs.Refusals.{too_long}
 use Rattle.sa_workload_lines.specs.Texts.{workload_part, second_part}
 use Rattle.sa_cli.proofs.Inputs.{all-parted, refused-once, text-not_refused}
 use Rattle.sa_cli.proofs.Refusals.{long-front}
@@ -74,7 +74,7 @@ whole-of input a found xs ys is none =
     let P : List ℕ → Type 0 = λ v. IsScripted v a in subst P same found
 
 -- what is found of the input as it was read is what it is found to be
-read-scripted : (before after : Option (List ℕ)) (bytes : List ℕ) (a : Scripted) → ReadsInput SCRIPTS_LIMIT before after bytes → IsScripted bytes a
+read-scripted : (before after : Option (List ℕ)) (bytes : List ℕ) (a : Scripted) → ReadsInput SCRIPT_LIMIT before after bytes → IsScripted bytes a
     → IfSome before (λ whole. IsScripted whole a)
 read-scripted None after bytes a reads found = tt
 read-scripted (Some xs) None bytes a reads found = absurd reads.taken
@@ -87,12 +87,12 @@ read-scripted (Some xs) (Some ys) bytes (BadScript bad) reads (inl long) =
     let len = ap length reads.taken in
     inl (
       omega (arith, long.0),
-      long.1 ∙ sym (ap (too_long SCRIPTS_LIMIT) reads.taken ∙ long-front SCRIPTS_LIMIT bytes ys (omega (arith, long.0))),
+      long.1 ∙ sym (ap (too_long SCRIPT_LIMIT) reads.taken ∙ long-front SCRIPT_LIMIT bytes ys (omega (arith, long.0))),
     )
 read-scripted (Some xs) (Some ys) bytes (BadScript bad) reads (inr wrong) =
     whole-of bytes (BadScript bad) (inr wrong) xs ys reads.taken (reads.end refl wrong.has.whole)
 
-pub gave-scripted : (before after : Option (List ℕ)) (bytes : List ℕ) (a : Scripted) → ReadsInput SCRIPTS_LIMIT before after bytes → IsScripted bytes a
+pub gave-scripted : (before after : Option (List ℕ)) (bytes : List ℕ) (a : Scripted) → ReadsInput SCRIPT_LIMIT before after bytes → IsScripted bytes a
     → GaveScripted before after a
 gave-scripted before after bytes a reads is = record { input = bytes; reads = reads; is = is; told = read-scripted before after bytes a reads is }
 

@@ -8,7 +8,7 @@ use Rattle.sa_io.specs.Pieces.{GoesOut}
 use Rattle.sa_io.proofs.PieceLemmas.{out-none, out-cut}
 use Rattle.sa_trace.specs.TraceText.{trace_text}
 use Rattle.sa_cli.specs.declared.debug.Stopped.TheVariants as stopped
-use Rattle.sa_cli.specs.declared.limits.TheConstants.{SCRIPTS_LIMIT}
+use Rattle.sa_input.specs.declared.limits.TheConstants.{SCRIPT_LIMIT}
 use Rattle.sa_io.specs.declared.input.ReadError.{ReadError}
 use Rattle.sa_io.specs.declared.input.ReadError.TheVariants as read
 use Rattle.sa_cli.specs.declared.outcome.Ran.{Ran}
@@ -36,7 +36,7 @@ second-cut before at after first between second out cut =
 module _ (budget : ℕ) (old new : World) where
   -- a session that is over was written, or cut
   pub over-answers : (bytes replies : List ℕ) (trace : Recorded) (end : End) (events : ℕ) (ran : Ran) (s : Status)
-      → ReadsInput SCRIPTS_LIMIT old.left new.left bytes
+      → ReadsInput SCRIPT_LIMIT old.left new.left bytes
       → IsDone budget bytes replies trace.items end events → ran ≡ Plain trace
       → Writes old.taken new.taken old.writes new.writes (replies ++ trace_text trace.items end events) status.Quit s → AnswersDebug budget old new ran s
   over-answers bytes replies trace end events ran s reads done is wrote =
@@ -57,7 +57,7 @@ module _ (budget : ℕ) (old new : World) where
       ]
 
   -- a refusal
-  pub script-answers : (bytes : List ℕ) (bad : Bad) (ran : Ran) (s : Status) → ReadsInput SCRIPTS_LIMIT old.left new.left bytes
+  pub script-answers : (bytes : List ℕ) (bad : Bad) (ran : Ran) (s : Status) → ReadsInput SCRIPT_LIMIT old.left new.left bytes
       → IsStopped budget bytes (stopped.BadScript bad) → ran ≡ Nothing → s ≡ status.BadScript bad → AnswersDebug budget old new ran s
   script-answers bytes bad ran s reads wrong none is =
       subst (λ (x : Status). AnswersDebug budget old new ran x) (sym is) (gave-scripted old.left new.left bytes (BadScript bad) reads wrong, none)

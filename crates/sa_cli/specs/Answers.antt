@@ -5,6 +5,7 @@ use Rattle.sa_base.specs.declared.record.Item.{Item}
 use Rattle.sa_base.specs.declared.record.End.{End}
 use Rattle.sa_base.specs.declared.record.End.TheVariants as end
 use Rattle.sa_io.specs.Faults.{HasRisen, AppendsPrefix}
+pub use Rattle.sa_io.specs.Streams.{World, world}
 use Rattle.sa_spaces.specs.Workload.{WorkloadView}
 use Rattle.sa_laws.specs.Legal.{EndOf}
 use Rattle.sa_sched.specs.Order.{Order}
@@ -13,16 +14,6 @@ use Rattle.sa_package_runs.specs.Whole.{IsTurnByTurn, IsEnded}
 use Rattle.sa_cli.specs.declared.outcome.Status.{Status}
 use Rattle.sa_cli.specs.declared.outcome.Status.TheVariants.{AllDone, Stuck, Budget, WriteFault, OutOfMemory}
 use Rattle.sa_cli.specs.Packages.{PackageRuns}
-
--- what source and sink tell: what is left, what was taken, and how many reads and writes failed
-pub record World : Type 0 where
-  pub left : Option (List ℕ)
-  pub taken : Option (List ℕ)
-  pub reads : ℕ
-  pub writes : ℕ
-
-abbrev pub world : Option (List ℕ) → Option (List ℕ) → ℕ → ℕ → World
-world left taken reads writes = record { left = left; taken = taken; reads = reads; writes = writes }
 
 -- what is written of a run: its items, its end and its number of events as bytes
 abbrev pub Shown : Type 0

@@ -15,7 +15,7 @@ use Rattle.sa_cli.specs.declared.outcome.Ran.{Ran}
 use Rattle.sa_cli.specs.declared.outcome.Ran.TheVariants.{Nothing}
 use Rattle.sa_cli.specs.declared.outcome.Status.{Status}
 use Rattle.sa_cli.specs.declared.outcome.Status.TheVariants.{BadWorkload, ReadFault, WriteFault, OutOfMemory, Migrated, Checked, Broken, BadTrace}
-use Rattle.sa_cli.specs.declared.limits.TheConstants.{INPUT_LIMIT, TEXTS_LIMIT, SCRIPTS_LIMIT}
+use Rattle.sa_input.specs.declared.limits.TheConstants.{WORKLOAD_LIMIT, TRACE_LIMIT, SCRIPT_LIMIT}
 use Rattle.sa_cli.specs.Outcome.{history, RanHere, RanShared}
 use Rattle.sa_cli.specs.Input.{GaveText, GaveSliced}
 use Rattle.sa_cli.specs.Refusals.{IsRefused}
@@ -113,6 +113,6 @@ ReadsNothing other = ⊥
 abbrev pub most_read : Option Command → ℕ
 most_read None = 0
 most_read (Some (Load number budget)) = 0
-most_read (Some (Check user_level)) = TEXTS_LIMIT + 1
-most_read (Some (Debug budget)) = SCRIPTS_LIMIT + 1
-most_read (Some other) = INPUT_LIMIT + 1
+most_read (Some (Check user_level)) = TRACE_LIMIT + 1
+most_read (Some (Debug budget)) = SCRIPT_LIMIT + 1
+most_read (Some other) = WORKLOAD_LIMIT + 1

@@ -9,9 +9,9 @@ use Rattle.sa_command.specs.declared.command.Command.{Command}
 use Rattle.sa_command.specs.declared.command.Command.TheVariants.{Run, Threads, Load, Migrate, Check, Vp, Debug, Explore}
 use Rattle.sa_cli.specs.declared.outcome.Status.{Status}
 use Rattle.sa_cli.specs.declared.outcome.Status.TheVariants.{BadWorkload, OutOfMemory, Migrated}
-use Rattle.sa_cli.specs.declared.limits.TheConstants.{INPUT_LIMIT}
+use Rattle.sa_input.specs.declared.limits.TheConstants.{WORKLOAD_LIMIT}
 use Rattle.sa_cli.specs.Input.{Texts}
-use Rattle.sa_cli.specs.Refusals.{Badness, IsInputRefused}
+use Rattle.sa_input.specs.Refusals.{Badness, IsInputRefused}
 use Rattle.sa_check_moment.specs.declared.rules.Rules.{Rules}
 use Rattle.sa_cli.specs.Packages.{rules_by}
 use Rattle.sa_cli.specs.declared.found.Found.{Found}
@@ -29,7 +29,7 @@ NoWriteFailed old new = ¬ HasRisen old.writes new.writes
 -- an accepted input is run or written anew, unless memory runs out
 abbrev pub Takes : Texts → World → World → Status → Type 0 → Type 0
 Takes is_text old new status done =
-    (input : List ℕ) (w : WorkloadView) → old.left ≡ Some input → is_text input w → length input ≤ INPUT_LIMIT
+    (input : List ℕ) (w : WorkloadView) → old.left ≡ Some input → is_text input w → length input ≤ WORKLOAD_LIMIT
     → NoReadFailed old new → NoWriteFailed old new → done ⊎ (status ≡ OutOfMemory)
 
 -- any other input is refused, unless memory runs out

@@ -11,22 +11,22 @@ use Rattle.sa_trace.specs.TraceText.{trace_text}
 use Rattle.sa_debug.specs.declared.script.command.DebugCommand.{DebugCommand}
 use Rattle.sa_debug.specs.script.Reading.{script_of}
 use Rattle.sa_cli.specs.Debugged.{IsOver, RanSoFar}
-use Rattle.sa_cli.specs.declared.limits.TheConstants.{SCRIPTS_LIMIT}
-use Rattle.sa_cli.specs.declared.limits.TheConstants.{INPUT_LIMIT}
+use Rattle.sa_input.specs.declared.limits.TheConstants.{SCRIPT_LIMIT}
+use Rattle.sa_input.specs.declared.limits.TheConstants.{WORKLOAD_LIMIT}
 use Rattle.sa_cli.specs.declared.outcome.Ran.{Ran}
 use Rattle.sa_cli.specs.declared.outcome.Ran.TheVariants.{Nothing}
 use Rattle.sa_cli.specs.declared.outcome.Status.{Status}
 use Rattle.sa_cli.specs.declared.outcome.Status.TheVariants as status
 use Rattle.sa_io.specs.Input.{ReadsInput}
 use Rattle.sa_cli.specs.Outcome.{history}
-use Rattle.sa_cli.specs.Refusals.{IsInputRefused, too_long}
+use Rattle.sa_input.specs.Refusals.{IsInputRefused, too_long}
 use Rattle.sa_workload_lines.specs.Texts.{workload_part, second_part}
 use Rattle.sa_cli.specs.Answers.{World, TookAll, TookSome}
 
 -- the first part is the text of this workload, and the whole is not too long
 pub record BeginsWith (input : List ℕ) (w : WorkloadView) : Type 0 where
-  pub whole : length input ≤ SCRIPTS_LIMIT
-  pub short : length (workload_part input) ≤ INPUT_LIMIT
+  pub whole : length input ≤ SCRIPT_LIMIT
+  pub short : length (workload_part input) ≤ WORKLOAD_LIMIT
   pub is : IsText (workload_part input) w
 
 -- the first part is the text of this workload, and the second one is a script of these commands for it
@@ -36,7 +36,7 @@ pub record IsScriptOf (input : List ℕ) (w : WorkloadView) (commands : List Deb
 
 -- the first part is refused
 pub record RefusesWorkload (input : List ℕ) (bad : Bad) : Type 0 where
-  pub whole : length input ≤ SCRIPTS_LIMIT
+  pub whole : length input ≤ SCRIPT_LIMIT
   pub refused : IsInputRefused BadAt (workload_part input) bad
 
 -- the second part is refused, after a workload text
@@ -56,7 +56,7 @@ abbrev pub IsScripted : List ℕ → Scripted → Type 0
 IsScripted input (Accepted w commands) = IsScriptOf input w commands
 IsScripted input (BadWorkload bad) = RefusesWorkload input bad
 IsScripted input (BadScript bad) =
-    ((SCRIPTS_LIMIT < length input) × (bad ≡ too_long SCRIPTS_LIMIT input)) ⊎ RefusesScript input bad
+    ((SCRIPT_LIMIT < length input) × (bad ≡ too_long SCRIPT_LIMIT input)) ⊎ RefusesScript input bad
 
 abbrev pub status_of_scripted : Scripted → Status
 status_of_scripted (Accepted w commands) = status.Quit
@@ -66,7 +66,7 @@ status_of_scripted (BadScript bad) = status.BadScript bad
 -- the source gave an input that is found to be this; where it tells, this is what it had
 pub record GaveScripted (before after : Option (List ℕ)) (found : Scripted) : Type 0 where
   pub input : List ℕ
-  pub reads : ReadsInput SCRIPTS_LIMIT before after input
+  pub reads : ReadsInput SCRIPT_LIMIT before after input
   pub is : IsScripted input found
   pub told : IfSome before (λ whole. IsScripted whole found)
 

@@ -3,7 +3,7 @@ use Rattle.std.specs.Prelude.{◌≡◌, ℕ, ◌≤◌, List, length, Option, I
 use Rattle.std.specs.Io.KnownBytes.{Consumes, IsAtEnd}
 use Rattle.sa_spaces.specs.Workload.{WorkloadView}
 use Rattle.sa_workload_lines.specs.Text.{IsText1, text_of}
-use Rattle.sa_cli.specs.declared.limits.TheConstants.{INPUT_LIMIT}
+use Rattle.sa_input.specs.declared.limits.TheConstants.{WORKLOAD_LIMIT}
 
 -- which bytes are the text of which workload
 abbrev pub Texts : Type 1
@@ -13,7 +13,7 @@ Texts = List ℕ → WorkloadView → Type 0
 pub record GaveText (is_text : Texts) (before after : Option (List ℕ)) (w : WorkloadView) : Type 0 where
   pub text : List ℕ
   pub is : is_text text w
-  pub short : length text ≤ INPUT_LIMIT
+  pub short : length text ≤ WORKLOAD_LIMIT
   pub taken : Consumes before after text
   pub end : IsSome before → IsAtEnd after
   pub input : IfSome before (λ input. input ≡ text)

@@ -10,6 +10,8 @@ use Rattle.sa_cli.specs.declared.outcome.Status.TheVariants.{AllDone, Usage, Bad
 use Rattle.sa_cli.specs.declared.outcome.Finding.TheVariants as say
 use Rattle.sa_io.specs.declared.input.ReadError.{ReadError}
 use Rattle.sa_io.specs.declared.input.ReadError.TheVariants as read
+use Rattle.sa_io.specs.declared.words.NoWords.{NoWords}
+use Rattle.sa_io.specs.declared.words.NoWords.TheVariants as words
 use Rattle.sa_check.specs.declared.verdict.Verdict.{Verdict}
 use Rattle.sa_check.specs.declared.verdict.Verdict.TheVariants.{Legal}
 use Rattle.sa_check.specs.declared.verdict.Verdict.TheVariants as check
@@ -43,6 +45,11 @@ code_of (Explored say.Open) = 4
 abbrev pub status_of : ReadError → Status
 status_of read.Fault = ReadFault
 status_of read.OutOfMemory = OutOfMemory
+
+-- the status of arguments that are no words
+abbrev pub status_of_no_words : NoWords → Status
+status_of_no_words words.NoText = Usage
+status_of_no_words words.OutOfMemory = OutOfMemory
 
 -- the status of a text that was not read
 abbrev pub status_of_unread : Unread → Status

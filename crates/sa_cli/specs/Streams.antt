@@ -1,21 +1,10 @@
--- The source and the sink of a command, and what becomes of them whatever it answers.
-use Rattle.std.specs.Prelude.{◌≡◌, ℕ, ◌≤◌, List, Option}
+-- What becomes of the source and the sink of a command, whatever it answers.
+use Rattle.std.specs.Prelude.{◌≡◌, ℕ, ◌≤◌}
 use Rattle.sa_io.specs.Input.{LosesAtMost}
 use Rattle.sa_cli.specs.declared.outcome.Status.{Status}
 use Rattle.sa_cli.specs.Outcome.{WritesNothing}
-use Rattle.sa_cli.specs.Answers.{World, world}
-
--- the source and the sink that a call is lent, as whole values
-pub record Streams (S K : Type 0) : Type 0 where
-  pub source : S
-  pub sink : K
-
-abbrev pub streams : {S K : Type 0} → S → K → Streams S K
-streams source sink = record { source = source; sink = sink }
-
--- what they tell, where a source tells what is left and how many reads failed, and a sink what was taken and how many writes failed
-abbrev pub world_by : {S K : Type 0} → (S → Option (List ℕ)) → (K → Option (List ℕ)) → (S → ℕ) → (K → ℕ) → Streams S K → World
-world_by left taken reads writes both = world (left both.source) (taken both.sink) (reads both.source) (writes both.sink)
+use Rattle.sa_io.specs.Streams.{World}
+pub use Rattle.sa_io.specs.Streams.{Streams, streams, world_by}
 
 -- What a command with this status that may read so many bytes did to the source and the sink, which were `before` and have become `after`.
 pub record UsesStreams {S K : Type 0} (world_of : Streams S K → World) (most : ℕ) (before after : Streams S K) (status : Status) : Type 0 where

@@ -1,10 +1,19 @@
--- What `run_one` and `run_threads` promise of a command.
-use Rattle.std.specs.Prelude.{◌≡◌, ◌↔◌, ◌≤◌, Option, None}
+-- What `run_one` and `run_threads` promise of a command, and the program of its arguments.
+use Rattle.std.specs.Prelude.{◌≡◌, ◌⊎◌, ◌↔◌, ◌≤◌, Option, None, Result, Ok, Err}
+use Rattle.std.specs.declared.string.String.{String}
+use Rattle.std.specs.declared.vec.IntoIter.{IntoIter}
+use Rattle.std.specs.declared.io.Error.{Error}
+use Rattle.std.specs.Vec.Iter.{into_iter_items}
+use Rattle.std.specs.IoError.{error_kind}
+use Rattle.sa_io.specs.Words.{words_after_name, without_words}
 use Rattle.sa_io.specs.Input.{LosesAtMost}
 use Rattle.sa_command.specs.declared.command.Command.{Command}
+use Rattle.sa_command.specs.Commands.{command_of}
 use Rattle.sa_cli.specs.declared.outcome.Outcome.{Outcome}
-use Rattle.sa_cli.specs.declared.outcome.Status.TheVariants.{Usage}
-use Rattle.sa_cli.specs.Outcome.{WritesNothing}
+use Rattle.sa_cli.specs.declared.outcome.Ran.TheVariants.{Nothing}
+use Rattle.sa_cli.specs.declared.outcome.Status.{Status}
+use Rattle.sa_cli.specs.declared.outcome.Status.TheVariants.{Usage, OutOfMemory}
+use Rattle.sa_cli.specs.Outcome.{WritesNothing, status_of_no_words}
 use Rattle.sa_cli.specs.Answers.{World}
 use Rattle.sa_cli.specs.Streams.{Streams}
 use Rattle.sa_cli.specs.Commands.{AnswersTo, CanHaveRun, ReadsNothing, most_read}
@@ -33,3 +42,16 @@ pub record DoesTheCommand {S K : Type 0} (world_of : Streams S K → World) (com
   pub answers : AnswersTo command (world_of before) (world_of after) outcome.ran outcome.status
   -- Where nothing fails and the input is told, the command is done, or its input is refused.
   pub complete : IsCompleteTo command (world_of before) (world_of after) outcome.status
+
+-- Nothing ran and nothing is touched, with this status.
+pub record DoesNothing {S K : Type 0} (status : Status) (before after : Streams S K) (outcome : Outcome) : Type 0 where
+  pub status_is : outcome.status ≡ status
+  pub ran : outcome.ran ≡ Nothing
+  pub source : after.source ≡ before.source
+  pub sink : after.sink ≡ before.sink
+
+-- The outcome is an answer to the arguments: to the command of the words after the program's name, unless memory runs out for these words.
+abbrev pub DoesTheProgram : {S K Z A : Type 0} → (Streams S K → World) → Result (IntoIter (String Z) A) Error → Streams S K → Streams S K → Outcome → Type 0
+DoesTheProgram world_of (Ok args) before after outcome =
+    DoesNothing OutOfMemory before after outcome ⊎ DoesTheCommand world_of (command_of (words_after_name (into_iter_items args))) before after outcome
+DoesTheProgram world_of (Err error) before after outcome = DoesNothing (status_of_no_words (without_words (error_kind error))) before after outcome

@@ -1,11 +1,11 @@
-ghost use Rattle.std.specs.Prelude.{◌≡◌, Some, None, IfSome};
+ghost use Rattle.std.specs.Prelude.{◌≡◌, Some, None};
 ghost use Rattle.std.specs.Option.{ForSome};
 ghost use Rattle.sa_command.specs.declared.command.Command.TheVariants.{Threads};
 ghost use Rattle.sa_command.specs.Commands.{command_of};
 ghost use Rattle.sa_command.specs.Ranges.{IsInRange};
 ghost use Rattle.sa_cli.specs.Shared.{limits_of};
 ghost use Rattle.sa_cli.specs.Streams.{streams, world_by};
-ghost use Rattle.sa_cli.specs.TopCall.{DoesTheCommand};
+ghost use Rattle.sa_cli.specs.TopCall.{DoesTheCommand, DoesTheProgram};
 
 use crate::commands::{check_texts, migrate, run_generated, run_text};
 use crate::debug::debug_texts;
@@ -14,40 +14,56 @@ use crate::outcome::{Outcome, Status};
 use crate::shared::run_shared;
 use crate::vp::run_virtual;
 use sa_command::laws::commands_are_in_range;
-use sa_command::{Command, Words, read_words};
+use sa_command::{Command, read_words};
 use sa_explore::Progress;
-use sa_io::{Sink, Source};
-use sa_workers::{Gate, Limits};
+use sa_io::{Sink, Source, Words};
+use sa_workers::{FreeGate, Gate, Limits};
 use std::alloc::Global;
+use std::env::Args;
+use std::io;
 use std::sync::Wait;
 use std::thread::Threads;
 
-/// What the words ask of host threads: `None` exactly where they are not `threads`, so that `run_one` does what they say.
-pub fn limits_of(words: &Words) -> Option<Limits>
-    ensures limits { result ≡ limits_of (command_of words.now) }
-    ensures range { IfSome result (λ limits. IsInRange (Threads limits.budget limits.burst)) }
+/// The program: does what its arguments ask for, the first of which is its name. Under `explore` it is told how far the search has
+/// come. Under `threads` host threads wait for locks, so what is promised there holds if the call returns.
+pub fn run_program<S: Source, K: Sink, P: Progress, R: Threads + Wait + Sync>(
+    rt: &R,
+    alloc: Global,
+    args: io::Result<Args>,
+    source: &mut S,
+    sink: &mut K,
+    progress: &mut P,
+) -> Outcome
+    ensures { DoesTheProgram (world_by S.left K.taken S.faults K.faults) args
+        (streams source.old sink.old) (streams source.new sink.new) result }
 {
-    commands_are_in_range();
-    match read_words(words) {
-        Some(Command::Threads { budget, burst }) => Some(Limits { budget, burst }),
-        _ => None,
+    match Words::read(alloc, args) {
+        Ok(words) => run_words(rt, alloc, &words, source, sink, progress, &FreeGate),
+        Err(why) => Outcome::nothing(Status::from(why)),
     }
 }
 
-/// Does the command of the words, which is not `threads`. It always returns. Under `explore` it is told how far the search has come.
-pub fn run_one<S: Source, K: Sink, P: Progress>(
+/// Does the command of the words: `threads` with this gate, or another, which is told how far its search has come.
+pub fn run_words<S: Source, K: Sink, P: Progress, G: Gate, R: Threads + Wait + Sync>(
+    rt: &R,
     alloc: Global,
     words: &Words,
     source: &mut S,
     sink: &mut K,
     progress: &mut P,
+    gate: &G,
 ) -> Outcome
-    requires { limits_of (command_of words.now) ≡ None }
     ensures { DoesTheCommand (world_by S.left K.taken S.faults K.faults) (command_of words.now)
         (streams source.old sink.old) (streams source.new sink.new) result }
 {
     commands_are_in_range();
-    run_command(alloc, read_words(words), source, sink, progress)
+    match read_words(words) {
+        Some(Command::Threads { budget, burst }) => {
+            let limits = Limits { budget, burst };
+            run_threads(rt, alloc, limits, source, sink, gate)
+        }
+        command => run_one(alloc, command, source, sink, progress),
+    }
 }
 
 /// Does the command `threads` within these limits: a host thread for each processor runs the workload, and passes the gate
@@ -67,10 +83,10 @@ pub fn run_threads<S: Source, K: Sink, G: Gate, R: Threads + Wait + Sync>(
     run_shared(rt, alloc, limits, source, sink, gate)
 }
 
-// Does the command, which is not `threads`: it runs a workload of the source or a generated one and writes its trace to the
-// sink, writes a workload of the source anew, judges a trace of the source, debugs a workload of the source by a script, or goes
-// through every order of turns of a workload of the source.
-fn run_command<S: Source, K: Sink, P: Progress>(
+/// Does the command, which is not `threads`: it runs a workload of the source or a generated one and writes its trace to the
+/// sink, writes a workload of the source anew, judges a trace of the source, debugs a workload of the source by a script, or goes
+/// through every order of turns of a workload of the source, and is told how far that has come. It always returns.
+pub fn run_one<S: Source, K: Sink, P: Progress>(
     alloc: Global,
     command: Option<Command>,
     source: &mut S,

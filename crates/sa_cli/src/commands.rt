@@ -3,7 +3,7 @@ ghost use Rattle.std.specs.Prelude.{◌≡◌, ◌⊎◌, ◌+◌, ℕ, ◌≤�
 ghost use Rattle.sa_sched.specs.Kind.{order_of, AreAmong};
 ghost use Rattle.sa_cli.specs.Outcome.{history, RanHere, WritesNothing};
 ghost use Rattle.sa_run.specs.Run.{RunsTo, RunsUnended};
-ghost use Rattle.sa_cli.specs.declared.limits.TheConstants.{INPUT_LIMIT, TEXTS_LIMIT};
+ghost use Rattle.sa_input.specs.declared.limits.TheConstants.{WORKLOAD_LIMIT, TRACE_LIMIT};
 ghost use Rattle.sa_cli.specs.Schedules.{order_by};
 ghost use Rattle.sa_cli.specs.Packages.{runs_of, rules_by};
 ghost use Rattle.sa_cli.specs.Answers.{world};
@@ -39,7 +39,7 @@ pub(crate) fn run_text<S: Source, K: Sink>(
     requires some { 1 ≤ budget }
     requires few { budget ≤ MAX_EVENTS }
     ensures here { RanHere result.ran }
-    ensures uses { UsesStreams (world_by S.left K.taken S.faults K.faults) (INPUT_LIMIT + 1)
+    ensures uses { UsesStreams (world_by S.left K.taken S.faults K.faults) (WORKLOAD_LIMIT + 1)
         (streams source.old sink.old) (streams source.new sink.new) result.status }
     ensures answers { let told = world_by S.left K.taken S.faults K.faults in
         AnswersRun (run_plan schedule budget user_level) (told (streams source.old sink.old))
@@ -115,7 +115,7 @@ pub(crate) fn migrate<S: Source, K: Sink>(
     sink: &mut K,
 ) -> Status
     requires { slice ≤ MAX_SLICE }
-    ensures uses { UsesStreams (world_by S.left K.taken S.faults K.faults) (INPUT_LIMIT + 1)
+    ensures uses { UsesStreams (world_by S.left K.taken S.faults K.faults) (WORKLOAD_LIMIT + 1)
         (streams source.old sink.old) (streams source.new sink.new) result }
     ensures answers { let told = world_by S.left K.taken S.faults K.faults in
         MigrateAnswers slice (told (streams source.old sink.old))
@@ -135,7 +135,7 @@ pub(crate) fn check_texts<S: Source, K: Sink>(
     source: &mut S,
     sink: &mut K,
 ) -> Status
-    ensures uses { UsesStreams (world_by S.left K.taken S.faults K.faults) (TEXTS_LIMIT + 1)
+    ensures uses { UsesStreams (world_by S.left K.taken S.faults K.faults) (TRACE_LIMIT + 1)
         (streams source.old sink.old) (streams source.new sink.new) result }
     ensures answers { let told = world_by S.left K.taken S.faults K.faults in
         CheckAnswers (rules_by user_level) (told (streams source.old sink.old))

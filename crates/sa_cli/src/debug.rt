@@ -3,7 +3,7 @@ ghost use Rattle.std.specs.Prelude.{◌≡◌, ◌+◌, ◌≤◌, ◌++◌, IfO
 ghost use Rattle.std.specs.Io.KnownBytes.{Appends};
 ghost use Rattle.sa_io.specs.Faults.{HasRisen, AppendsPrefix};
 ghost use Rattle.sa_trace.specs.TraceText.{trace_text};
-ghost use Rattle.sa_cli.specs.declared.limits.TheConstants.{SCRIPTS_LIMIT};
+ghost use Rattle.sa_input.specs.declared.limits.TheConstants.{SCRIPT_LIMIT};
 ghost use Rattle.sa_cli.specs.declared.outcome.Ran.TheVariants.{Plain};
 ghost use Rattle.sa_cli.specs.Answers.{Writes};
 ghost use Rattle.sa_cli.specs.Streams.{UsesStreams, streams, world_by};
@@ -11,14 +11,12 @@ ghost use Rattle.sa_cli.specs.Debugging.{AnswersDebug};
 ghost use Rattle.sa_cli.specs.Outcome.{RanHere, WritesNothing};
 ghost use Rattle.sa_cli.specs.Scripted.{IsDone, IsStopped};
 
-use crate::limits::SCRIPTS_LIMIT;
 use crate::outcome::{Outcome, Status};
 use crate::output::put_run;
-use crate::reading::refusal_of_long;
 use crate::session::{Debugged, Undebugged, debug};
-use crate::texts::parts_of;
 use crate::writing::status_of;
 use sa_base::{Bad, End, Item, MAX_EVENTS, Trace, Unread};
+use sa_input::{SCRIPT_LIMIT, parts_of, refusal_of_long};
 use sa_io::{Failed, Pieces, Sink, Source, read_input};
 use std::alloc::Global;
 
@@ -44,13 +42,13 @@ pub(crate) fn debug_texts<S: Source, K: Sink>(
     requires some { 1 ≤ budget }
     requires few { budget ≤ MAX_EVENTS }
     ensures here { RanHere result.ran }
-    ensures uses { UsesStreams (world_by S.left K.taken S.faults K.faults) (SCRIPTS_LIMIT + 1)
+    ensures uses { UsesStreams (world_by S.left K.taken S.faults K.faults) (SCRIPT_LIMIT + 1)
         (streams source.old sink.old) (streams source.new sink.new) result.status }
     ensures answers { let told = world_by S.left K.taken S.faults K.faults in
         AnswersDebug budget (told (streams source.old sink.old))
         (told (streams source.new sink.new)) result.ran result.status }
 {
-    let input = match read_input(alloc, SCRIPTS_LIMIT, source) {
+    let input = match read_input(alloc, SCRIPT_LIMIT, source) {
         Ok(input) => input,
         Err(error) => return Outcome::nothing(Status::from(error)),
     };
@@ -69,8 +67,8 @@ fn debugged(alloc: Global, input: &[u8], budget: u64) -> Result<Debugged, Stoppe
     ensures ok { IfOk result (λ x. IsDone budget input.now x.replies.items x.trace.items x.end x.events) }
     ensures err { IfErr result (IsStopped budget input.now) }
 {
-    if input.len() > SCRIPTS_LIMIT {
-        return Err(Stopped::BadScript(refusal_of_long(SCRIPTS_LIMIT, input)));
+    if input.len() > SCRIPT_LIMIT {
+        return Err(Stopped::BadScript(refusal_of_long(SCRIPT_LIMIT, input)));
     }
     match parts_of(alloc, input) {
         Ok((workload, second)) => match debug(alloc, workload, second, budget) {

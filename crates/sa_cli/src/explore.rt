@@ -5,7 +5,7 @@ ghost use Rattle.sa_states.specs.declared.TheConstants.{MAX_STATES};
 ghost use Rattle.sa_workload_lines.specs.Bad.{BadAt};
 ghost use Rattle.sa_io.specs.Input.{LosesAtMost};
 ghost use Rattle.sa_explore_run.specs.Answer.{AreWithin};
-ghost use Rattle.sa_cli.specs.declared.limits.TheConstants.{INPUT_LIMIT};
+ghost use Rattle.sa_input.specs.declared.limits.TheConstants.{WORKLOAD_LIMIT};
 ghost use Rattle.sa_cli.specs.Refusals.{NothingRead};
 ghost use Rattle.sa_cli.specs.Streams.{UsesStreams, streams, world_by};
 ghost use Rattle.sa_cli.specs.Exploring.{Finds, found_by, told_text, IsReadyText, finding_of, GaveExplored, ExploreAnswers};
@@ -44,7 +44,7 @@ pub(crate) fn explore_text<S: Source, K: Sink, P: Progress>(
 ) -> Status
     requires some { 1 ≤ states }
     requires few { states ≤ MAX_STATES }
-    ensures uses { UsesStreams (world_by S.left K.taken S.faults K.faults) (INPUT_LIMIT + 1)
+    ensures uses { UsesStreams (world_by S.left K.taken S.faults K.faults) (WORKLOAD_LIMIT + 1)
         (streams source.old sink.old) (streams source.new sink.new) result }
     ensures answers { let told = world_by S.left K.taken S.faults K.faults in
         ExploreAnswers states user_level give (told (streams source.old sink.old))
@@ -71,7 +71,7 @@ fn gone_through<S: Source, P: Progress>(
         (S.left source.old) (S.left source.new) told.text.items told.finding) }
     ensures err { IfErr result
         (NothingRead BadAt (S.left source.old) (S.faults source.old) (S.faults source.new)) }
-    ensures lost { LosesAtMost (INPUT_LIMIT + 1) (S.left source.old) (S.left source.new) }
+    ensures lost { LosesAtMost (WORKLOAD_LIMIT + 1) (S.left source.old) (S.left source.new) }
     ensures counted { S.faults source.old ≤ S.faults source.new }
 {
     let workload = read_workload(alloc, source)?;

@@ -3,14 +3,12 @@
 ghost use Rattle.std.specs.Prelude.{◌+◌, ◌≤◌, IfOk, IsErrOf};
 ghost use Rattle.sa_io.specs.Faults.{HasRisen};
 ghost use Rattle.sa_io.specs.Input.{LosesAtMost};
-ghost use Rattle.sa_cli.specs.declared.limits.TheConstants.{TEXTS_LIMIT};
+ghost use Rattle.sa_input.specs.declared.limits.TheConstants.{TRACE_LIMIT};
 ghost use Rattle.sa_cli.specs.Texts.{IsFound, GaveFound};
 
-use crate::limits::TEXTS_LIMIT;
-use crate::reading::refusal_of_long;
-use crate::texts::parts_of;
 use sa_base::{Bad, Unread};
 use sa_check::{Rules, Verdict, check};
+use sa_input::{TRACE_LIMIT, parts_of, refusal_of_long};
 use sa_io::{ReadError, Source, read_input};
 use std::alloc::{AllocError, Global};
 
@@ -34,10 +32,10 @@ pub(crate) fn read_found<S: Source>(
     ensures found { IfOk result (GaveFound rules (S.left source.old) (S.left source.new)) }
     ensures fault { IsErrOf result ReadError.Fault
         → HasRisen (S.faults source.old) (S.faults source.new) }
-    ensures lost { LosesAtMost (TEXTS_LIMIT + 1) (S.left source.old) (S.left source.new) }
+    ensures lost { LosesAtMost (TRACE_LIMIT + 1) (S.left source.old) (S.left source.new) }
     ensures counted { S.faults source.old ≤ S.faults source.new }
 {
-    let input = read_input(alloc, TEXTS_LIMIT, source)?;
+    let input = read_input(alloc, TRACE_LIMIT, source)?;
     let found = found_in(alloc, rules, &input)?;
     Ok(found)
 }
@@ -46,8 +44,8 @@ pub(crate) fn read_found<S: Source>(
 fn found_in(alloc: Global, rules: Rules, input: &[u8]) -> Result<Found, AllocError>
     ensures { IfOk result (IsFound rules input.now) }
 {
-    if input.len() > TEXTS_LIMIT {
-        return Ok(Found::BadTrace(refusal_of_long(TEXTS_LIMIT, input)));
+    if input.len() > TRACE_LIMIT {
+        return Ok(Found::BadTrace(refusal_of_long(TRACE_LIMIT, input)));
     }
     let (workload, second) = match parts_of(alloc, input) {
         Ok(parts) => parts,

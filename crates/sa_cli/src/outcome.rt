@@ -1,10 +1,10 @@
 ghost use Rattle.std.specs.Prelude.{◌≡◌};
-ghost use Rattle.sa_cli.specs.Outcome.{code_of, status_of, status_of_end, status_of_unread, status_of_verdict};
+ghost use Rattle.sa_cli.specs.Outcome.{code_of, status_of, status_of_end, status_of_no_words, status_of_unread, status_of_verdict};
 ghost use Rattle.sa_cli.specs.declared.outcome.Status.TheVariants.{OutOfMemory};
 
 use sa_base::{Bad, End, Trace, Unread};
 use sa_check::Verdict;
-use sa_io::ReadError;
+use sa_io::{NoWords, ReadError};
 use sa_laws::Rule;
 use sa_seat::Closed;
 use std::alloc::AllocError;
@@ -64,6 +64,17 @@ impl From<ReadError> for Status {
         match error {
             ReadError::Fault => Status::ReadFault,
             ReadError::OutOfMemory => Status::OutOfMemory,
+        }
+    }
+}
+
+impl From<NoWords> for Status {
+    ghost from_gives = { λ why status. status ≡ status_of_no_words why };
+
+    fn from(why: NoWords) -> Self {
+        match why {
+            NoWords::NoText => Status::Usage,
+            NoWords::OutOfMemory => Status::OutOfMemory,
         }
     }
 }

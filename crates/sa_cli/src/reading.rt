@@ -1,19 +1,17 @@
 // Workloads of the source.
-ghost use Rattle.std.specs.Prelude.{◌≡◌, ◌+◌, ◌≤◌, length as len, IfOk, IfErr};
+ghost use Rattle.std.specs.Prelude.{◌+◌, ◌≤◌, IfOk, IfErr};
 ghost use Rattle.sa_workload_lines.specs.Text.{IsText};
 ghost use Rattle.sa_workload_lines.specs.Bad.{BadAt, BadAt1};
-ghost use Rattle.sa_workload.specs.Answer.{IfBad};
 ghost use Rattle.sa_io.specs.Input.{LosesAtMost};
 ghost use Rattle.sa_cli.specs.Input.{GaveText, GaveSliced};
-ghost use Rattle.sa_cli.specs.Refusals.{too_long, IsInputRefused, NothingRead};
+ghost use Rattle.sa_cli.specs.Refusals.{NothingRead};
 
-use crate::limits::INPUT_LIMIT;
 use crate::outcome::Status;
-use sa_base::{Bad, Cause, Unread};
+use sa_input::{WORKLOAD_LIMIT, refusal_of_long, workload_of};
 use sa_instr::MAX_SLICE;
 use sa_io::{Source, read_input};
 use sa_spaces::Workload;
-use sa_workload::{print, read, read_one};
+use sa_workload::{print, read_one};
 use std::alloc::Global;
 
 /// The workload of the source.
@@ -21,23 +19,12 @@ pub(crate) fn read_workload<S: Source>(alloc: Global, source: &mut S) -> Result<
     ensures ok { IfOk result (GaveText IsText (S.left source.old) (S.left source.new)) }
     ensures err { IfErr result
         (NothingRead BadAt (S.left source.old) (S.faults source.old) (S.faults source.new)) }
-    ensures lost { LosesAtMost (INPUT_LIMIT + 1) (S.left source.old) (S.left source.new) }
+    ensures lost { LosesAtMost (WORKLOAD_LIMIT + 1) (S.left source.old) (S.left source.new) }
     ensures counted { S.faults source.old ≤ S.faults source.new }
 {
-    let input = read_input(alloc, INPUT_LIMIT, source)?;
+    let input = read_input(alloc, WORKLOAD_LIMIT, source)?;
     let workload = workload_of(alloc, &input)?;
     Ok(workload)
-}
-
-/// The workload of a text.
-pub(crate) fn workload_of(alloc: Global, text: &[u8]) -> Result<Workload, Unread>
-    ensures ok { IfOk result (λ w. (len text.now ≤ INPUT_LIMIT) × IsText text.now w) }
-    ensures err { IfErr result (λ unread. IfBad unread (IsInputRefused BadAt text.now)) }
-{
-    if text.len() > INPUT_LIMIT {
-        return Err(Unread::Bad(refusal_of_long(INPUT_LIMIT, text)));
-    }
-    read(alloc, text)
 }
 
 /// The text of the source's workload, which is a text of version 1, with this slice, at most 1,000,000.
@@ -51,25 +38,15 @@ pub(crate) fn migrated_text<S: Source>(
         (λ text. GaveSliced slice (S.left source.old) (S.left source.new) text.items) }
     ensures err { IfErr result
         (NothingRead BadAt1 (S.left source.old) (S.faults source.old) (S.faults source.new)) }
-    ensures lost { LosesAtMost (INPUT_LIMIT + 1) (S.left source.old) (S.left source.new) }
+    ensures lost { LosesAtMost (WORKLOAD_LIMIT + 1) (S.left source.old) (S.left source.new) }
     ensures counted { S.faults source.old ≤ S.faults source.new }
 {
-    let input = read_input(alloc, INPUT_LIMIT, source)?;
-    if input.len() > INPUT_LIMIT {
-        return Err(Status::BadWorkload(refusal_of_long(INPUT_LIMIT, &input)));
+    let input = read_input(alloc, WORKLOAD_LIMIT, source)?;
+    if input.len() > WORKLOAD_LIMIT {
+        return Err(Status::BadWorkload(refusal_of_long(WORKLOAD_LIMIT, &input)));
     }
     let workload = read_one(alloc, &input)?;
     let sliced = workload.with_slice(slice).unwrap();
     let text = print(alloc, &sliced)?;
     Ok(text)
-}
-
-/// What an input is refused with that is longer than a limit.
-#[tactic(auto, unfolding(crate::specs::Refusals::too_long))]
-pub(crate) fn refusal_of_long(limit: usize, input: &[u8]) -> Bad
-    requires { limit ≤ len input.now }
-    ensures { result ≡ too_long limit input.now }
-{
-    let before = input[..limit].iter().filter(|byte| **byte == b'\n').count();
-    Bad::new(before as u64 + 1, Cause::TooMany)
 }

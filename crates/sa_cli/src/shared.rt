@@ -1,7 +1,7 @@
 // The command `threads`.
 ghost use Rattle.std.specs.Prelude.{◌≡◌, ◌+◌, ◌≤◌, sum};
 ghost use Rattle.sa_base.specs.declared.limits.TheConstants.{MAX_BURST, MAX_EVENTS};
-ghost use Rattle.sa_cli.specs.declared.limits.TheConstants.{INPUT_LIMIT};
+ghost use Rattle.sa_input.specs.declared.limits.TheConstants.{WORKLOAD_LIMIT};
 ghost use Rattle.sa_cli.specs.Outcome.{RanShared, WritesNothing};
 ghost use Rattle.sa_cli.specs.Streams.{UsesStreams, streams, world_by};
 ghost use Rattle.sa_cli.specs.Shared.{WritesClosed, AnswersThreads};
@@ -33,7 +33,7 @@ pub(crate) fn run_shared<S: Source, K: Sink, G: Gate, R: Threads + Wait + Sync>(
     requires some_burst { 1 ≤ limits.burst }
     requires few_burst { limits.burst ≤ MAX_BURST }
     ensures shared { RanShared result.ran }
-    ensures uses { UsesStreams (world_by S.left K.taken S.faults K.faults) (INPUT_LIMIT + 1)
+    ensures uses { UsesStreams (world_by S.left K.taken S.faults K.faults) (WORKLOAD_LIMIT + 1)
         (streams source.old sink.old) (streams source.new sink.new) result.status }
     ensures answers { let told = world_by S.left K.taken S.faults K.faults in
         AnswersThreads limits.budget (told (streams source.old sink.old))

@@ -3,7 +3,7 @@ ghost use Rattle.std.specs.Prelude.{◌≡◌, ◌+◌, ◌≤◌, length, OnOk,
 ghost use Rattle.std.specs.Io.KnownBytes.{Appends};
 ghost use Rattle.sa_base.specs.declared.limits.TheConstants.{MAX_SPACES};
 ghost use Rattle.sa_io.specs.Faults.{HasRisen, AppendsPrefix};
-ghost use Rattle.sa_cli.specs.declared.limits.TheConstants.{INPUT_LIMIT};
+ghost use Rattle.sa_input.specs.declared.limits.TheConstants.{WORKLOAD_LIMIT};
 ghost use Rattle.sa_cli.specs.Outcome.{history, status_of_end, RanHere, WritesNothing};
 ghost use Rattle.sa_cli.specs.Answers.{Writes};
 ghost use Rattle.sa_cli.specs.Streams.{UsesStreams, streams, world_by};
@@ -34,7 +34,7 @@ pub(crate) fn run_virtual<S: Source, K: Sink>(
     requires some { 1 ≤ budget }
     requires few { budget ≤ MAX_EVENTS }
     ensures here { RanHere result.ran }
-    ensures uses { UsesStreams (world_by S.left K.taken S.faults K.faults) (INPUT_LIMIT + 1)
+    ensures uses { UsesStreams (world_by S.left K.taken S.faults K.faults) (WORKLOAD_LIMIT + 1)
         (streams source.old sink.old) (streams source.new sink.new) result.status }
     ensures answers { let told = world_by S.left K.taken S.faults K.faults in
         AnswersVp schedule budget (told (streams source.old sink.old))

@@ -11,9 +11,7 @@ mod read;
 mod threads;
 mod value;
 mod vp;
-mod words;
 
 pub use command::{Command, GiveWord, PackageWord, ScheduleWord};
 pub use explore::DEFAULT_STATES;
 pub use read::read_words;
-pub use words::Words;

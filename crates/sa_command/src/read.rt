@@ -9,8 +9,8 @@ use crate::options::{NO_OPTIONS, Options, read_options};
 use crate::threads::read_threads;
 use crate::value::read_within;
 use crate::vp::read_vp;
-use crate::words::Words;
 use sa_base::{DEFAULT_BUDGET, MAX_EVENTS};
+use sa_io::Words;
 use sa_text::read_number;
 
 /// The command that the words are: `None` exactly where they are none. It cannot fail for want of memory.

@@ -4,3 +4,5 @@ pub mod Supply
 pub mod Store
 pub mod Adapted
 pub mod Pieces
+pub mod Words
+pub mod Streams

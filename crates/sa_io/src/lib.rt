@@ -6,9 +6,11 @@ mod input;
 mod memory;
 mod pieces;
 mod traits;
+mod words;
 
 pub use adapters::{StdSink, StdSource};
 pub use input::{ReadError, read_input};
 pub use memory::{MemSink, MemSource};
 pub use pieces::{PIECE, Pieces, write_text};
 pub use traits::{Failed, Sink, Source};
+pub use words::{NoWords, Words};

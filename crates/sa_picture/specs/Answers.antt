@@ -3,26 +3,17 @@ use Rattle.std.specs.Prelude.{⊤, ℕ, List, Option, Some, None}
 use Rattle.std.specs.Io.KnownBytes.{Appends}
 use Rattle.sa_io.specs.Faults.{HasRisen, AppendsPrefix}
 use Rattle.sa_io.specs.Input.{ReadsInput}
-use Rattle.sa_picture.specs.declared.text.TheConstants.{INPUT_LIMIT}
+use Rattle.sa_io.specs.Streams.{World}
+use Rattle.sa_input.specs.declared.limits.TheConstants.{TRACE_LIMIT}
 use Rattle.sa_picture.specs.declared.request.Request.{Request}
 use Rattle.sa_picture.specs.declared.status.Status.{Status}
 use Rattle.sa_picture.specs.declared.status.Status.TheVariants.{Drawn, Usage, ReadFault, WriteFault, OutOfMemory}
 use Rattle.sa_picture.specs.Paged.{IsWritten, IsNotWritten}
 
--- what source and sink tell: what is left, what was taken, and how many reads and writes failed
-pub record World : Type 0 where
-  pub left : Option (List ℕ)
-  pub taken : Option (List ℕ)
-  pub reads : ℕ
-  pub writes : ℕ
-
-abbrev pub world : Option (List ℕ) → Option (List ℕ) → ℕ → ℕ → World
-world left taken reads writes = record { left = left; taken = taken; reads = reads; writes = writes }
-
 -- the source gave an input, and the text that is asked for of it went to the sink in this way
 pub record Draws (r : Request) (old new : World) (goes : List ℕ → Type 0) : Type 0 where
   pub input : List ℕ
-  pub reads : ReadsInput INPUT_LIMIT old.left new.left input
+  pub reads : ReadsInput TRACE_LIMIT old.left new.left input
   pub text : List ℕ
   pub drawn : IsWritten r input text
   pub went : goes text
@@ -30,7 +21,7 @@ pub record Draws (r : Request) (old new : World) (goes : List ℕ → Type 0) : 
 -- the source gave an input of which nothing is written, for the cause that the status says
 pub record Refuses (r : Request) (old new : World) (status : Status) : Type 0 where
   pub input : List ℕ
-  pub reads : ReadsInput INPUT_LIMIT old.left new.left input
+  pub reads : ReadsInput TRACE_LIMIT old.left new.left input
   pub cause : IsNotWritten r input status
 
 abbrev pub Answers : Request → World → World → Status → Type 0

@@ -9,7 +9,7 @@ use Rattle.sa_svg.specs.declared.layout.Layout.{Layout}
 use Rattle.sa_svg.specs.Layout.{unit_of, layout_by}
 use Rattle.sa_svg.specs.Drawing.{file_text}
 use Rattle.sa_trace.specs.Reading.{Told, read_of}
-use Rattle.sa_picture.specs.declared.text.TheConstants.{INPUT_LIMIT}
+use Rattle.sa_input.specs.declared.limits.TheConstants.{TRACE_LIMIT}
 use Rattle.sa_trace_events.specs.Whole.{can_be_shown, events_text}
 use Rattle.sa_picture.specs.declared.request.Drawing.{Drawing}
 use Rattle.sa_picture.specs.declared.request.Drawing.TheVariants.{Picture, Events}
@@ -67,14 +67,14 @@ IsNoneFor Events r items = can_be_shown items ≡ false
 
 -- these bytes are the text of the picture or of the trace events of the trace of which the input is the text
 pub record IsDrawn (d : Drawing) (r : Request) (input : List ℕ) (text : List ℕ) : Type 0 where
-  pub short : length input ≤ INPUT_LIMIT
+  pub short : length input ≤ TRACE_LIMIT
   pub told : Told
   pub read : read_of (trace_part input) ≡ Ok told
   pub drawn : IsTextFor d r told.items text
 
 -- there is too much to draw of the trace of which the input is the text
 pub record IsTooMuch (d : Drawing) (r : Request) (input : List ℕ) : Type 0 where
-  pub short : length input ≤ INPUT_LIMIT
+  pub short : length input ≤ TRACE_LIMIT
   pub told : Told
   pub read : read_of (trace_part input) ≡ Ok told
   pub none : IsNoneFor d r told.items

@@ -4,6 +4,8 @@ use Rattle.sa_picture.specs.declared.status.Status.{Status}
 use Rattle.sa_picture.specs.declared.status.Status.TheVariants.{Drawn, Usage, BadWorkload, ReadFault, WriteFault, OutOfMemory, BadTrace, TooMuch}
 use Rattle.sa_io.specs.declared.input.ReadError.{ReadError}
 use Rattle.sa_io.specs.declared.input.ReadError.TheVariants as read
+use Rattle.sa_io.specs.declared.words.NoWords.{NoWords}
+use Rattle.sa_io.specs.declared.words.NoWords.TheVariants as words
 
 -- the exit status of the program
 abbrev pub code_of : Status → ℕ
@@ -20,6 +22,11 @@ code_of TooMuch = 10
 abbrev pub status_of : ReadError → Status
 status_of read.Fault = ReadFault
 status_of read.OutOfMemory = OutOfMemory
+
+-- the status of arguments that are no words
+abbrev pub status_of_no_words : NoWords → Status
+status_of_no_words words.NoText = Usage
+status_of_no_words words.OutOfMemory = OutOfMemory
 
 -- the statuses with which nothing is written
 abbrev pub WritesNothing : Status → Type 0

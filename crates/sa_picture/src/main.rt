@@ -4,7 +4,6 @@
 
 mod losses;
 mod paged;
-mod parts;
 mod request;
 mod status;
 mod text;
@@ -12,34 +11,18 @@ mod top;
 
 use sa_io::{StdSink, StdSource};
 use status::Status;
-use std::env;
-use std::io::{self, ErrorKind};
 use std::process::ExitCode;
-use std::rt::Env;
-use top::top;
+use std::{env, io};
+use top::draw_program;
 
 fn main(rt: HostRuntime) -> ExitCode {
-    let status = match read_command_line(&rt) {
-        Ok(words) => {
-            let mut source = StdSource::new(rt.reader());
-            let mut sink = StdSink::new(io::writer(&rt));
-            top(rt.alloc(), &words, &mut source, &mut sink)
-        }
-        Err(status) => status,
-    };
+    let args = env::args(&rt);
+    let mut source = StdSource::new(rt.reader());
+    let mut sink = StdSink::new(io::writer(&rt));
+    let status = draw_program(rt.alloc(), args, &mut source, &mut sink);
     // Where standard error takes nothing, the exit status still tells.
     let _ = report(&rt, status);
     ExitCode::from(status.code())
-}
-
-/// The words after the program's name. One that is no text is no word of a request.
-fn read_command_line(rt: &(impl Env + AllocGlobal)) -> Result<Vec<String>, Status> {
-    let words = env::args(rt).map_err(|error| match error.kind() {
-        ErrorKind::OutOfMemory => Status::OutOfMemory,
-        _ => Status::Usage,
-    })?;
-    let list = words.skip(1).collect(rt.alloc());
-    list.map_err(|_| Status::OutOfMemory)
 }
 
 /// Says on standard error why nothing was drawn.

@@ -1,13 +1,13 @@
 // What is written for a request: what is drawn of a trace, or the page of a workload and its trace.
 ghost use Rattle.std.specs.Prelude.{IfOk, IfErr};
-ghost use Rattle.sa_picture.specs.declared.text.TheConstants.{INPUT_LIMIT};
+ghost use Rattle.sa_input.specs.declared.limits.TheConstants.{TRACE_LIMIT};
 ghost use Rattle.sa_picture.specs.Paged.{IsWritten, IsNotWritten, IsPaged, IsNotPaged};
 
-use crate::parts::parts_of;
 use crate::request::{Form, Request};
 use crate::status::Status;
-use crate::text::{INPUT_LIMIT, drawn, refusal_of_long};
+use crate::text::drawn;
 use sa_base::Unread;
+use sa_input::{TRACE_LIMIT, parts_of, refusal_of_long};
 use sa_page::{PageError, Rules, page_of};
 use std::alloc::Global;
 
@@ -27,8 +27,8 @@ fn page_in(alloc: Global, rules: Rules, input: &[u8]) -> Result<Vec<u8>, Status>
     ensures ok { IfOk result (λ text. IsPaged rules input.now text.items) }
     ensures err { IfErr result (IsNotPaged input.now) }
 {
-    if input.len() > INPUT_LIMIT {
-        return Err(Status::BadTrace(refusal_of_long(INPUT_LIMIT, input)));
+    if input.len() > TRACE_LIMIT {
+        return Err(Status::BadTrace(refusal_of_long(TRACE_LIMIT, input)));
     }
     match parts_of(alloc, input) {
         Ok((workload, second)) => match page_of(alloc, rules, &workload, second) {

@@ -1,9 +1,9 @@
 // How the program ends.
 ghost use Rattle.std.specs.Prelude.{◌≡◌};
-ghost use Rattle.sa_picture.specs.Status.{code_of, status_of};
+ghost use Rattle.sa_picture.specs.Status.{code_of, status_of, status_of_no_words};
 
 use sa_base::Bad;
-use sa_io::ReadError;
+use sa_io::{NoWords, ReadError};
 
 /// How the top call ended. `code` is the program's exit status.
 #[derive(Clone, Copy)]
@@ -24,6 +24,17 @@ pub enum Status {
     BadTrace(Bad),
     /// There is more to draw than a picture or a page may have.
     TooMuch,
+}
+
+impl From<NoWords> for Status {
+    ghost from_gives = { λ why status. status ≡ status_of_no_words why };
+
+    fn from(why: NoWords) -> Self {
+        match why {
+            NoWords::NoText => Status::Usage,
+            NoWords::OutOfMemory => Status::OutOfMemory,
+        }
+    }
 }
 
 impl From<ReadError> for Status {

@@ -1,20 +1,17 @@
 // From a trace text to the text of its picture, or of its trace events.
-ghost use Rattle.std.specs.Prelude.{◌≡◌, ◌≤◌, length, None, MatchOption, IfOk, IfErr};
-ghost use Rattle.sa_picture.specs.Refusal.{too_long};
+ghost use Rattle.std.specs.Prelude.{◌≡◌, None, MatchOption, IfOk, IfErr};
 ghost use Rattle.sa_picture.specs.Drawn.{first_event, last_event, window_of, drawn_window, HasText, IsTextFor, IsNoneFor, IsDrawn, IsNotDrawn};
 
 use crate::losses::trace_part;
 use crate::request::{Drawing, Request};
 use crate::status::Status;
-use sa_base::{Bad, Cause, Item, Unread};
+use sa_base::{Item, Unread};
+use sa_input::{TRACE_LIMIT, refusal_of_long};
 use sa_shapes::{Window, draw};
 use sa_svg::print;
 use sa_trace::read;
 use sa_trace_events::print_events;
 use std::alloc::{AllocError, Global};
-
-/// The longest trace text that is read, in bytes.
-pub const INPUT_LIMIT: usize = 134_217_728;
 
 /// The text of the picture of the trace of which this is the text, or of its trace events.
 pub(crate) fn drawn(
@@ -26,8 +23,8 @@ pub(crate) fn drawn(
     ensures ok { IfOk result (λ text. IsDrawn drawing request input.now text.items) }
     ensures err { IfErr result (IsNotDrawn drawing request input.now) }
 {
-    if input.len() > INPUT_LIMIT {
-        return Err(Status::BadTrace(refusal_of_long(INPUT_LIMIT, input)));
+    if input.len() > TRACE_LIMIT {
+        return Err(Status::BadTrace(refusal_of_long(TRACE_LIMIT, input)));
     }
     match read(alloc, trace_part(input)) {
         Ok(text) => match text_of(alloc, drawing, request, text.trace.items()) {
@@ -99,14 +96,4 @@ fn last_event(items: &[Item]) -> u64
         None => 0,
         Some(item) => item.event,
     }
-}
-
-/// What an input is refused with that is longer than a limit.
-#[tactic(auto, unfolding(crate::specs::Refusal::too_long))]
-pub(crate) fn refusal_of_long(limit: usize, input: &[u8]) -> Bad
-    requires { limit ≤ length input.now }
-    ensures { result ≡ too_long limit input.now }
-{
-    let before = input[..limit].iter().filter(|byte| **byte == b'\n').count();
-    Bad::new(before as u64 + 1, Cause::TooMany)
 }

@@ -1,5 +1,5 @@
 use Rattle.std.proofs.Common.{ℕ, List, subst, sym}
-use Rattle.sa_cli.specs.declared.limits.TheConstants.{SCRIPTS_LIMIT}
+use Rattle.sa_input.specs.declared.limits.TheConstants.{SCRIPT_LIMIT}
 use Rattle.sa_cli.specs.Streams.{streams, world_by}
 use Rattle.sa_io.specs.Input.{ReadsInput}
 use Rattle.sa_cli.proofs.Sessions.{over-answers, script-answers}
@@ -13,7 +13,7 @@ returns-in-Ok-debugged-clause-answers g c =
     (told (streams c.read_input.new.source c.write_session.new.sink))
     c.deref.result.now c.in-Ok-debugged.debugged.replies.items c.in-Ok-debugged.debugged.trace c.in-Ok-debugged.debugged.end c.in-Ok-debugged.debugged.events
     c.write_session.result.ran c.write_session.result.status
-    (subst (λ (v : List ℕ). ReadsInput SCRIPTS_LIMIT (g.S.Source.left c.args.source.now) (g.S.Source.left c.read_input.new.source) v)
+    (subst (λ (v : List ℕ). ReadsInput SCRIPT_LIMIT (g.S.Source.left c.args.source.now) (g.S.Source.left c.read_input.new.source) v)
     (sym c.deref.ensures.value) c.in-Ok.ensures.input)
     c.in-Ok-debugged.ensures.ok c.write_session.ensures.ran c.write_session.ensures.status
 
@@ -25,6 +25,6 @@ returns-in-Err-BadScript-clause-answers g c =
     (told (streams c.args.source.now c.args.sink.now))
     (told (streams c.read_input.new.source c.args.sink.now))
     c.deref.result.now c.in-Err-BadScript.bad c.nothing-in-Err-BadScript.result.ran c.nothing-in-Err-BadScript.result.status
-    (subst (λ (v : List ℕ). ReadsInput SCRIPTS_LIMIT (g.S.Source.left c.args.source.now) (g.S.Source.left c.read_input.new.source) v)
+    (subst (λ (v : List ℕ). ReadsInput SCRIPT_LIMIT (g.S.Source.left c.args.source.now) (g.S.Source.left c.read_input.new.source) v)
     (sym c.deref.ensures.value) c.in-Ok.ensures.input)
     wrong c.nothing-in-Err-BadScript.ensures.ran c.nothing-in-Err-BadScript.ensures.status

@@ -6,10 +6,10 @@ pub returns-in-Ok-Some-clause-ok : goal.returns-in-Ok-Some-clause-ok
 returns-in-Ok-Some-clause-ok c =
     let t = c.in-Ok.text in
     let reading = subst (λ (v : List ℕ). read_of v ≡ Ok (told t.trace.items t.end t.events)) c.trace_part.ensures.part c.in-Ok.ensures in
-    record { short = omega (arith, c.if-input-gt-INPUT_LIMIT.false); told = told t.trace.items t.end t.events; read = reading; drawn = search rules }
+    record { short = omega (arith, c.if-input-gt-TRACE_LIMIT.false); told = told t.trace.items t.end t.events; read = reading; drawn = search rules }
 
 pub returns-in-Ok-None-clause-err : goal.returns-in-Ok-None-clause-err
 returns-in-Ok-None-clause-err c =
     let t = c.in-Ok.text in
     let reading = subst (λ (v : List ℕ). read_of v ≡ Ok (told t.trace.items t.end t.events)) c.trace_part.ensures.part c.in-Ok.ensures in
-    record { short = omega (arith, c.if-input-gt-INPUT_LIMIT.false); told = told t.trace.items t.end t.events; read = reading; none = search rules }
+    record { short = omega (arith, c.if-input-gt-TRACE_LIMIT.false); told = told t.trace.items t.end t.events; read = reading; none = search rules }

@@ -5,8 +5,8 @@ use Rattle.sa_workload_lines.specs.Text.{IsText}
 use Rattle.sa_workload.specs.Answer.{IfBad}
 use Rattle.sa_workload_lines.specs.Texts.{workload_part}
 use Rattle.sa_base.specs.declared.refusal.Unread.{Unread}
-use Rattle.sa_cli.specs.Refusals.{IsInputRefused}
-use Rattle.sa_cli.proofs.texts.parts_of.Goals as goal
+use Rattle.sa_input.specs.Refusals.{IsInputRefused}
+use Rattle.sa_input.proofs.parts.parts_of.Goals as goal
 
 pub returns-in_err-workload-clause-err : goal.returns-in_err-workload-clause-err
 returns-in_err-workload-clause-err c =

@@ -1,0 +1,10 @@
+// The longest inputs that are read.
+
+/// The longest workload text, in bytes.
+pub const WORKLOAD_LIMIT: usize = 1_048_576;
+
+/// The longest input with a trace text, alone or after a workload text, in bytes.
+pub const TRACE_LIMIT: usize = 134_217_728;
+
+/// The longest input of a workload text and a script, in bytes.
+pub const SCRIPT_LIMIT: usize = 2_097_152;
