@@ -13,5 +13,5 @@ mod value;
 mod vp;
 
 pub use command::{Command, GiveWord, PackageWord, ScheduleWord};
-pub use explore::DEFAULT_STATES;
+pub use explore::{DEFAULT_STATES, default_states_are_these};
 pub use read::read_words;

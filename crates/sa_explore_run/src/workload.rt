@@ -6,10 +6,10 @@ ghost use Rattle.sa_explore_run.specs.GivenText.{with_turns, turned_text, worklo
 
 use sa_base::ProcNo;
 use sa_explore_model::Found;
+use sa_input::WORKLOAD_LIMIT;
 use sa_instr::MAX_TURNS;
 use sa_spaces::{SpaceDef, Workload};
 use sa_workload::print;
-use sa_workload_lines::MAX_TEXT;
 use std::alloc::{AllocError, Global};
 
 /// The text of the workload with the schedule that was found as its turn lines, which can be read again: nothing if none was found, if it has
@@ -43,7 +43,7 @@ fn turned_text(alloc: Global, workload: &Workload, turns: &[ProcNo]) -> Result<V
     let turned = with_turns(alloc, workload, turns)?;
     turned.ranges();
     let text = print(alloc, &turned)?;
-    if text.len() > MAX_TEXT {
+    if text.len() > WORKLOAD_LIMIT {
         return Ok(Vec::new(alloc));
     }
     Ok(text)

@@ -5,6 +5,6 @@ mod limits;
 mod parts;
 mod refusal;
 
-pub use limits::{SCRIPT_LIMIT, TRACE_LIMIT, WORKLOAD_LIMIT};
+pub use limits::{SCRIPT_LIMIT, TRACE_LIMIT, WORKLOAD_LIMIT, input_limits_are_these};
 pub use parts::{parts_of, workload_of};
 pub use refusal::refusal_of_long;

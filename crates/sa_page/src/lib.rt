@@ -9,5 +9,5 @@ mod page;
 mod shell;
 mod shown;
 
-pub use page::{MAX_EVENTS, PageError, page_of};
+pub use page::{MAX_EVENTS, PageError, page_limits_are_these, page_of};
 pub use sa_check_moment::Rules;

@@ -16,6 +16,11 @@ use std::alloc::{AllocError, Global};
 /// The most events of a trace that a page shows.
 pub const MAX_EVENTS: u64 = 100_000;
 
+/// The limit of pages, by number. It does nothing.
+pub fn page_limits_are_these()
+    ensures { MAX_EVENTS ≡ 100000 }
+{}
+
 /// Why there is no page.
 #[derive(Clone, Copy)]
 pub enum PageError {

@@ -15,4 +15,4 @@ pub use extent::{Extent, MAX_LINES, measure};
 pub use look::Look;
 pub use picture::{Picture, draw};
 pub use shape::{MAX_LANES, Mark, Shape, Shown, Stretch, TOP_ROW, Track};
-pub use window::{MAX_COUNT, Window};
+pub use window::{MAX_COUNT, Window, window_limits_are_these};

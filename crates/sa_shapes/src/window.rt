@@ -5,6 +5,11 @@ ghost use Rattle.sa_shapes.specs.Window.{place, is_inside, window_to};
 /// The most events of a picture.
 pub const MAX_COUNT: u16 = 10_000;
 
+/// The limit of a window, by number. It does nothing.
+pub fn window_limits_are_these()
+    ensures { MAX_COUNT ≡ 10000 }
+{}
+
 /// The events that are drawn: `count` of them, from `from` on.
 #[derive(Clone, Copy)]
 pub struct Window {

@@ -12,6 +12,13 @@ pub const MAX_WIDTH: u64 = 1_000_000;
 
 pub const DEFAULT_WIDTH: u64 = 838;
 
+/// The widths, by number. It does nothing.
+pub fn widths_are_these()
+    ensures least { MIN_WIDTH ≡ 200 }
+    ensures greatest { MAX_WIDTH ≡ 1000000 }
+    ensures default { DEFAULT_WIDTH ≡ 838 }
+{}
+
 // The space to the left of the first event and to the right of the last one, in pixels.
 pub(crate) const SIDE: u64 = 92;
 

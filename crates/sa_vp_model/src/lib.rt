@@ -4,4 +4,4 @@
 pub mod laws;
 mod limits;
 
-pub use limits::VIRTUALS;
+pub use limits::{VIRTUALS, virtual_limits_are_these};

@@ -15,6 +15,6 @@ mod texts;
 pub use cause::Refusal;
 pub use field::{Field, Fields, MAX_FIELDS, Numbers};
 pub use numbers::{read_end, read_numbers};
-pub use printing::{MAX_TEXT, print};
+pub use printing::print;
 pub use stage::Reader;
 pub use texts::two_texts;

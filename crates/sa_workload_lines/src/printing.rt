@@ -10,9 +10,6 @@ use sa_instr::Program;
 use sa_spaces::{Evict, SpaceDef, Workload};
 use std::alloc::{AllocError, Global};
 
-/// The most bytes of a workload's text.
-pub const MAX_TEXT: usize = 1_048_576;
-
 /// The one text of the workload: version 3 where some space has a patience other than 1, else version 2
 /// where the slice is above 0, else version 1.
 ///
