@@ -5,7 +5,7 @@ use Rattle.sa_base.specs.declared.number.ThreadNo.{ThreadNo}
 use Rattle.sa_base.specs.Items.{items_at}
 use Rattle.sa_base.specs.declared.context.Seen.{Seen}
 use Rattle.sa_code.specs.declared.code.Op.{Op}
-use Rattle.sa_code.specs.declared.code.Op.TheVariants.{TakePush, Push, TakePop, Pop, Free, Leave, Yield}
+use Rattle.sa_code.specs.declared.code.Op.TheVariants.{TakePush, Push, TakePop, Pop, Free}
 use Rattle.sa_base.specs.declared.limits.TheConstants.{PACKAGE_PAGE}
 use Rattle.sa_code.specs.declared.state.PackageState.{PackageState}
 use Rattle.sa_code.specs.declared.state.Frame.{Frame}
@@ -33,27 +33,22 @@ pub record StepsAlike (c d : ℕ) (m n : Micro) : Type 0 where
 
 pushed-alike : (s : PackageState) (f : Frame) (c d : ℕ) (resident : Bool) (l : ProcNo) (t : Option ThreadNo)
     → StepsAlike c d (pushed s (at f c) resident l t) (pushed s (at f d) resident l t)
-pushed-alike s f c d false l t = record { done = refl; says = refl; state = refl; frame = f; on = false; here = refl; there = refl }
-pushed-alike s f c d true l None = record { done = refl; says = refl; state = refl; frame = f; on = false; here = refl; there = refl }
 pushed-alike s f c d true l (Some t) =
     record { done = refl; says = refl; state = refl; frame = record f { pushed = None }; on = true; here = refl; there = refl }
+pushed-alike s f c d _ l _ = record { done = refl; says = refl; state = refl; frame = f; on = false; here = refl; there = refl }
 
 popped-alike : (s : PackageState) (f : Frame) (c d : ℕ) (resident : Bool) (l : ProcNo) (t : Option ℕ)
     → StepsAlike c d (popped s (at f c) resident l t) (popped s (at f d) resident l t)
-popped-alike s f c d false l t = record { done = refl; says = refl; state = refl; frame = f; on = false; here = refl; there = refl }
-popped-alike s f c d true l None = record { done = refl; says = refl; state = refl; frame = f; on = false; here = refl; there = refl }
 popped-alike s f c d true l (Some t) =
     record { done = refl; says = refl; state = refl; frame = record f { thread = Some (thread t) }; on = true; here = refl; there = refl }
+popped-alike s f c d _ l _ = record { done = refl; says = refl; state = refl; frame = f; on = false; here = refl; there = refl }
 
 micro_at-alike : (s : PackageState) (f : Frame) (c d : ℕ) (resident : Bool) (l : ProcNo) (op : Op) → is_in_section op ≡ true
     → StepsAlike c d (micro_at s (at f c) resident l (Some op)) (micro_at s (at f d) resident l (Some op))
-micro_at-alike s f c d resident l TakePush e = absurd cc
 micro_at-alike s f c d resident l Push e = pushed-alike s f c d resident l f.pushed
-micro_at-alike s f c d resident l TakePop e = absurd cc
 micro_at-alike s f c d resident l Pop e = popped-alike s f c d resident l (chosen s.lists (takes_first s.lists f.own) l.0)
 micro_at-alike s f c d resident l Free e = record { done = refl; says = refl; state = refl; frame = f; on = true; here = refl; there = refl }
-micro_at-alike s f c d resident l Leave e = absurd cc
-micro_at-alike s f c d resident l Yield e = absurd cc
+micro_at-alike s f c d resident l _ e = absurd cc
 
 -- the step law: a place and its copy
 pub micro-alike : (s : PackageState) (f : Frame) (c d : ℕ) (pages : ℕ) → s.code ≡ package_ops → copy_at c ≡ Some d
@@ -82,13 +77,10 @@ run_of-behind s f seen more e =
 
 -- what is in a section is no end
 section-goes_on : (op : Op) → is_in_section op ≡ true → is_over (Some op) ≡ false
-section-goes_on TakePush e = absurd cc
 section-goes_on Push e = refl
-section-goes_on TakePop e = absurd cc
 section-goes_on Pop e = refl
 section-goes_on Free e = refl
-section-goes_on Leave e = absurd cc
-section-goes_on Yield e = absurd cc
+section-goes_on _ e = absurd cc
 
 stepped-paired : (c d : ℕ) (on : Bool) → copy_at c ≡ Some d → ArePaired (stepped on c) (stepped on d)
 stepped-paired c d true copy = next-paired c d copy
@@ -144,9 +136,7 @@ can_do-at s f c d (Some Push) h = (can_change-at s f c d h.0, can_push-at s f c 
 can_do-at s f c d (Some TakePop) h = has_list-at s f c d h
 can_do-at s f c d (Some Pop) h = (can_change-at s f c d h.0, record { some = h.1.some; carries = h.1.carries })
 can_do-at s f c d (Some Free) h = can_change-at s f c d h
-can_do-at s f c d (Some Leave) h = h
-can_do-at s f c d (Some Yield) h = h
-can_do-at s f c d None h = h
+can_do-at s f c d _ h = h
 
 -- so a copy asks what its section asks
 pub can_do-copied : (s : PackageState) (f : Frame) (c d : ℕ) → s.code ≡ package_ops → copy_at c ≡ Some d

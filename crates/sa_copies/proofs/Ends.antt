@@ -1,9 +1,9 @@
 -- Where the run of a section comes to its end.
-use Rattle.std.proofs.Common.{◌≡◌, ◌≢◌, ℕ, ◌+◌, Bool, true, false, List, ◌∷◌, Option, Some, None, slice_get, if◌then◌else◌, refl, ap, ◌∙◌, subst}
+use Rattle.std.proofs.Common.{◌≡◌, ◌≢◌, ℕ, ◌+◌, Bool, true, false, List, ◌∷◌, Option, Some, slice_get, if◌then◌else◌, refl, ap, ◌∙◌, subst}
 use Rattle.sa_base.specs.declared.number.ProcNo.{ProcNo}
 use Rattle.sa_base.specs.declared.context.Seen.{Seen}
 use Rattle.sa_code.specs.declared.code.Op.{Op}
-use Rattle.sa_code.specs.declared.code.Op.TheVariants.{TakePush, Push, TakePop, Pop, Free, Leave, Yield}
+use Rattle.sa_code.specs.declared.code.Op.TheVariants.{Push, Pop, Free, Leave, Yield}
 use Rattle.sa_base.specs.declared.limits.TheConstants.{PACKAGE_PAGE}
 use Rattle.sa_code.specs.declared.state.PackageState.{PackageState}
 use Rattle.sa_code.specs.declared.state.Frame.{Frame}
@@ -58,22 +58,14 @@ effect-pc s f first second more goes done free end =
 
 -- an effect is done where the package's page is resident
 effect-answer : (op : Op) (held : Bool) → is_effect (Some op) ≡ true → answer_of (Some op) held true ≡ Did
-effect-answer TakePush held e = absurd cc
 effect-answer Push held e = refl
-effect-answer TakePop held e = absurd cc
 effect-answer Pop held e = refl
-effect-answer Free held e = absurd cc
-effect-answer Leave held e = absurd cc
-effect-answer Yield held e = absurd cc
+effect-answer _ held e = absurd cc
 
 effect-goes_on : (op : Op) → is_effect (Some op) ≡ true → is_over (Some op) ≡ false
-effect-goes_on TakePush e = absurd cc
 effect-goes_on Push e = refl
-effect-goes_on TakePop e = absurd cc
 effect-goes_on Pop e = refl
-effect-goes_on Free e = absurd cc
-effect-goes_on Leave e = absurd cc
-effect-goes_on Yield e = absurd cc
+effect-goes_on _ e = absurd cc
 
 -- the frames of the package's code that a run leads to an end
 abbrev ReachesEnd : ℕ → Op → Type 0
@@ -117,15 +109,9 @@ copy-yields = at_copies (λ c d. ReachesEnd d Yield)
 -- an effect faults where the package's page is absent
 micro_at-faults : (s : PackageState) (f : Frame) (resident : Bool) (l : ProcNo) (op : Option Op) → is_effect op ≡ true → resident ≡ false
     → IsFault s f (micro_at s f resident l op)
-micro_at-faults s f true l op effect absent = absurd cc
-micro_at-faults s f false l (Some TakePush) effect absent = absurd cc
 micro_at-faults s f false l (Some Push) effect absent = record { done = refl; says = refl; state = refl; frame = refl }
-micro_at-faults s f false l (Some TakePop) effect absent = absurd cc
 micro_at-faults s f false l (Some Pop) effect absent = record { done = refl; says = refl; state = refl; frame = refl }
-micro_at-faults s f false l (Some Free) effect absent = absurd cc
-micro_at-faults s f false l (Some Leave) effect absent = absurd cc
-micro_at-faults s f false l (Some Yield) effect absent = absurd cc
-micro_at-faults s f false l None effect absent = absurd cc
+micro_at-faults s f _ l _ effect absent = absurd cc
 
 pub micro-faults : (s : PackageState) (f : Frame) (pages : ℕ) → is_effect (slice_get s.code f.pc) ≡ true → is_resident pages PACKAGE_PAGE ≡ false
     → IsFault s f (micro s f pages)
