@@ -49,8 +49,11 @@ abbrev pub held_by : Option ℕ → List ℕ
 held_by None = codes ", which nobody holds"
 held_by (Some t) = one (codes ", which thread ") t (codes " holds")
 
+abbrev pub mutex_text : Sync → ℕ → List ℕ
+mutex_text x m = numbered (codes ", for mutex ") m ++ held_by (mutex_at x m).holder
+
 abbrev pub awaited_text : Sync → Instr → List ℕ
-awaited_text x (instr.Lock m) = numbered (codes ", for mutex ") m ++ held_by (mutex_at x m).holder
+awaited_text x (instr.Lock m) = mutex_text x m
 awaited_text x (instr.Wait k) = numbered (codes ", for semaphore ") k
 awaited_text x (instr.Join r) = codes ", for the end of a thread"
 awaited_text x _ = []

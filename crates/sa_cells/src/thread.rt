@@ -5,7 +5,7 @@ ghost use Rattle.std.specs.Option.{option_map};
 ghost use Rattle.sa_workload_lines.specs.Text.{operand_word};
 ghost use Rattle.sa_sync.specs.Sync.{mutex_at};
 ghost use Rattle.sa_check_moment.specs.Seen.{seen};
-ghost use Rattle.sa_cells.specs.Thread.{operand_text, instr_text, place_text, next_text, going_text, standing_text, held_by, awaited_text, waiting_text, waits, made_text, thread_text};
+ghost use Rattle.sa_cells.specs.Thread.{operand_text, instr_text, place_text, next_text, going_text, standing_text, held_by, mutex_text, awaited_text, waiting_text, waits, made_text, thread_text};
 
 use crate::pieces::{push_numbered, push_one};
 use crate::view::View;
@@ -70,14 +70,19 @@ fn push_awaited(out: &mut Vec<u8>, sync: &SyncState, instr: Instr) -> Result<(),
     ensures { OnOk result (out.new.items ≡ out.old.items ++ awaited_text sync.now instr) }
 {
     match instr {
-        Instr::Lock(m) => {
-            push_numbered(out, b", for mutex ", u64::from(m))?;
-            push_held_by(out, holder_of(sync, m))
-        }
+        Instr::Lock(m) => push_mutex(out, sync, m),
         Instr::Wait(k) => push_numbered(out, b", for semaphore ", u64::from(k)),
         Instr::Join(_) => out.extend_from_slice(b", for the end of a thread"),
         _ => Ok(()),
     }
+}
+
+#[tactic(auto, using(std::proofs::Common::append_assoc))]
+fn push_mutex(out: &mut Vec<u8>, sync: &SyncState, m: u16) -> Result<(), AllocError>
+    ensures { OnOk result (out.new.items ≡ out.old.items ++ mutex_text sync.now m) }
+{
+    push_numbered(out, b", for mutex ", u64::from(m))?;
+    push_held_by(out, holder_of(sync, m))
 }
 
 // The thread that holds the mutex.
