@@ -19,6 +19,7 @@ use sa_explore_model::{Explored, Extent, Found};
 use sa_explore_run::{Answer, explored_text, search, workload_text};
 use sa_io::{Sink, Source};
 use sa_package::FastThreads;
+use sa_package_runs::laws::left_threads_wait;
 use sa_package_runs::sessions::{fast_threads_can_be_debugged, prio_threads_can_be_debugged};
 use sa_prio::PrioThreads;
 use sa_spaces::Workload;
@@ -97,6 +98,7 @@ fn search_by<P: Progress>(
 {
     fast_threads_can_be_debugged();
     prio_threads_can_be_debugged();
+    left_threads_wait();
     workload.ranges();
     match user_level {
         PackageWord::Fast => search::<FastThreads, P>(alloc, workload, states, progress),

@@ -3,6 +3,7 @@ pub mod Points
 pub mod Order
 pub mod Session
 pub mod Reached
+pub mod Stuck
 pub mod Views
 pub mod OverMachines
 pub mod OverHistories

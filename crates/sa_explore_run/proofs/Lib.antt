@@ -1,6 +1,12 @@
 -- Schedules: The schedules that a search gives can be run.
 -- Numbers: Numbers gone through in order.
 -- Running: Turns that are made one after another, from the opening on.
+-- Holders: In the states of the abstract machine nobody waits for a mutex that nobody holds.
+-- Queues: A thread that is in some queue waits for something, and each thread that waits has a line.
+-- Left: Where turns lead to a stuck end, those that wait are all the threads that are left.
 pub mod Schedules
 pub mod Numbers
 pub mod Running
+pub mod Holders
+pub mod Queues
+pub mod Left

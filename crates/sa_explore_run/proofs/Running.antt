@@ -25,6 +25,12 @@ by-tests false true c none off = absurd cc
 by-tests false false true none off = absurd cc
 by-tests false false false none off = refl
 
+by-stuck : (a b c : Bool) → (if a then Some AllDone else (if b then Some Stuck else None)) ≡ Some Stuck
+    → (if a then Some AllDone else (if b then Some Stuck else (if c then Some Budget else None))) ≡ Some Stuck
+by-stuck true b c is = is
+by-stuck false true c is = refl
+by-stuck false false c is = absurd cc
+
 not-last : (event budget : ℕ) → event < budget → (event == budget) ≡ false
 not-last event budget below = grind (arith, nat_tests)
 
@@ -32,6 +38,10 @@ module _ {U C : Type 0} (f : Calls U C) where
   -- a run that goes on has not ended within a budget that is not spent
   pub not-ended : (budget : ℕ) (m : Machine U C) → end f m ≡ None → m.event < budget → end_of f budget m ≡ None
   not-ended budget m none below = by-tests (all_done f m) (is_stuck f m) (m.event == budget) none (not-last m.event budget below)
+
+  -- a run that is stuck has ended so, whatever the budget is
+  pub stuck-ended : (budget : ℕ) (m : Machine U C) → end f m ≡ Some Stuck → end_of f budget m ≡ Some Stuck
+  stuck-ended budget m stuck = by-stuck (all_done f m) (is_stuck f m) (m.event == budget) stuck
 
   module _ (w : WorkloadView) (turns : List ProcNo) (can : CanBeRun f w turns) where
     -- the next turn can be made, and no run has ended before it

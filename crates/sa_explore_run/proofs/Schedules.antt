@@ -22,7 +22,7 @@ use Rattle.sa_explore_runs.specs.Runs.{end, LeadTo}
 use Rattle.sa_explore_runs.specs.Searching.{IsOpen}
 use Rattle.sa_explore_runs.proofs.Turns.{over-open, turns-split, IsOf, of-opening, of-one, of-lead, ends-alike, leads-alike}
 use Rattle.sa_explore.specs.Explored.{IsExplored}
-use Rattle.sa_explore_run.specs.Behind.{CanBeRun}
+use Rattle.sa_explore_run.specs.Behind.{CanBeRun, LeadToStuck}
 use Rattle.sa_explore_run.specs.Answer.{AreWithin}
 
 module _ {U C D : Type 0} (f : Calls U C) (plain : Option SpaceView → C → D) (IsMade : Option SpaceView → U → Type 0) (laws : IgnoresNumbers f plain IsMade)
@@ -93,6 +93,25 @@ module _ {U C D : Type 0} (f : Calls U C) (plain : Option SpaceView → C → D)
             → (turns : List ProcNo) × (m : Machine U C) × LeadTo f w turns m × (found.schedule.items ≡ turns)
         go Whole all = let sound = (is.endless all).sound found here in (is.begun ++ sound.0, sound.1, sound.3, sound.2)
         go Part part = let e : Some found ≡ None = sym here ∙ is.unknown part in absurd cc
+
+    -- each machine to which the schedule to a stuck end leads is stuck
+    stuck-all : (found : Found) → x.stuck ≡ Some found → LeadToStuck f w found.schedule.items
+    stuck-all found here m lead =
+        let sound = is.sound Stuck found here in
+        let turns = is.begun ++ sound.turns in
+        let other : LeadTo f w turns m = subst (λ (ps : List ProcNo). LeadTo f w ps m) sound.is lead in
+        ends-alike f plain IsMade laws stands keep w ok (length turns) (length turns) m sound.machine
+        (of-lead f plain IsMade laws stands keep w ok turns m other) (of-lead f plain IsMade laws stands keep w ok turns sound.machine sound.way)
+        (leads-alike f plain IsMade laws stands keep w ok turns m sound.machine other sound.way)
+        ∙ sound.ends
+
+    some-found : (o : Option Found) (P : List ProcNo → Type 0) → ((found : Found) → o ≡ Some found → P found.schedule.items)
+        → IfSome o (λ found. P found.schedule.items)
+    some-found None P holds = tt
+    some-found (Some found) P holds = holds found refl
+
+    pub stuck-end : IfSome x.stuck (λ found. LeadToStuck f w found.schedule.items)
+    stuck-end = some-found x.stuck (LeadToStuck f w) stuck-all
 
     pub stuck-run : IfSome x.stuck (λ found. CanBeRun f w found.schedule.items)
     stuck-run = found-lead x.stuck (CanBeRun f w) can-be-run stuck-leads

@@ -6,13 +6,13 @@ use Rattle.sa_abstract.specs.Calls.{Calls}
 use Rattle.sa_explore_model.specs.declared.answer.Found.{Found}
 use Rattle.sa_explore_model.specs.declared.answer.Explored.{Explored}
 use Rattle.sa_explore.specs.Explored.{IsExplored}
-use Rattle.sa_explore_run.specs.Behind.{AreWaits}
+use Rattle.sa_explore_run.specs.Behind.{AreLeft}
 use Rattle.sa_explore_run.specs.declared.answer.Wait.{Wait}
 
--- those that wait at the end of the schedule to a stuck end; none where no such end was found
+-- those that wait at the end of the schedule to a stuck end, each thread that is left; none where no such end was found
 abbrev pub AreStuckWaits : {U C : Type 0} → Calls U C → WorkloadView → Option Found → List Wait → Type 0
 AreStuckWaits f w None waits = waits ≡ []
-AreStuckWaits f w (Some found) waits = AreWaits f w found.schedule.items waits
+AreStuckWaits f w (Some found) waits = AreLeft f w found.schedule.items waits
 
 -- a schedule is of the workload's processors
 abbrev pub IsWithin : WorkloadView → Found → Type 0

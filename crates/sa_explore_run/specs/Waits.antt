@@ -5,7 +5,7 @@ use Rattle.std.specs.Option.{option_map, option_or}
 use Rattle.sa_base.specs.declared.limits.TheConstants.{MAX_THREADS}
 use Rattle.sa_base.specs.declared.number.SpaceNo.{SpaceNo}
 use Rattle.sa_sync.specs.Sync.{Sync, mutex_at, semaphore_at, joiners_at}
-use Rattle.sa_laws.specs.State.{State, SpaceState, Thread, space_at, thread_in}
+use Rattle.sa_laws.specs.State.{State, SpaceState, space_at, thread_in}
 use Rattle.sa_explore_run.specs.declared.answer.Awaited.{Awaited}
 use Rattle.sa_explore_run.specs.declared.answer.Awaited.TheVariants.{Mutex, Semaphore, Thread}
 use Rattle.sa_explore_run.specs.declared.answer.Wait.{Wait}
@@ -41,15 +41,15 @@ awaited x t =
     option_or (first_from (held x t) 0 (length x.mutexes))
     (option_or (first_from (counted x t) 0 (length x.semaphores)) (first_from (joined x t) 0 MAX_THREADS))
 
--- the place of the instruction in which a thread waits: its next one is the one after it
-abbrev pub waits_at : Thread → ℕ
-waits_at thread = thread.pc - 1
+-- the place of the instruction in which a thread waits, by that of its next one
+abbrev pub waits_at : ℕ → ℕ
+waits_at next = next - 1
 
 -- the thread of this number, where it waits
 abbrev pub waiting_for : SpaceNo → SpaceState → ℕ → Option Awaited → List Wait
 waiting_for s x t None = []
 waiting_for s x t (Some awaits) =
-    record { space = s; thread = record { 0 = t }; place = waits_at (thread_in x (record { 0 = t })); awaits = awaits } ∷ []
+    record { space = s; thread = record { 0 = t }; place = waits_at (thread_in x (record { 0 = t })).pc; awaits = awaits } ∷ []
 
 abbrev pub waiting : SpaceNo → SpaceState → ℕ → List Wait
 waiting s x t = waiting_for s x t (awaited x.sync t)

@@ -3,7 +3,8 @@ ghost use Rattle.std.specs.Prelude.{◌≤◌, IfOk, IfSome};
 ghost use Rattle.std.specs.Option.{option_copied};
 ghost use Rattle.sa_base.specs.declared.limits.TheConstants.{MAX_EVENTS};
 ghost use Rattle.sa_debug.specs.Reached.{IsPlayable};
-ghost use Rattle.sa_explore_run.specs.Behind.{CanBeRun};
+ghost use Rattle.sa_debug.specs.Stuck.{StuckThreadsWait};
+ghost use Rattle.sa_explore_run.specs.Behind.{CanBeRun, LeadToStuck};
 ghost use Rattle.sa_explore_run.specs.Answer.{AreStuckWaits, IsAnswer};
 
 use crate::{Wait, waits_behind};
@@ -20,7 +21,7 @@ use std::alloc::{AllocError, Global};
 pub struct Answer {
     /// What it found.
     pub explored: Explored,
-    /// The threads that wait at the end of the schedule to a stuck end, in order of spaces and threads.
+    /// The threads that wait at the end of the schedule to a stuck end, in order of spaces and threads: each that was made and is not done.
     pub waits: Vec<Wait>,
 }
 
@@ -35,6 +36,7 @@ pub fn search<U: Keyed, P: Progress>(
     requires some { 1 ≤ most }
     requires few { most ≤ MAX_STATES }
     requires playable { IsPlayable U.calls workload.now MAX_EVENTS }
+    requires complete { StuckThreadsWait U.calls workload.now MAX_EVENTS }
     ensures { IfOk result (λ answer. IsAnswer U.calls U.plain workload.now most answer.explored answer.waits.items) }
 {
     workload.ranges();
@@ -50,7 +52,9 @@ fn stuck_waits<U: UserLevel>(
     stuck: Option<&Found>,
 ) -> Result<Vec<Wait>, AllocError>
     requires run { IfSome (option_copied stuck) (λ found. CanBeRun U.calls workload.now found.schedule.items) }
+    requires stuck { IfSome (option_copied stuck) (λ found. LeadToStuck U.calls workload.now found.schedule.items) }
     requires playable { IsPlayable U.calls workload.now MAX_EVENTS }
+    requires complete { StuckThreadsWait U.calls workload.now MAX_EVENTS }
     ensures { IfOk result (λ waits. AreStuckWaits U.calls workload.now (option_copied stuck.entry) waits.items) }
 {
     match stuck {

@@ -10,6 +10,7 @@
 -- Commits: Where each space has FastThreads, local instructions that are committed at once are as many turns of the processor.
 -- Playable: The items of a lawful history are records that the abstract machine can do, one after another.
 -- Reaching: What a session reaches, over any user level that meets its laws.
+-- Waiting: Where a run is stuck, each thread that was made and is not done waits in a queue.
 -- Keeping: What turns keep, each command keeps.
 -- Legal: Each session is legal.
 -- Showing: What commands do over one thing, they do over another that shows the same.
@@ -27,6 +28,7 @@ pub mod Calls
 pub mod Commits
 pub mod Playable
 pub mod Reaching
+pub mod Waiting
 pub mod Keeping
 pub mod Legal
 pub mod Showing

@@ -5,3 +5,4 @@ pub mod Threads
 pub mod Commits
 pub mod Sessions
 pub mod Told
+pub mod Waiting

@@ -8,6 +8,7 @@ ghost use Rattle.sa_package_runs.specs.Whole.{RunsSoFarAreLegal, WholeRunsAreLeg
 ghost use Rattle.sa_package_runs.specs.Threads.{LocksAreLegal, ClosedAreLegal, SharedRunsAreLegal};
 ghost use Rattle.sa_package_runs.specs.Commits.{LocalInstructionsAreSteps, CommitsAreTurns, TurnsAreCommits};
 ghost use Rattle.sa_package_runs.specs.Calls.{StartReaches, TurnsReach, TurnsAloneReach, CommitsReach, ReachedAreLegal, ReachedAreStrict, ReachedEndAsDefined, CommitsAddInstructions};
+ghost use Rattle.sa_package_runs.specs.Waiting.{LeftThreadsWait};
 ghost use Rattle.sa_package_runs.specs.Runs.{RunsAreLegal, RunsEndAsDefined, TurnsAreStrict, RunsAreRight, EventsFollowMoves, EventsAreNumbered, EventsAreCounted};
 
 /// Its trace is a legal run by FastThreads' rules: every stop, block and return is told at most once, in time and by an
@@ -87,4 +88,11 @@ pub fn shared_runs_are_legal()
     ensures locked { LocksAreLegal }
     ensures closed { ClosedAreLegal }
     ensures done { SharedRunsAreLegal }
+{}
+
+/// Where a run is stuck, each thread that was made and is not done is in the queue of a mutex, of a semaphore, or of those that join
+/// a thread: neither package loses one.
+pub fn left_threads_wait()
+    ensures fast { LeftThreadsWait fast_calls }
+    ensures prio { LeftThreadsWait prio_calls }
 {}
