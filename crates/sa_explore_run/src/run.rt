@@ -7,7 +7,8 @@ ghost use Rattle.sa_debug.specs.Stuck.{StuckThreadsWait};
 ghost use Rattle.sa_explore_run.specs.Behind.{CanBeRun, LeadToStuck};
 ghost use Rattle.sa_explore_run.specs.Answer.{AreStuckWaits, IsAnswer};
 
-use crate::{Wait, waits_behind};
+use crate::Wait;
+use crate::waiting::left_behind;
 use sa_abstract::UserLevel;
 use sa_explore::{Progress, explore};
 use sa_explore_model::{Explored, Found};
@@ -59,6 +60,6 @@ fn stuck_waits<U: UserLevel>(
 {
     match stuck {
         None => Ok(Vec::new(alloc)),
-        Some(found) => waits_behind::<U>(alloc, workload, &found.schedule),
+        Some(found) => left_behind::<U>(alloc, workload, &found.schedule),
     }
 }

@@ -2,7 +2,8 @@
 ghost use Rattle.std.specs.Prelude.{IfOk};
 ghost use Rattle.sa_base.specs.declared.limits.TheConstants.{MAX_EVENTS};
 ghost use Rattle.sa_debug.specs.Reached.{IsPlayable};
-ghost use Rattle.sa_explore_run.specs.Behind.{CanBeRun, AreWaits};
+ghost use Rattle.sa_debug.specs.Stuck.{StuckThreadsWait};
+ghost use Rattle.sa_explore_run.specs.Behind.{CanBeRun, LeadToStuck, AreWaits, AreLeft};
 
 use crate::history::history;
 use crate::replayed::replayed;
@@ -27,4 +28,20 @@ pub fn waits_behind<U: UserLevel>(
     let found = waits(alloc, &replay);
     replay.discard();
     found
+}
+
+/// The same of turns that lead to a stuck end: each thread that was made and is not done. Fails only if memory runs out.
+pub(crate) fn left_behind<U: UserLevel>(
+    alloc: Global,
+    workload: &Workload,
+    turns: &[ProcNo],
+) -> Result<Vec<Wait>, AllocError>
+    requires run { CanBeRun U.calls workload.now turns.now }
+    requires stuck { LeadToStuck U.calls workload.now turns.now }
+    requires playable { IsPlayable U.calls workload.now MAX_EVENTS }
+    requires complete { StuckThreadsWait U.calls workload.now MAX_EVENTS }
+    ensures { IfOk result (λ waits. AreLeft U.calls workload.now turns.now waits.items) }
+{
+    let waits = waits_behind::<U>(alloc, workload, turns)?;
+    Ok(waits)
 }
