@@ -1,7 +1,7 @@
 -- A turn that does an instruction.
-use Rattle.std.proofs.Common.{◌≡◌, ℕ, ◌+◌, ◌^◌, ◌<◌, ◌≤◌, Bool, true, false, cond, eqb, not, ◌&&◌, [], ◌∷◌, length, get_or, set, Option, Some, None, inl, inr, refl, sym, ap, subst, ◌∙◌, arith}
+use Rattle.std.proofs.Common.{◌≡◌, ℕ, ◌+◌, ◌^◌, ◌<◌, ◌≤◌, Bool, true, false, cond, eqb, ◌&&◌, [], ◌∷◌, length, get_or, set, Option, Some, None, inl, inr, refl, sym, ap, subst, ◌∙◌, arith}
 use Rattle.std.specs.Prelude.{is_some}
-use Rattle.std.proofs.lemmas.Bool.{eq-eqb}
+use Rattle.std.proofs.lemmas.Bool.{eq-eqb, not-true, not-false}
 use Rattle.std.proofs.lemmas.List.{get_or-set_same}
 use Rattle.std.proofs.lemmas.List.Elements.{All-get_or}
 use Rattle.sa_base.specs.declared.number.ProcNo.{ProcNo}
@@ -46,17 +46,11 @@ use Rattle.sa_virtual.proofs.MoreTurns.{quiet_set}
 
 -- the page of a `touch` is resident, or is missing
 touched : (r : Readings) (s : SpaceNo) (i : Instr) → misses r s i ≡ false → IsTouched r s i
-touched r s (Touch page) is = go (is_resident r s page) is where
-  go : (b : Bool) → not b ≡ false → b ≡ true
-  go true is = refl
-  go false is = cc
+touched r s (Touch page) is = not-false (is_resident r s page) is
 touched r s i is = tt
 
 missed : (r : Readings) (s : SpaceNo) (i : Instr) → misses r s i ≡ true → IsMissed r s i
-missed r s (Touch page) is = go (is_resident r s page) is where
-  go : (b : Bool) → not b ≡ true → b ≡ false
-  go true is = cc
-  go false is = refl
+missed r s (Touch page) is = not-true (is_resident r s page) is
 missed r s i is = cc
 
 -- there is room in the count

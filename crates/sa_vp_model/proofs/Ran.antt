@@ -1,7 +1,7 @@
 -- A thread runs an instruction, or blocks.
-use Rattle.std.proofs.Common.{◌≡◌, ℕ, ◌+◌, ◌-◌, ◌*◌, ◌<◌, ◌≤◌, Bool, true, false, not, cond, eqb, List, [], ◌∷◌, ◌++◌, append_assoc, length, get_or, set, Some, None, inl, inr, refl, sym, ap, subst, ◌∙◌, arith}
+use Rattle.std.proofs.Common.{◌≡◌, ℕ, ◌+◌, ◌-◌, ◌*◌, ◌<◌, ◌≤◌, Bool, true, false, cond, eqb, List, [], ◌∷◌, ◌++◌, append_assoc, length, get_or, set, Some, None, inl, inr, refl, sym, ap, subst, ◌∙◌, arith}
 use Rattle.std.specs.Prelude.{sum_by}
-use Rattle.std.proofs.lemmas.Bool.{cases_eq, cases_lt, ne_eqb, eq-eqb}
+use Rattle.std.proofs.lemmas.Bool.{cases_eq, cases_lt, ne_eqb, eq-eqb, not-true, not-false}
 use Rattle.std.proofs.lemmas.List.{length-set, length-map, length-append, get_or-set_same, get_or-set_other, get_or_past, map-append}
 use Rattle.std.proofs.lemmas.List.Sums.{sum_by_push}
 use Rattle.sa_base.specs.declared.number.ProcNo.{ProcNo}
@@ -64,17 +64,11 @@ more_most xs i k = elim (cases_eq k i) [
 -- a touch of a page that is not there
 missed_is : (w : WorkloadView) (v : Virtuals) (x : Own) (s : SpaceNo) (i : Instr) → misses v.base s i ≡ true
     → missed_page (board_of w v x) s i ≡ Some (page_in i)
-missed_is w v x s (Touch page) is = ap (λ b. cond b None (Some page)) (yes (is_resident v.base s page) is) where
-  yes : (b : Bool) → not b ≡ true → b ≡ false
-  yes true e = cc
-  yes false e = refl
+missed_is w v x s (Touch page) is = ap (λ b. cond b None (Some page)) (not-true (is_resident v.base s page) is)
 missed_is w v x s i is = cc
 
 missed_not : (w : WorkloadView) (v : Virtuals) (x : Own) (s : SpaceNo) (i : Instr) → misses v.base s i ≡ false → missed_page (board_of w v x) s i ≡ None
-missed_not w v x s (Touch page) is = ap (λ b. cond b None (Some page)) (yes (is_resident v.base s page) is) where
-  yes : (b : Bool) → not b ≡ false → b ≡ true
-  yes true e = refl
-  yes false e = cc
+missed_not w v x s (Touch page) is = ap (λ b. cond b None (Some page)) (not-false (is_resident v.base s page) is)
 missed_not w v x s i is = refl
 
 -- BLOCKED: of readings in the middle of an event, whose lives are those of its beginning
