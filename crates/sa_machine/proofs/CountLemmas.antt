@@ -4,6 +4,7 @@ use Rattle.std.proofs.lemmas.List.{length-set}
 use Rattle.std.proofs.lemmas.Option.{slice_get_read}
 use Rattle.std.proofs.lemmas.List.Sums.{sum_by-cons, sum_by-set, get_or-le-sum_by}
 use Rattle.std.specs.Prelude.{sum_by, zero, suc}
+use Rattle.sa_base.specs.declared.limits.TheConstants.{MAX_SPACES}
 use Rattle.sa_base.specs.declared.number.ThreadNo.{ThreadNo}
 use Rattle.sa_base.specs.declared.context.Stopped.{Stopped}
 use Rattle.sa_spaces.specs.Space.{SpaceView}
@@ -24,58 +25,70 @@ sum-few test (x ∷ xs) =
     at-most true = omega arith
     at-most false = omega arith
 
-module _ {U C : Type 0} (f : Calls U C) where
-  pub counted-few : (users : List U) (n k : ℕ) → Counted f users n k → (n ≤ length users) × (k ≤ length users)
-  counted-few users n k counted =
-      let a = sum-few (λ u. is_over (f.tally u)) users in
-      let b = sum-few (λ u. is_still (f.tally u)) users in
+-- how many of the users have something to do, which is as many as there are at most
+module _ {U C : Type 0} {f : Calls U C} {xs : List U} {n k : ℕ} (counted : Counted f xs n k) where
+  pub counted-few : (n ≤ length xs) × (k ≤ length xs)
+  counted-few =
+      let a = sum-few (λ u. is_over (f.tally u)) xs in
+      let b = sum-few (λ u. is_still (f.tally u)) xs in
       (rw counted.left a, rw counted.work b)
 
--- one of the users was counted, as its tally says
-module _ {U C : Type 0} (f : Calls U C) (xs : List U) (i n k : ℕ) (u : U) (was : Tally) where
-  pub counted-left : Counted f xs n k → i < length xs → u ≡ get_or xs i u → was ≡ f.tally u → one_unless (is_over was) ≤ n
-  counted-left counted within read is =
-      let h = get_or-le-sum_by (λ v. one_unless (is_over (f.tally v))) xs i u within in
-      let e : one_unless (is_over was) ≡ one_unless (is_over (f.tally (get_or xs i u))) = ap (λ t. one_unless (is_over t)) (is ∙ ap f.tally read) in
-      rw (e, counted.left) h
+  pub counted-most : (n ≤ MAX_SPACES) × (k ≤ MAX_SPACES)
+  counted-most =
+      let h = counted-few in
+      let few = counted.few in
+      (omega (arith, h.0, few), omega (arith, h.1, few))
 
-  pub counted-work : Counted f xs n k → i < length xs → u ≡ get_or xs i u → was ≡ f.tally u → one_unless (is_still was) ≤ k
-  counted-work counted within read is =
-      let h = get_or-le-sum_by (λ v. one_unless (is_still (f.tally v))) xs i u within in
-      let e : one_unless (is_still was) ≡ one_unless (is_still (f.tally (get_or xs i u))) = ap (λ t. one_unless (is_still t)) (is ∙ ap f.tally read) in
-      rw (e, counted.work) h
+  -- one of the users was counted, as its tally says
+  module _ {i : ℕ} {u : U} {was : Tally} (within : i < length xs) (read : u ≡ get_or xs i u) (was-is : was ≡ f.tally u) where
+    read-tally : f.tally (get_or xs i u) ≡ was
+    read-tally = ap f.tally (sym read) ∙ sym was-is
 
--- one of the users is another, and is counted as its tally says
-module _ {U C : Type 0} (f : Calls U C) (xs : List U) (i n k : ℕ) (u v : U) (was is : Tally) (left work : ℕ) where
-  pub counted-set : Counted f xs n k → i < length xs → u ≡ get_or xs i u → was ≡ f.tally u → is ≡ f.tally v
-      → left + one_unless (is_over was) ≡ n + one_unless (is_over is) → work + one_unless (is_still was) ≡ k + one_unless (is_still is)
-      → Counted f (set xs i v) left work
-  counted-set counted within read was-is is-is more-left more-work =
-      let t : f.tally (get_or xs i u) ≡ was = ap f.tally (sym read) ∙ sym was-is in
-      let a : (one_unless (is_over (f.tally (get_or xs i u))) ≡ one_unless (is_over was)) = ap (λ z. one_unless (is_over z)) t in
-      let b : (one_unless (is_over (f.tally v)) ≡ one_unless (is_over is)) = ap (λ z. one_unless (is_over z)) (sym is-is) in
-      let d : (one_unless (is_still (f.tally (get_or xs i u))) ≡ one_unless (is_still was)) = ap (λ z. one_unless (is_still z)) t in
-      let e : (one_unless (is_still (f.tally v)) ≡ one_unless (is_still is)) = ap (λ z. one_unless (is_still z)) (sym is-is) in
-      let h = sum_by-set (λ z. one_unless (is_over (f.tally z))) xs i v u within in
-      let j = sum_by-set (λ z. one_unless (is_still (f.tally z))) xs i v u within in
-      record {
-        left = omega (arith, h, a, b, counted.left, more-left);
-        work = omega (arith, j, d, e, counted.work, more-work);
-        few = rw (length-set xs i v) counted.few;
-      }
+    pub counted-left : one_unless (is_over was) ≤ n
+    counted-left =
+        let h = get_or-le-sum_by (λ v. one_unless (is_over (f.tally v))) xs i u within in
+        let e = ap (λ (t : Tally). one_unless (is_over t)) (sym read-tally) in
+        rw (e, counted.left) h
+
+    pub counted-work : one_unless (is_still was) ≤ k
+    counted-work =
+        let h = get_or-le-sum_by (λ v. one_unless (is_still (f.tally v))) xs i u within in
+        let e = ap (λ (t : Tally). one_unless (is_still t)) (sym read-tally) in
+        rw (e, counted.work) h
+
+    -- it is another, and is counted as its tally says
+    pub counted-set : {v : U} {is : Tally} {left work : ℕ} → is ≡ f.tally v → left + one_unless (is_over was) ≡ n + one_unless (is_over is)
+        → work + one_unless (is_still was) ≡ k + one_unless (is_still is) → Counted f (set xs i v) left work
+    counted-set {v} {is} {left} {work} is-is more-left more-work =
+        let a = ap (λ (z : Tally). one_unless (is_over z)) read-tally in
+        let b = ap (λ (z : Tally). one_unless (is_over z)) (sym is-is) in
+        let d = ap (λ (z : Tally). one_unless (is_still z)) read-tally in
+        let e = ap (λ (z : Tally). one_unless (is_still z)) (sym is-is) in
+        let h = sum_by-set (λ z. one_unless (is_over (f.tally z))) xs i v u within in
+        let j = sum_by-set (λ z. one_unless (is_still (f.tally z))) xs i v u within in
+        record {
+          left = omega (arith, h, a, b, counted.left, more-left);
+          work = omega (arith, j, d, e, counted.work, more-work);
+          few = rw (length-set xs i v) counted.few;
+        }
 
 -- one of a list, as it was read there
-module _ {U : Type 0} (xs ys : List U) (i j : ℕ) (x u : U) where
-  pub user-at : xs ≡ ys → j ≡ i → x ≡ get_or xs j x → i < length ys → slice_get ys i ≡ Some x
-  user-at same here read within = slice_get_read ys (length ys) i x refl within (read ∙ ap (λ zs. get_or zs j x) same ∙ ap (λ n. get_or ys n x) here)
+module _ {U : Type 0} {xs ys : List U} {i j : ℕ} (same : xs ≡ ys) (here : j ≡ i) (within : i < length ys) where
+  pub user-within : j < length xs
+  user-within = let len = ap (λ (zs : List U). length zs) same in omega (arith, len, here, within)
 
-  pub user-is : xs ≡ ys → j ≡ i → x ≡ get_or xs j x → i < length ys → slice_get ys i ≡ Some u → x ≡ u
-  user-is same here read within at =
-      let e : Some x ≡ Some u = sym (user-at same here read within) ∙ at in
+  pub user-at : {x : U} → x ≡ get_or xs j x → slice_get ys i ≡ Some x
+  user-at {x} read = slice_get_read ys (length ys) i x refl within (read ∙ ap (λ zs. get_or zs j x) same ∙ ap (λ n. get_or ys n x) here)
+
+  pub user-is : {x u : U} → x ≡ get_or xs j x → slice_get ys i ≡ Some u → x ≡ u
+  user-is {x} {u} read at =
+      let e : Some x ≡ Some u = sym (user-at read) ∙ at in
       cc
 
-  pub set-by : (g : U → U) (v : U) → xs ≡ ys → j ≡ i → x ≡ u → v ≡ g x → slice_set xs j v ≡ slice_set ys i (g u)
-  set-by g v same here is new = ap (λ zs. slice_set zs j v) same ∙ ap (λ n. slice_set ys n v) here ∙ ap (slice_set ys i) (new ∙ ap g is)
+pub set-by : {U : Type 0} {xs ys : List U} {i j : ℕ} {x u v : U} (g : U → U) → xs ≡ ys → j ≡ i → x ≡ u → v ≡ g x
+    → slice_set xs j v ≡ slice_set ys i (g u)
+set-by {U} {xs} {ys} {i} {j} {x} {u} {v} g same here is new =
+    ap (λ zs. slice_set zs j v) same ∙ ap (λ n. slice_set ys n v) here ∙ ap (slice_set ys i) (new ∙ ap g is)
 
 -- a context as it is handed over, by what is read of its user level
 pub stopped-as : {U C : Type 0} (f : Calls U C) (x u : U) (ctx : C) (thread : Option ThreadNo) (idle : Bool) → x ≡ u → thread ≡ f.thread x ctx

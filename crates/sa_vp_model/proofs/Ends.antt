@@ -4,7 +4,7 @@ use Rattle.std.specs.Prelude.{sum_by}
 use Rattle.std.specs.List.{list_all}
 use Rattle.std.proofs.lemmas.Bool.{cases_lt, eq-eqb, ne_eqb, eqb-true}
 use Rattle.std.proofs.lemmas.List.{get_or_past}
-use Rattle.std.proofs.lemmas.List.Sums.{sum_by-cons, count_by-le-length, get_or-le-sum_by}
+use Rattle.std.proofs.lemmas.List.Sums.{sum_by-cons, sum_by-le-sum_by, count_by-le-length, get_or-le-sum_by}
 use Rattle.sa_base.specs.declared.record.End.TheVariants.{AllDone, Stuck, Budget}
 use Rattle.sa_spaces.specs.Workload.{WorkloadView}
 use Rattle.sa_links.specs.Lists.{Lists, list_at, count_in}
@@ -31,10 +31,6 @@ some_term f d (x ∷ xs) some = elim (cases_lt 0 (f x)) [
   | inl here ↦ (0, omega arith, here)
   | inr none ↦ let later = some_term f d xs (omega (arith, some, none, sum_by-cons f x xs)) in (suc later.0, omega (arith, later.1), later.2)
 ]
-
-sum_less : {A : Type 0} (f g : A → ℕ) (xs : List A) → ((x : A) → f x ≤ g x) → sum_by f xs ≤ sum_by g xs
-sum_less f g [] less = omega arith
-sum_less f g (x ∷ xs) less = omega (arith, sum_by-cons f x xs, sum_by-cons g x xs, less x, sum_less f g xs less)
 
 head_counts : (ts : List ℕ) → 1 ≤ length ts → 1 ≤ count_in (get_or ts 0 0) ts
 head_counts [] some = absurd (omega (arith, some))
@@ -64,7 +60,7 @@ module _ (w : WorkloadView) (b : Board) (read : IsRead w b) where
     | inl below ↦
         let row = get_or-le-sum_by (λ (c : Lists). sum_by length c.lists) x.work s.0 (record { nodes = 0; lists = [] })
         (omega (arith, below, read.fits.many_work)) in
-        let fewer = sum_less (count_in t.0) length (rows x.work s.0).lists (λ ts. count_by-le-length (λ y. y == t.0) ts) in
+        let fewer = sum_by-le-sum_by (count_in t.0) length (rows x.work s.0).lists (λ ts. count_by-le-length (λ y. y == t.0) ts) in
         waits_none (place_no (at_no v.base.state.spaces s.0) t.0) (waits_of (at_no v.base.state.spaces s.0).sync t.0) (worked v.work w.processors s.0 t.0)
         ((read.good.stands.holds.agree s.0 t.0).in_work)
         (omega (arith, due_is, none, row, fewer, worked_all v.work s.0 t.0 w.processors (rows x.work s.0) (read.fits.work s.0 below)))

@@ -1,6 +1,6 @@
 -- The table of lines is tied to the texts: a first wrong word is the first with which no text goes on, and where all words are
 -- right, only `end` is missing.
-use Rattle.std.proofs.Common.{◌≡◌, ◌≢◌, ℕ, suc, ◌+◌, ◌<◌, ◌≤◌, ◌==◌, not, Bool, true, false, List, [], ◌∷◌, ◌++◌, length, get_or, map, take, Contains, Option, None, Some, Result, Ok, Err, codes, decimal, if◌then◌else◌, refl, sym, ap, ap₂, ◌∙◌, subst, inl, inr, arith, append_assoc, append-nil, length-append, IfSome, IsTrue}
+use Rattle.std.proofs.Common.{◌≡◌, ◌≢◌, ℕ, suc, ◌+◌, ◌<◌, ◌≤◌, ◌==◌, not, Bool, true, false, List, [], ◌∷◌, ◌++◌, length, get_or, map, take, Contains, Option, None, Some, Result, Ok, Err, codes, decimal, if◌then◌else◌, refl, sym, ap, ap₂, ◌∙◌, subst, inl, inr, arith, append_assoc, append-nil, length-append, add-one, IfSome, IsTrue}
 use Rattle.std.specs.Bool.{⊤}
 use Rattle.std.specs.Result.{is_ok}
 use Rattle.std.specs.Option.{is_some}
@@ -177,7 +177,7 @@ wrong_at versions s p a word words why follow free_of wrong =
         next = λ l goes.
             let m = begins-next versions s p (word ∷ (take (mix.place + 1) words ++ goes.others)) a goes.begins in
             let u = took versions p word (take (mix.place + 1) words ++ goes.others) m.0 m.1 in
-            unspelled _ _ why u.numbers (mix.wrong l goes.others) u.passes (ap (λ (k : ℕ). take k words ++ goes.others) (sym (next_place mix.place)) ∙ u.line);
+            unspelled _ _ why u.numbers (mix.wrong l goes.others) u.passes (ap (λ (k : ℕ). take k words ++ goes.others) (sym (add-one mix.place)) ∙ u.line);
         missing = λ z b.
             let m = begins-next versions s p (word ∷ words) a b in
             let u = took versions p word words m.0 m.1 in
@@ -185,9 +185,6 @@ wrong_at versions s p a word words why follow free_of wrong =
       },
     )
   where
-    next_place : (k : ℕ) → k + 1 ≡ suc k
-    next_place k = omega arith
-
     no_order : LineAt versions p word → (ns : List ℕ) → order_cause (last_numbers p word) ns ≡ None
     no_order at ns = ap (λ (o : Option (List ℕ)). order_cause o ns)
         (sym at.order ∙ ap (λ (b : Bool). if b then Some (numbers_of (length (fields_of versions p word)) (last_line (shown p))) else None)
