@@ -77,7 +77,6 @@ fn push_awaited(out: &mut Vec<u8>, sync: &SyncState, instr: Instr) -> Result<(),
     }
 }
 
-#[tactic(auto, using(std::proofs::Common::append_assoc))]
 fn push_mutex(out: &mut Vec<u8>, sync: &SyncState, m: u16) -> Result<(), AllocError>
     ensures { OnOk result (out.new.items ≡ out.old.items ++ mutex_text sync.now m) }
 {
