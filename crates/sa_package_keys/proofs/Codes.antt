@@ -123,8 +123,7 @@ module _ {A : Type 0} (test : A → Bool) (d : A) (only : (x : A) → test x ≡
   trimmed-same (x ∷ xs) (y ∷ ys) count both =
       let e = one x y (trimmed test xs) (trimmed test ys) both in
       ap (λ z. z ∷ xs) e.0 ∙ ap (λ z. y ∷ z) (trimmed-same xs ys (let n : length xs ≡ length ys = omega arith in n) e.1)
-  trimmed-same [] (y ∷ ys) count both = absurd (omega arith)
-  trimmed-same (x ∷ xs) [] count both = absurd (omega arith)
+  trimmed-same _ _ count both = absurd (omega arith)
 
 module _ {A : Type 0} (code : A → List ℕ) (is : IsPrefixCode code) where
   pub optional-code : IsPrefixCode (optional code)
@@ -144,8 +143,7 @@ module _ {A : Type 0} (code : A → List ℕ) (is : IsPrefixCode code) where
       let first = is x y (flat_map code xs ++ r) (flat_map code ys ++ s) (simp append_assoc at same) in
       let rest = all-code xs ys r s (let e : length xs ≡ length ys = omega arith in e) first.1 in
       (ap (λ z. z ∷ xs) first.0 ∙ ap (λ z. y ∷ z) rest.0, rest.1)
-  all-code [] (y ∷ ys) r s count same = absurd (omega arith)
-  all-code (x ∷ xs) [] r s count same = absurd (omega arith)
+  all-code _ _ r s count same = absurd (omega arith)
 
   pub list-code : IsPrefixCode (list code)
   unfolding list

@@ -1,5 +1,5 @@
 -- A user level that looks at no number also keeps what each of its calls keeps.
-use Rattle.std.proofs.Common.{◌≡◌, ℕ, Bool, true, false, if◌then◌else◌, Option, Some, None, length, refl, ◌∙◌}
+use Rattle.std.proofs.Common.{◌≡◌, ℕ, Bool, true, false, if◌then◌else◌, Option, None, length, refl, ◌∙◌}
 use Rattle.std.proofs.lemmas.List.{length-replicate}
 use Rattle.sa_base.specs.declared.context.Seen.{Seen}
 use Rattle.sa_base.specs.declared.context.Stopped.{Stopped}
@@ -62,9 +62,8 @@ module _ (v : Prio) where
   goes-stay seen c = stepped-stay v.base seen c
 
   urged-stay : (seen : Seen) (c : Context) (own : Option ℕ) (other : Option Outranked) → Stay (prio.urged_by v seen c own other).user
-  urged-stay seen c (Some own) other = refl
-  urged-stay seen c None (Some other) = refl
   urged-stay seen c None None = goes-stay seen (settled v.base seen c (carried_by c.state))
+  urged-stay seen c _ _ = refl
 
   served-stay : (seen : Seen) (c : PrioContext) → Stay (prio.served v seen c).user
   served-stay seen c = go c.urge

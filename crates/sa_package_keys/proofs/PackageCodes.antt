@@ -74,12 +74,8 @@ state_body (User t) = number t.0
 state_body (Look looks) = number looks
 
 state_parts : (x : ContextState) → state_key x ≡ number (state_tag x) ++ state_body x
-state_parts (Code f) = refl
-state_parts (Work t) = refl
-state_parts (Hint t) = refl
 state_parts Return = sym (append-nil (number 3))
-state_parts (User t) = refl
-state_parts (Look looks) = refl
+state_parts _ = refl
 
 state_bodies : (x y : ContextState) (r s : List ℕ) → state_tag x ≡ state_tag y → state_body x ++ r ≡ state_body y ++ s → (x ≡ y) × (r ≡ s)
 state_bodies (Code f) (Code g) r s tag same = let one = frame-code f g r s same in (ap (λ z. Code z) one.0, one.1)
@@ -274,8 +270,7 @@ package-same s u v r t us vs code ranks same =
 
 no-ranks : (xs ys : List ℕ) → length xs ≡ 0 → length ys ≡ 0 → xs ≡ ys
 no-ranks [] [] e1 e2 = refl
-no-ranks (x ∷ xs) ys e1 e2 = absurd (omega arith)
-no-ranks [] (y ∷ ys) e1 e2 = absurd (omega arith)
+no-ranks _ _ e1 e2 = absurd (omega arith)
 
 pub fast-tells : TellsValues fast_stands IsFast fast_value_key
 fast-tells s d e u v cs ds r t us vs mu mv same =

@@ -6,7 +6,7 @@ use Rattle.sa_base.specs.declared.number.ThreadNo.{ThreadNo}
 use Rattle.sa_base.specs.declared.context.Seen.{Seen}
 use Rattle.sa_base.specs.declared.context.Stopped.{Stopped}
 use Rattle.sa_base.specs.declared.record.Note.{Note}
-use Rattle.sa_base.specs.declared.record.Note.TheVariants.{Add, Preempted, Blocked, Unblocked}
+use Rattle.sa_base.specs.declared.record.Note.TheVariants.{Preempted, Unblocked}
 use Rattle.sa_base.specs.declared.record.Record.{Record}
 use Rattle.sa_instr.specs.declared.instr.Instr.{Instr}
 use Rattle.sa_instr.specs.declared.instr.Instr.TheVariants as instrs
@@ -84,8 +84,7 @@ made-ranks r n rank = go (count_in_all n r.lists == 0)
 module _ (x : Shared) (w : Option ThreadNo) (t : ThreadNo) (b : Block) where
   told-ranks : (y : Shared) (c : Block) (answer : SyncAnswer) → ranks_in y ≡ ranks_in x → ranks_in (told_by y w t c answer).shared ≡ ranks_in x
   told-ranks y c answers.Goes same = same
-  told-ranks y c answers.Waits same = same
-  told-ranks y c (answers.Wakes u) same = same
+  told-ranks y c _ same = same
 
   synced-ranks : (c : Block) (change : Change) → ranks_in (synced x w t c change).shared ≡ ranks_in x
   synced-ranks c change = told-ranks (with_sync x change.state) c change.answer refl
@@ -99,18 +98,13 @@ module _ (x : Shared) (w : Option ThreadNo) (t : ThreadNo) (b : Block) where
   touched-ranks fetch page false = refl
 
   outcome-ranks : (fetch pages : ℕ) (i : Instr) → length (ranks_in (outcome_of fetch pages x w t b i).shared) ≡ length (ranks_in x)
-  outcome-ranks fetch pages (instrs.Load reg cell) = refl
-  outcome-ranks fetch pages (instrs.Store reg cell) = refl
-  outcome-ranks fetch pages (instrs.Out reg) = refl
   outcome-ranks fetch pages (instrs.Fork reg program) = forked-ranks reg program (next_made x.state.lists)
   outcome-ranks fetch pages (instrs.Join reg) = ap length (told-ranks (with_sync x _) _ _ refl)
   outcome-ranks fetch pages (instrs.Lock m) = ap length (synced-ranks (next_of b) (locked x.sync t.0 m))
   outcome-ranks fetch pages (instrs.Unlock m) = ap length (synced-ranks (next_of b) (unlocked x.sync t.0 m))
   outcome-ranks fetch pages (instrs.Wait k) = ap length (synced-ranks (next_of b) (waited x.sync t.0 k))
   outcome-ranks fetch pages (instrs.Signal k) = ap length (synced-ranks (next_of b) (signalled x.sync k))
-  outcome-ranks fetch pages (instrs.Io length) = refl
   outcome-ranks fetch pages (instrs.Touch page) = ap length (touched-ranks fetch page (is_resident pages page))
-  outcome-ranks fetch pages instrs.End = refl
   outcome-ranks fetch pages _ = refl
 
 -- the calls
@@ -120,37 +114,26 @@ module _ (u : Package) where
 
   moved-ranks : (x : Shared) (op : Option Op) (f g : Frame) → ranks_in (moved_by x op f g) ≡ ranks_in x
   moved-ranks x (Some ops.Push) f g = refl
-  moved-ranks x (Some ops.Pop) f g = refl
   moved-ranks x _ f g = refl
 
   coded-stay : (seen : Seen) (c : Context) (f : Frame) (op : Option Op) (m : Micro) (done : MicroDone) → m.state.lists.ranks ≡ ranks_of u
       → Stay (coded_by u seen c f op m done).user
   coded-stay seen c f op m micros.Did same = ap length (moved-ranks (record u.shared { state = m.state }) op f m.frame ∙ same)
-  coded-stay seen c f op m micros.Spun same = ap length same
-  coded-stay seen c f op m micros.Faulted same = ap length same
-  coded-stay seen c f op m micros.Left same = ap length same
-  coded-stay seen c f op m micros.Yielded same = ap length same
+  coded-stay seen c f op m _ same = ap length same
 
   pushing-stay : (c : Context) (first : ThreadNo) (m : Micro) (done : MicroDone) → m.state.lists.ranks ≡ ranks_of u → Stay (pushing_by u c first m done).user
   pushing-stay c first m micros.Did same = ap length same
-  pushing-stay c first m micros.Spun same = ap length same
-  pushing-stay c first m micros.Faulted same = ap length same
-  pushing-stay c first m micros.Left same = ap length same
-  pushing-stay c first m micros.Yielded same = ap length same
+  pushing-stay c first m _ same = ap length same
 
   popping-stay : (c : Context) (m : Micro) (done : MicroDone) → m.state.lists.ranks ≡ ranks_of u → Stay (popping_by u c m done).user
   popping-stay c m micros.Did same = ap length same
-  popping-stay c m micros.Spun same = ap length same
-  popping-stay c m micros.Faulted same = ap length same
-  popping-stay c m micros.Left same = ap length same
-  popping-stay c m micros.Yielded same = ap length same
+  popping-stay c m _ same = ap length same
 
   worked-stay : (seen : Seen) (c : Context) (f : Option Frame) (t : Option ThreadNo) → Stay (worked u seen c f t).user
-  worked-stay seen c (Some f) t = refl
   worked-stay seen c None (Some first) =
       let f = push_of seen.proc (own_list u seen.proc) first (carried_by c.state) in
       let m = micro u.shared.state f seen.pages in pushing-stay c first m m.done (micro-ranks u.shared.state f seen.pages)
-  worked-stay seen c None None = refl
+  worked-stay seen c _ _ = refl
 
   hinted-stay : (c : Context) (n : Option ℕ) → Stay (hinted u c n).user
   hinted-stay c None = refl
@@ -165,8 +148,7 @@ module _ (u : Package) where
   used-stay : (x : Shared) (seen : Seen) (c : Context) (t : ThreadNo) (r : Ran) (says : List Record) → length (ranks_in x) ≡ length (ranks_of u)
       → Stay (used_by (with_shared u x) seen c t r says).user
   used-stay x seen c t rans.Goes says same = same
-  used-stay x seen c t rans.Leaves says same = same
-  used-stay x seen c t (rans.Blocks n page) says same = same
+  used-stay x seen c t _ says same = same
 
   stepped_at-stay : (seen : Seen) (c : Context) (s : ContextState) → Stay (stepped_at u seen c s).user
   stepped_at-stay seen c (Code f) =
@@ -190,7 +172,6 @@ module _ (u : Package) where
   told_of-stay c (Some h) = refl
 
   pub told-stay : (c : Context) (note : Note) (held : Option (Stopped Context)) → Stay (told u c note held).0
-  told-stay c (Add p) held = refl
-  told-stay c (Blocked a) held = refl
   told-stay c (Preempted a) held = told_of-stay c held
   told-stay c (Unblocked a) held = told_of-stay c held
+  told-stay c _ held = refl

@@ -16,5 +16,4 @@ nonzero n some = elim (eqb_tells n 0) [ inl both ↦ absurd (some both.1) | inr 
 pub pointwise-zeros : (xs : List ℕ) (n : ℕ) → length xs ≡ n → pointwise nat_eq xs (replicate n 0) ≡ list_all is_zero xs
 pointwise-zeros [] zero count = refl
 pointwise-zeros (x ∷ xs) (suc n) count = ap (λ b. is_zero x && b) (pointwise-zeros xs n (let e : length xs ≡ n = omega arith in e))
-pointwise-zeros [] (suc n) count = absurd (omega arith)
-pointwise-zeros (x ∷ xs) zero count = absurd (omega arith)
+pointwise-zeros _ _ count = absurd (omega arith)

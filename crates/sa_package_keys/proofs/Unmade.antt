@@ -5,7 +5,7 @@ use Rattle.sa_links.specs.Lists.{list_at}
 use Rattle.sa_links.proofs.Counting.{count_at, first_counted}
 use Rattle.sa_sync.specs.Sync.{is_done}
 use Rattle.sa_fast.specs.declared.threads.KeptPlace.{KeptPlace}
-use Rattle.sa_fast.specs.declared.threads.KeptPlace.TheVariants.{Unmade, Ready, Running, Waiting, Blocked, Carried, Done}
+use Rattle.sa_fast.specs.declared.threads.KeptPlace.TheVariants.{Unmade}
 use Rattle.sa_fast.specs.Threads.{is_done as is_done_place}
 use Rattle.sa_fast.specs.Rest.{unmade_at, done_at, one_where, is_unmade, place_at}
 use Rattle.sa_abstract.specs.Setting.{Setting}
@@ -18,12 +18,7 @@ use Rattle.sa_package_keys.specs.Packages.{HasThreads, HasUnmade}
 
 unmade_ends : (p : KeptPlace) (unmade done : ℕ) → unmade ≡ 1 → unmade ≡ one_where (is_unmade p) → done ≡ one_where (is_done_place p) → done ≡ 0
 unmade_ends Unmade unmade done one new ends = ends
-unmade_ends Ready unmade done one new ends = absurd (let e : unmade ≡ 0 = new in omega arith)
-unmade_ends Running unmade done one new ends = absurd (let e : unmade ≡ 0 = new in omega arith)
-unmade_ends Waiting unmade done one new ends = absurd (let e : unmade ≡ 0 = new in omega arith)
-unmade_ends Blocked unmade done one new ends = absurd (let e : unmade ≡ 0 = new in omega arith)
-unmade_ends Carried unmade done one new ends = absurd (let e : unmade ≡ 0 = new in omega arith)
-unmade_ends Done unmade done one new ends = absurd (let e : unmade ≡ 0 = new in omega arith)
+unmade_ends _ unmade done one new ends = absurd (let e : unmade ≡ 0 = new in omega arith)
 
 not_done : (b : Bool) (n : ℕ) → n ≡ (if b then 1 else 0) → n ≡ 0 → b ≡ false
 not_done true n is none = absurd (omega arith)

@@ -84,10 +84,9 @@ module _ (u : Package) where
   popping-def c m _ = refl
 
   worked-def : (seen : Seen) (c : Context) (f : Option Frame) (t : Option ThreadNo) → (worked u seen c f t).user.def ≡ u.def
-  worked-def seen c (Some f) t = refl
   worked-def seen c None (Some first) =
       let m = micro u.shared.state (push_of seen.proc (own_list u seen.proc) first (carried_by c.state)) seen.pages in pushing-def c first m m.done
-  worked-def seen c None None = refl
+  worked-def seen c _ _ = refl
 
   hinted-def : (c : Context) (n : Option ℕ) → (hinted u c n).user.def ≡ u.def
   hinted-def c None = refl
@@ -168,13 +167,12 @@ told_of-same : (u : Package) (c d : Context) (held i : Option (Stopped Context))
     → plain_held (λ (s : ℕ) (x : Context). plain def x) 0 held ≡ plain_held (λ (s : ℕ) (x : Context). plain def x) 0 i
     → ((told_of u c held).user ≡ (told_of u d i).user) × (plain def (told_of u c held).ctx ≡ plain def (told_of u d i).ctx)
 told_of-same u c d None None def e same = (refl, e)
-told_of-same u c d None (Some i) def e same = absurd cc
-told_of-same u c d (Some h) None def e same = absurd cc
 told_of-same u c d (Some h) (Some i) def e same =
     let z : plain def h.ctx ≡ plain def i.ctx = ap (λ (x : PlainStopped Context). x.ctx) (same_Some _ _ same) in
     let mine = took-mine u c d h.ctx def e in
     let theirs = took-theirs u d h.ctx i.ctx def z in
     (mine.0 ∙ ap (λ (p : Pair). p.user) theirs, mine.1 ∙ ap (λ (p : Pair). plain def p.ctx) theirs)
+told_of-same u c d _ _ def e same = absurd cc
 
 told-same : (def : Option SpaceView) (u : Package) (c d : Context) (note other : Note) (held i : Option (Stopped Context)) → IsMade def u
     → plain def c ≡ plain def d

@@ -104,9 +104,8 @@ answered-same def v seen e c d made same =
 
 -- A STEP
 urged_by-def : (v : Prio) (seen : Seen) (c : Context) (own : Option ℕ) (other : Option Outranked) → (urged_by v seen c own other).user.base.def ≡ v.base.def
-urged_by-def v seen c (Some own) other = refl
-urged_by-def v seen c None (Some other) = refl
 urged_by-def v seen c None None = stepped-def v.base seen (settled v.base seen c (carried_by c.state))
+urged_by-def v seen c _ _ = refl
 
 served-def : (v : Prio) (seen : Seen) (x : PrioContext) (b : Bool) → (cond b (urged v seen x.base) (goes v seen x.base)).user.base.def ≡ v.base.def
 served-def v seen x true = urged_by-def v seen x.base (outranked v seen seen.proc) (lowest v seen)

@@ -1,5 +1,5 @@
 -- Sums, tests and lengths go over all I/Os, in whatever order these stand.
-use Rattle.std.proofs.Common.{◌≡◌, ℕ, ◌+◌, Bool, true, false, ◌||◌, List, [], ◌∷◌, length, sum_by, refl, sym, ap, ◌∙◌, inl, inr, arith}
+use Rattle.std.proofs.Common.{◌≡◌, ℕ, ◌+◌, Bool, true, ◌||◌, List, [], ◌∷◌, length, sum_by, refl, sym, ap, ◌∙◌, inl, inr, arith}
 use Rattle.std.specs.List.{list_any}
 use Rattle.std.proofs.lemmas.List.Sums.{sum_by-cons}
 use Rattle.sa_devices.specs.Ios.{Io}
@@ -24,8 +24,7 @@ sum-order f (io ∷ ios) = sum-put f io (in_order ios) ∙ ap (λ (n : ℕ). f i
 
 or-swap : (a b c : Bool) → a || (b || c) ≡ b || (a || c)
 or-swap true true c = refl
-or-swap true false c = refl
-or-swap false b c = refl
+or-swap _ _ c = refl
 
 any-put : (f : Io → Bool) (io : Io) (xs : List Io) → list_any f (put_first io xs) ≡ f io || list_any f xs
 any-put f io [] = refl

@@ -6,7 +6,7 @@ use Rattle.std.proofs.lemmas.List.{length-set}
 use Rattle.sa_base.specs.declared.number.ProcNo.{ProcNo}
 use Rattle.sa_base.specs.declared.number.SpaceNo.{SpaceNo}
 use Rattle.sa_base.specs.declared.record.Note.{Note}
-use Rattle.sa_base.specs.declared.record.Note.TheVariants.{Add, Preempted, Blocked, Unblocked}
+use Rattle.sa_base.specs.declared.record.Note.TheVariants.{Preempted}
 use Rattle.sa_base.specs.declared.context.Stopped.{Stopped}
 use Rattle.sa_share.specs.declared.Claim.{Claim}
 use Rattle.sa_share.specs.Rounds.{shares_of}
@@ -15,7 +15,7 @@ use Rattle.sa_assign.specs.Aims.{Change, aimed, is_aim, least_below, changes, ai
 use Rattle.sa_assign.specs.Reaim.{proc_no, line_at, raised, lines_with, lines_after, changes_in}
 use Rattle.sa_batch.specs.Notices.{has_untold}
 use Rattle.sa_devices.specs.declared.kind.IoKind.{IoKind}
-use Rattle.sa_devices.specs.declared.kind.IoKind.TheVariants.{Plain, Page, Upcall}
+use Rattle.sa_devices.specs.declared.kind.IoKind.TheVariants.{Plain}
 use Rattle.sa_devices.specs.Ios.{Io, fetches, is_fetch_of}
 use Rattle.sa_kernel_model.specs.State.{KernelState, Scene, owner_of, aim_of, line_of, demand_of, untold_of, is_fetching, Fixed}
 use Rattle.sa_kernel_model.specs.Closing.{for_spaces, spaces, was_idle, calls_for, must_want, want_one, want_for, wants, claim_of, claims_from, claims, first_space, shares, aims, is_told_by, has_low_line, must_interrupt, interrupt, interrupt_one, interrupt_for, lines, closed}
@@ -34,19 +34,17 @@ is_plainly_idle None = false
 is_plainly_idle (Some x) = x.idle
 
 abbrev pub nameless_calls : {D : Type 0} → NamelessNote D → Bool
-nameless_calls (NamelessNote.added p) = false
 nameless_calls (NamelessNote.preempted x) = not (is_plainly_idle x)
-nameless_calls NamelessNote.blocked = false
 nameless_calls (NamelessNote.unblocked x) = true
+nameless_calls _ = false
 
 abbrev pub has_notes : {D : Type 0} → List (NamelessNote D) → Bool
 has_notes [] = false
 has_notes (w ∷ ws) = true
 
 abbrev pub kind_fetches : {D : Type 0} → ℕ → NamelessKind D → Bool
-kind_fetches s (NamelessKind.plain t x) = false
-kind_fetches s (NamelessKind.page t x k) = false
 kind_fetches s (NamelessKind.upcall t) = eqb t.0 s
+kind_fetches s _ = false
 
 abbrev pub io_fetches : {D : Type 0} → ℕ → NamelessIo D → Bool
 io_fetches s x = kind_fetches s x.kind
@@ -79,14 +77,12 @@ lines-alike e g xs ys (c ∷ cs) size each =
 
 module _ {C D : Type 0} (look : ℕ → C → D) where
   note-calls : (k : KernelState C) (s : ℕ) (note : Note) → calls_for k note ≡ nameless_calls (nameless_note look s (held_by k) note)
-  note-calls k s (Add p) = refl
-  note-calls k s (Blocked a) = refl
-  note-calls k s (Unblocked a) = refl
   note-calls k s (Preempted a) = go (held_of (k.acts a.0))
     where
       go : (h : Option (Stopped C)) → not (was_idle h) ≡ not (is_plainly_idle (plain_held look s h))
       go None = refl
       go (Some h) = refl
+  note-calls k s _ = refl
 
   notes-call : (k : KernelState C) (s : ℕ) (notes : List Note)
       → list_any (calls_for k) notes ≡ list_any nameless_calls (nameless_notes look s (held_by k) notes)
@@ -101,8 +97,7 @@ module _ {C D : Type 0} (look : ℕ → C → D) where
 
   one-fetches : (held : Held C) (s : ℕ) (kind : IoKind) → is_fetch_of s kind ≡ kind_fetches s (nameless_kind look held kind)
   one-fetches held s (Plain t a) = refl
-  one-fetches held s (Page t a k) = refl
-  one-fetches held s (Upcall t) = refl
+  one-fetches held s _ = refl
 
   ios-fetch : (e : ℕ) (held : Held C) (s : ℕ) (ios : List Io) → list_any (fetches s) ios ≡ list_any (io_fetches s) (map (nameless_io look e held) ios)
   ios-fetch e held s [] = refl

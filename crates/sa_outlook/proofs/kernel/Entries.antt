@@ -204,11 +204,8 @@ module _ {C D : Type 0} (look : ℕ → C → D) where
   pub stopped-alike : (e g : ℕ) (p : ProcNo) (o : Option SpaceNo) (a b : Option ActNo) (h i : Option (Stopped C)) (x y : Scene C) → is_some a ≡ is_some b
       → CanStop x.state o a → CanStop y.state o b → AlikeStops o h i → AlikeScenes look e g x y
       → AlikeScenes look e g (stopped e p o a h x) (stopped g p o b i y)
-  stopped-alike e g p None a b h i x y lives at bt held was = was
-  stopped-alike e g p (Some s) None None h i x y lives at bt held was = was
   stopped-alike e g p (Some s) None (Some b) h i x y lives at bt held was = absurd (cc)
   stopped-alike e g p (Some s) (Some a) None h i x y lives at bt held was = absurd (cc)
-  stopped-alike e g p (Some s) (Some a) (Some b) None None x y lives at bt held was = was
   stopped-alike e g p (Some s) (Some a) (Some b) None (Some i) x y lives at bt held was = absurd (let z = held s refl in cc)
   stopped-alike e g p (Some s) (Some a) (Some b) (Some h) None x y lives at bt held was = absurd (let z = held s refl in cc)
   stopped-alike e g p (Some s) (Some a) (Some b) (Some h) (Some i) x y lives at bt held was =
@@ -217,6 +214,7 @@ module _ {C D : Type 0} (look : ℕ → C → D) where
       aside-alike e g p s a b h i (Preempted a) (Preempted b) x.state y.state ka lb
       (ap (λ (z : Option (PlainStopped D)). NamelessNote.preempted z)
       (stopped-held (with_life p None x.state) a s h ka.runs ∙ held s refl ∙ sym (stopped-held (with_life p None y.state) b s i lb.runs))) was
+  stopped-alike e g p _ _ _ _ _ x y lives at bt held was = was
 
   -- A BLOCK
 
@@ -250,8 +248,7 @@ module _ {C D : Type 0} (look : ℕ → C → D) where
 
   pages-over : (held : Held C) (kind : IoKind) (pages : List ℕ) → completed kind pages ≡ kind_completed (nameless_kind look held kind) pages
   pages-over held (Plain s a) pages = refl
-  pages-over held (Page s a k) pages = refl
-  pages-over held (Upcall s) pages = refl
+  pages-over held _ pages = refl
 
   back-alike : (e g : ℕ) (p : ProcNo) (s t : SpaceNo) (a b : ActNo) (x y : Scene C) → s ≡ t
       → plain_held look s.0 (held_by x.state a.0) ≡ plain_held look t.0 (held_by y.state b.0)
@@ -268,12 +265,7 @@ module _ {C D : Type 0} (look : ℕ → C → D) where
   over_for-alike e g p (Plain s a) (Plain t b) x y same was = back-alike e g p s t a b x y (cc) (cc) was
   over_for-alike e g p (Page s a n) (Page t b m) x y same was = back-alike e g p s t a b x y (cc) (cc) was
   over_for-alike e g p (Upcall s) (Upcall t) x y same was = was
-  over_for-alike e g p (Plain s a) (Page t b m) x y same was = absurd (cc)
-  over_for-alike e g p (Plain s a) (Upcall t) x y same was = absurd (cc)
-  over_for-alike e g p (Page s a n) (Plain t b) x y same was = absurd (cc)
-  over_for-alike e g p (Page s a n) (Upcall t) x y same was = absurd (cc)
-  over_for-alike e g p (Upcall s) (Plain t b) x y same was = absurd (cc)
-  over_for-alike e g p (Upcall s) (Page t b m) x y same was = absurd (cc)
+  over_for-alike e g p _ _ x y same was = absurd (cc)
 
   -- the first in order of two kernels that are alike are over
   pub over-alike : (e g : ℕ) (p : ProcNo) (x y : Scene C) (a b : Io) (xs ys : List Io) → IsNumbered x.state → IsNumbered y.state

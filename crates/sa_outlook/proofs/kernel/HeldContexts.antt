@@ -3,7 +3,7 @@ use Rattle.std.proofs.Common.{◌≡◌, ◌≢◌, ℕ, ◌-◌, ◌≤◌, Boo
 use Rattle.std.proofs.lemmas.Bool.{cond-true, cond-false, eq-eqb, le-ltb, lt-ltb}
 use Rattle.std.proofs.lemmas.List.Sums.{sum_by-cons}
 use Rattle.sa_base.specs.declared.record.Note.{Note}
-use Rattle.sa_base.specs.declared.record.Note.TheVariants.{Add, Preempted, Blocked, Unblocked}
+use Rattle.sa_base.specs.declared.record.Note.TheVariants.{Preempted, Unblocked}
 use Rattle.sa_base.specs.declared.context.Stopped.{Stopped}
 use Rattle.sa_devices.specs.declared.kind.IoKind.{IoKind}
 use Rattle.sa_devices.specs.declared.kind.IoKind.TheVariants.{Plain, Page, Upcall}
@@ -31,12 +31,11 @@ module _ {C D : Type 0} (look : ℕ → C → D) where
 
   note-other : (new old : Held C) (a s : ℕ) (note : Note) → Others new old a → note_claim a note ≡ 0
       → nameless_note look s new note ≡ nameless_note look s old note
-  note-other new old a s (Add p) others none = refl
-  note-other new old a s (Blocked b) others none = refl
   note-other new old a s (Preempted b) others none =
       ap (λ (h : Option (Stopped C)). NamelessNote.preempted (plain_held look s h)) (others b.0 (apart a b.0 none))
   note-other new old a s (Unblocked b) others none =
       ap (λ (h : Option (Stopped C)). NamelessNote.unblocked (plain_held look s h)) (others b.0 (apart a b.0 none))
+  note-other new old a s _ others none = refl
 
   pub notes-other : (new old : Held C) (a s : ℕ) (notes : List Note) → Others new old a → sum_by (note_claim a) notes ≡ 0
       → nameless_notes look s new notes ≡ nameless_notes look s old notes

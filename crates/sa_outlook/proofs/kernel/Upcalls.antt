@@ -165,8 +165,6 @@ module _ {C D : Type 0} (look : ℕ → C → D) where
       → AlikeStops look o (Some h) (Some i) → AlikeScenes look e g x y
       → AlikeScenes look e g (blocked_by e p a o c h n page x) (blocked_by g p b o d i n page y)
       × (upcalls_in x.state o c ≡ true → o ≡ owner_of x.state p → ToldAlike p (blocked_by e p a o c h n page x).state (blocked_by g p b o d i n page y).state)
-  blocked-both e g p a b None c d h i n page x y live stop_x stop_y none_a none_b held was = (was, λ up is. absurd cc)
-  blocked-both e g p a b (Some s) None None h i n page x y live stop_x stop_y none_a none_b held was = (was, λ up is. absurd cc)
   blocked-both e g p a b (Some s) None (Some d) h i n page x y live stop_x stop_y none_a none_b held was = absurd cc
   blocked-both e g p a b (Some s) (Some c) None h i n page x y live stop_x stop_y none_a none_b held was = absurd cc
   blocked-both e g p a b (Some s) (Some c) (Some d) h i n page x y live stop_x stop_y none_a none_b held was =
@@ -186,6 +184,7 @@ module _ {C D : Type 0} (look : ℕ → C → D) where
             ≡ told_notes look (told_or_left g p s b true new_y).state u.0)
             (same_Some s t (is ∙ owner)) (upcall-told look e g p s a b false new_x new_y free_x free_y begun_alike))),
       )
+  blocked-both e g p a b _ _ _ h i n page x y live stop_x stop_y none_a none_b held was = (was, λ up is. absurd cc)
 
   pub blocked-alike : (e g : ℕ) (p : ProcNo) (a b : ActNo) (h i : Stopped C) (n : ℕ) (page : Option ℕ) (x y : Scene C) → IsReady x.state p a
       → IsReady y.state p b
@@ -345,15 +344,4 @@ module _ {C D : Type 0} (look : ℕ → C → D) where
   fetched-alike e g k l s (Unblocked a) (Unblocked b) notes others is_k is_l ck cl head rest was =
       both-handed e g k l s a b notes others (handed-at k s a (Unblocked a) notes is_k (one-claim a.0) ck refl)
       (handed-at l s b (Unblocked b) others is_l (one-claim b.0) cl refl) rest was
-  fetched-alike e g k l s (Add p) (Preempted b) notes others is_k is_l ck cl head rest was = absurd cc
-  fetched-alike e g k l s (Add p) (Blocked b) notes others is_k is_l ck cl head rest was = absurd cc
-  fetched-alike e g k l s (Add p) (Unblocked b) notes others is_k is_l ck cl head rest was = absurd cc
-  fetched-alike e g k l s (Blocked a) (Add q) notes others is_k is_l ck cl head rest was = absurd cc
-  fetched-alike e g k l s (Blocked a) (Preempted b) notes others is_k is_l ck cl head rest was = absurd cc
-  fetched-alike e g k l s (Blocked a) (Unblocked b) notes others is_k is_l ck cl head rest was = absurd cc
-  fetched-alike e g k l s (Preempted a) (Add q) notes others is_k is_l ck cl head rest was = absurd cc
-  fetched-alike e g k l s (Preempted a) (Blocked b) notes others is_k is_l ck cl head rest was = absurd cc
-  fetched-alike e g k l s (Preempted a) (Unblocked b) notes others is_k is_l ck cl head rest was = absurd cc
-  fetched-alike e g k l s (Unblocked a) (Add q) notes others is_k is_l ck cl head rest was = absurd cc
-  fetched-alike e g k l s (Unblocked a) (Blocked b) notes others is_k is_l ck cl head rest was = absurd cc
-  fetched-alike e g k l s (Unblocked a) (Preempted b) notes others is_k is_l ck cl head rest was = absurd cc
+  fetched-alike e g k l s _ _ notes others is_k is_l ck cl head rest was = absurd cc

@@ -101,8 +101,6 @@ module _ {U C D : Type 0} (f : Calls U C) (plain : Option SpaceView → C → D)
       → ((u : U) → o ≡ Some u → IsMade (slice_get m.workload.spaces s.0) u)
       → see plain m.workload (Some s) c ≡ see plain m.workload (Some s) d → owner_of m.kernel p ≡ Some s
       → SameCalls (slice_get m.workload.spaces s.0) call other → BothAlike m n → BothAlike (called_by call p s o c m) (called_by other p s o d n)
-  called-by call other p s m n None c d made same owner law was = was
-  called-by call other p s m n (Some u) None None made same owner law was = was
   called-by call other p s m n (Some u) None (Some d) made same owner law was = absurd cc
   called-by call other p s m n (Some u) (Some c) None made same owner law was = absurd cc
   called-by call other p s m n (Some u) (Some c) (Some d) made same owner law was =
@@ -111,6 +109,7 @@ module _ {U C D : Type 0} (f : Calls U C) (plain : Option SpaceView → C → D)
         alike = pair-alike m n p s (call u c) (other u d) m.items n.items owner r was.alike;
         made = made-set m s.0 (call u c).0 r.made was.made;
       }
+  called-by call other p s m n _ _ _ made same owner law was = was
 
   pub called-alike : (call other : U → C → U × C) (p : ProcNo) (s : SpaceNo) (m n : Machine U C) → owner_of m.kernel p ≡ Some s
       → SameCalls (slice_get m.workload.spaces s.0) call other → BothAlike m n → BothAlike (called call p s m) (called other p s n)
@@ -158,8 +157,6 @@ module _ {U C D : Type 0} (f : Calls U C) (plain : Option SpaceView → C → D)
       → ((u : U) → o ≡ Some u → IsMade (slice_get m.workload.spaces s.0) u)
       → see plain m.workload (Some s) c ≡ see plain m.workload (Some s) d → owner_of m.kernel p ≡ Some s
       → BothAlike m n → SameSteps (stepped_by f p s (seen_on m p s) o c m) (stepped_by f p s (at_event n.event (seen_on m p s)) o d n)
-  stepped-by p s m n None c d made same owner was = record { after = was; answer = refl }
-  stepped-by p s m n (Some u) None None made same owner was = record { after = was; answer = refl }
   stepped-by p s m n (Some u) None (Some d) made same owner was = absurd cc
   stepped-by p s m n (Some u) (Some c) None made same owner was = absurd cc
   stepped-by p s m n (Some u) (Some c) (Some d) made same owner was =
@@ -174,6 +171,7 @@ module _ {U C D : Type 0} (f : Calls U C) (plain : Option SpaceView → C → D)
         };
         answer = r.answer;
       }
+  stepped-by p s m n _ _ _ made same owner was = record { after = was; answer = refl }
 
   pub stepped-alike : (p : ProcNo) (s : SpaceNo) (m n : Machine U C) → owner_of m.kernel p ≡ Some s → BothAlike m n
       → SameSteps (stepped f p s m) (stepped f p s n)
@@ -188,8 +186,6 @@ module _ {U C D : Type 0} (f : Calls U C) (plain : Option SpaceView → C → D)
   stopped-by : (w : WorkloadView) (s : SpaceNo) (o : Option U) (c d : Option C) → ((u : U) → o ≡ Some u → IsMade (slice_get w.spaces s.0) u)
       → see plain w (Some s) c ≡ see plain w (Some s) d
       → plain_held (look_in plain w) s.0 (stopped_by f o c) ≡ plain_held (look_in plain w) s.0 (stopped_by f o d)
-  stopped-by w s None c d made same = refl
-  stopped-by w s (Some u) None None made same = refl
   stopped-by w s (Some u) None (Some d) made same = absurd cc
   stopped-by w s (Some u) (Some c) None made same = absurd cc
   stopped-by w s (Some u) (Some c) (Some d) made same =
@@ -201,6 +197,7 @@ module _ {U C D : Type 0} (f : Calls U C) (plain : Option SpaceView → C → D)
     where
       one : D → Option ThreadNo → Bool → Option (PlainStopped D)
       one x t b = Some (record { ctx = x; thread = t; idle = b })
+  stopped-by w s _ _ _ made same = refl
 
   pub stops-alike : (p : ProcNo) (m n : Machine U C) → BothAlike m n
       → AlikeStops (look_in plain m.workload) (owner_of m.kernel p) (stopped_in f m p (owner_of m.kernel p)) (stopped_in f n p (owner_of n.kernel p))

@@ -47,11 +47,10 @@ module _ {U C D : Type 0} (f : Calls U C) (plain : Option SpaceView → C → D)
 
   owes-same : (w : WorkloadView) (s : SpaceNo) (o : Option U) (c d : Option C) → ((u : U) → o ≡ Some u → IsMade (slice_get w.spaces s.0) u)
       → see plain w (Some s) c ≡ see plain w (Some s) d → owes_by f o c ≡ owes_by f o d
-  owes-same w s None c d made same = refl
-  owes-same w s (Some u) None None made same = refl
   owes-same w s (Some u) None (Some d) made same = absurd cc
   owes-same w s (Some u) (Some c) None made same = absurd cc
   owes-same w s (Some u) (Some c) (Some d) made same = laws.owes (slice_get w.spaces s.0) u c d (made u refl) (same_Some _ _ same)
+  owes-same w s _ _ _ made same = refl
 
   inside-in : (m n : Machine U C) (p : ℕ) (o : Option SpaceNo) → AreMade f plain IsMade laws m → AlikeMachines plain m n
       → see plain m.workload o (context_on m (proc_no p)) ≡ see plain m.workload o (context_on n (proc_no p))

@@ -22,7 +22,7 @@ use Rattle.sa_kernel_model.specs.Parts.{with_line, fetch_page, leave, moved, go_
 use Rattle.sa_kernel_model.specs.Closing.{closed}
 use Rattle.sa_kernel_model.specs.Entries.{IsOwnPage, stopped, go_to_aim, told_or_left, block_begun, blocked_by as kernel_blocked_by, interrupted as kernel_interrupted, blocked as kernel_blocked, over, over_for, more, idled, gave_back, kind_at}
 use Rattle.sa_devices.specs.declared.kind.IoKind.{IoKind}
-use Rattle.sa_devices.specs.declared.kind.IoKind.TheVariants.{Plain, Page, Upcall}
+use Rattle.sa_devices.specs.declared.kind.IoKind.TheVariants.{Plain}
 use Rattle.sa_kernel_model.specs.Enters.{upcalls_for, upcalls_in}
 use Rattle.sa_kernel_model.proofs.sound.Held.{stays-closed}
 use Rattle.sa_core_model.specs.Machine.{Machine, seen_on, scene_of, without_context, stopped_in, stepped, step_to}
@@ -84,9 +84,8 @@ module _ {C : Type 0} where
 
   others-blocked_by : (e : ℕ) (p : ProcNo) (a : ActNo) (o : Option SpaceNo) (l : Option ActNo) (h : Stopped C) (n : ℕ) (page : Option ℕ) (x : Scene C)
       → OthersStay p x (kernel_blocked_by e p a o l h n page x)
-  others-blocked_by e p a None l h n page x q apart = refl
-  others-blocked_by e p a (Some s) None h n page x q apart = refl
   others-blocked_by e p a (Some s) (Some b) h n page x q apart = others-told e p s a (can_upcall x.state s) (block_begun e p s b h n page x) q apart
+  others-blocked_by e p a _ _ h n page x q apart = refl
 
   others-closed : (e : ℕ) (p : ProcNo) (x y : Scene C) → OthersStay p x y → OthersStay p x (closed e p y)
   others-closed e p x y stay q apart =
@@ -95,8 +94,7 @@ module _ {C : Type 0} where
   -- entries after which each processor has its owner
   owners-over_for : (e : ℕ) (p : ProcNo) (kind : IoKind) (x : Scene C) → (over_for e p kind x).state.assign ≡ x.state.assign
   owners-over_for e p (Plain s a) x = refl
-  owners-over_for e p (Page s a k) x = refl
-  owners-over_for e p (Upcall s) x = refl
+  owners-over_for e p _ x = refl
 
   owners-over : (e : ℕ) (p : ProcNo) (io : IoNo) (kind : Option IoKind) (x : Scene C) → (over e p io kind x).state.assign.owners ≡ x.state.assign.owners
   owners-over e p io None x = refl
@@ -466,10 +464,9 @@ module _ {U C D : Type 0} (f : Calls U C) (plain : Option SpaceView → C → D)
       → Two m n → Two (turned_raised f p a x m) (turned_raised f p b y n)
   raised-both w v e g i j m n p a b None None rm rn later few later_n few_n wm wn num_m num_n same lm ln um un was =
       due_io-both w v e g i j m n p a b rm rn later few later_n few_n num_m num_n lm ln um un was
-  raised-both w v e g i j m n p a b None (Some y) rm rn later few later_n few_n wm wn num_m num_n same lm ln um un was = absurd cc
-  raised-both w v e g i j m n p a b (Some x) None rm rn later few later_n few_n wm wn num_m num_n same lm ln um un was = absurd cc
   raised-both w v e g i j m n p a b (Some x) (Some y) rm rn later few later_n few_n wm wn num_m num_n same lm ln um un was =
       interrupted-both w v e g i j m n p a b x y rm rn wm wn lm ln um un was
+  raised-both w v e g i j m n p a b _ _ rm rn later few later_n few_n wm wn num_m num_n same lm ln um un was = absurd cc
 
   -- ONE TURN
   pub turned-both : (m n : Machine U C) (p : ProcNo) (a b : ActNo) → IsBetween stands m → IsBetween stands n → IsRegular IsMade m → IsRegular IsMade n

@@ -1,5 +1,5 @@
 -- The phases of a turn keep machines alike: entries, ticks, the end of a slice, and an upcall with all that it tells.
-use Rattle.std.proofs.Common.{◌≡◌, ◌≢◌, ℕ, zero, suc, ◌%◌, Bool, true, false, ◌&&◌, not, cond, eqb, Option, Some, None, List, [], ◌∷◌, get_or, slice_get, slice_set, refl, sym, ap, subst, ◌∙◌, inl, inr}
+use Rattle.std.proofs.Common.{◌≡◌, ◌≢◌, ℕ, suc, ◌%◌, Bool, true, false, ◌&&◌, not, cond, eqb, Option, Some, None, List, [], ◌∷◌, get_or, slice_get, slice_set, refl, sym, ap, subst, ◌∙◌, inl, inr}
 use Rattle.std.proofs.lemmas.Bool.{cases_eq}
 use Rattle.std.proofs.lemmas.List.{length-set, get_or-set_other}
 use Rattle.std.proofs.lemmas.Option.{same_Some}
@@ -9,7 +9,7 @@ use Rattle.sa_base.specs.declared.number.ActNo.{ActNo}
 use Rattle.sa_base.specs.declared.context.Seen.{Seen}
 use Rattle.sa_base.specs.declared.context.Stopped.{Stopped}
 use Rattle.sa_base.specs.declared.record.Note.{Note}
-use Rattle.sa_base.specs.declared.record.Note.TheVariants.{Add, Preempted, Blocked, Unblocked}
+use Rattle.sa_base.specs.declared.record.Note.TheVariants.{Add, Preempted, Unblocked}
 use Rattle.sa_base.specs.declared.record.Item.{Item}
 use Rattle.sa_spaces.specs.Space.{SpaceView}
 use Rattle.sa_spaces.specs.Workload.{WorkloadView}
@@ -76,9 +76,8 @@ module _ {U C D : Type 0} (f : Calls U C) (plain : Option SpaceView → C → D)
 
   -- no context runs on a processor
   none-set : (xs : List (Option C)) (p : ℕ) → get_or (slice_set xs p None) p None ≡ None
-  none-set [] p = refl
-  none-set (x ∷ xs) zero = refl
   none-set (x ∷ xs) (suc p) = none-set xs p
+  none-set _ _ = refl
 
   -- a context is set aside, and the owners of other processors stay
   pub aside-both : (m n : Machine U C) (p : ProcNo) (k l : KernelState C) (items others : List Item) → Both m n → AlikeKernels (look_of m) m.event n.event k l
@@ -197,14 +196,10 @@ module _ {U C D : Type 0} (f : Calls U C) (plain : Option SpaceView → C → D)
   note-held : (look : ℕ → C → D) (s : ℕ) (k : KernelState C) (note : Note)
       → nameless_note look s (held_by k) note ≡ nameless_note look s (λ (n : ℕ). held_for k note) note
   note-held look s k (Add p) = refl
-  note-held look s k (Blocked a) = refl
-  note-held look s k (Preempted a) = refl
-  note-held look s k (Unblocked a) = refl
+  note-held look s k _ = refl
 
   note-plain : (w : WorkloadView) (s : ℕ) (h : Held C) (note : Note)
       → nameless_note (look_in plain w) s h note ≡ nameless_note (λ (i : ℕ) (c : C). plain (slice_get w.spaces s) c) 0 h note
-  note-plain w s h (Add p) = refl
-  note-plain w s h (Blocked a) = refl
   note-plain w s h (Preempted a) = go (h a.0)
     where
       go : (x : Option (Stopped C)) → NamelessNote.preempted (plain_held (look_in plain w) s x)
@@ -217,10 +212,9 @@ module _ {U C D : Type 0} (f : Calls U C) (plain : Option SpaceView → C → D)
           ≡ NamelessNote.unblocked (plain_held (λ (i : ℕ) (c : C). plain (slice_get w.spaces s) c) 0 x)
       go None = refl
       go (Some x) = refl
+  note-plain w s h _ = refl
 
   fetched-owners : (note : Note) (k : KernelState C) → (fetched note k).assign ≡ k.assign
-  fetched-owners (Add p) k = refl
-  fetched-owners (Blocked a) k = refl
   fetched-owners (Preempted a) k = go (held_of (k.acts a.0))
     where
       go : (o : Option (Stopped C)) → (handed_by o a k).assign ≡ k.assign
@@ -231,6 +225,7 @@ module _ {U C D : Type 0} (f : Calls U C) (plain : Option SpaceView → C → D)
       go : (o : Option (Stopped C)) → (handed_by o a k).assign ≡ k.assign
       go None = refl
       go (Some h) = refl
+  fetched-owners _ k = refl
 
   -- two upcalls' contexts that were told the same
   pub record BothTold (s : SpaceNo) (m n : Machine U C) : Type 0 where
@@ -279,16 +274,13 @@ module _ {U C D : Type 0} (f : Calls U C) (plain : Option SpaceView → C → D)
         → Tells f stands keep w e g p s notes m → Tells f stands keep v i j p s others n → BothTold s m n
         → Both (told_all f p s notes m) (told_all f p s others n)
     told-many w v e g i j p s [] [] m n tm tn was = was.both
-    told-many w v e g i j p s [] (other ∷ others) m n tm tn was =
-        absurd (let z = ap (nameless_notes (look_of m) s.0 (held_by m.kernel)) (sym tm.telling) ∙ was.told
-        ∙ ap (nameless_notes (look_of m) s.0 (held_by n.kernel)) tn.telling in cc)
-    told-many w v e g i j p s (note ∷ notes) [] m n tm tn was =
-        absurd (let z = ap (nameless_notes (look_of m) s.0 (held_by m.kernel)) (sym tm.telling) ∙ was.told
-        ∙ ap (nameless_notes (look_of m) s.0 (held_by n.kernel)) tn.telling in cc)
     told-many w v e g i j p s (note ∷ notes) (other ∷ others) m n tm tn was =
         told-many w v e g i j p s notes others (told_one f p s note notes m) (told_one f p s other others n)
         (tells-next f stands keep w e g m p s note notes tm) (tells-next f stands keep v i j n p s other others tn)
         (told-one p s note other notes others m n tm.owner tm.telling tn.telling tm.claimed tn.claimed was)
+    told-many w v e g i j p s _ _ m n tm tn was =
+        absurd (let z = ap (nameless_notes (look_of m) s.0 (held_by m.kernel)) (sym tm.telling) ∙ was.told
+        ∙ ap (nameless_notes (look_of m) s.0 (held_by n.kernel)) tn.telling in cc)
 
     all-owner : (w : WorkloadView) (e g : ℕ) (p : ProcNo) (s : SpaceNo) (notes : List Note) (m : Machine U C) → Tells f stands keep w e g p s notes m
         → owner_of (told_all f p s notes m).kernel p ≡ Some s

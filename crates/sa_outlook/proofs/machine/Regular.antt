@@ -8,7 +8,7 @@ use Rattle.sa_base.specs.declared.limits.TheConstants.{MAX_EVENTS}
 use Rattle.sa_base.specs.declared.context.Seen.{Seen}
 use Rattle.sa_base.specs.declared.context.Stopped.{Stopped}
 use Rattle.sa_base.specs.declared.record.Note.{Note}
-use Rattle.sa_base.specs.declared.record.Note.TheVariants.{Add, Preempted, Blocked, Unblocked}
+use Rattle.sa_base.specs.declared.record.Note.TheVariants.{Preempted, Unblocked}
 use Rattle.sa_spaces.specs.Space.{SpaceView}
 use Rattle.sa_abstract.specs.Calls.{Calls}
 use Rattle.sa_abstract.specs.Keeps.{Standing, Keeps}
@@ -17,7 +17,7 @@ use Rattle.sa_abstract.specs.declared.answer.Step.TheVariants.{Did, Block, More,
 use Rattle.sa_acts.specs.Table.{held_of}
 use Rattle.sa_devices.specs.Ios.{io_no, due_of}
 use Rattle.sa_devices.specs.declared.kind.IoKind.{IoKind}
-use Rattle.sa_devices.specs.declared.kind.IoKind.TheVariants.{Plain, Page, Upcall}
+use Rattle.sa_devices.specs.declared.kind.IoKind.TheVariants.{Upcall}
 use Rattle.sa_kernel_model.specs.declared.entry.Entry.{Entry}
 use Rattle.sa_kernel_model.specs.declared.entry.Entry.TheVariants.{Interrupt, Block as BlockEntry, Complete, More as MoreEntry, Idle as IdleEntry, GiveBack as GiveBackEntry, InterruptOwn as InterruptOwnEntry}
 use Rattle.sa_kernel_model.specs.State.{KernelState, Scene, Fixed, owner_of, aim_of, life_of, line_of, can_upcall, is_fetching}
@@ -62,10 +62,8 @@ module _ {C : Type 0} (w : Fixed) where
 
   stops : (e : ℕ) (p : ProcNo) (o : Option SpaceNo) (l : Option ActNo) (i : Option (Stopped C)) (x : Scene C) → IsInOrder x.state
       → IsInOrder (stopped e p o l i x).state
-  stops e p None l i x h = h
-  stops e p (Some s) None i x h = h
-  stops e p (Some s) (Some a) None x h = h
   stops e p (Some s) (Some a) (Some i) x h = (h.0, h.1)
+  stops e p _ _ _ x h = h
 
   tells : (e : ℕ) (p : ProcNo) (s : SpaceNo) (a : ActNo) (b : Bool) (x : Scene C) → IsInOrder x.state → IsInOrder (told_or_left e p s a b x).state
   tells e p s a true x h = (h.0, h.1)
@@ -73,16 +71,14 @@ module _ {C : Type 0} (w : Fixed) where
 
   blocks : (e : ℕ) (p : ProcNo) (a : ActNo) (o : Option SpaceNo) (l : Option ActNo) (i : Stopped C) (n : ℕ) (page : Option ℕ) (x : Scene C)
       → IsInOrder x.state → IsInOrder (kernel_blocked_by e p a o l i n page x).state
-  blocks e p a None l i n page x h = h
-  blocks e p a (Some s) None i n page x h = h
   blocks e p a (Some s) (Some b) i n page x h =
       tells e p s a (can_upcall x.state s) (block_begun e p s b i n page x)
       (let z = begun-io (io_for s b page) (e + n) x.state h in (z.0, z.1))
+  blocks e p a _ _ i n page x h = h
 
   overs_for : (e : ℕ) (p : ProcNo) (kind : IoKind) (x : Scene C) → IsInOrder x.state → IsInOrder (over_for e p kind x).state
-  overs_for e p (Plain s a) x h = (h.0, h.1)
-  overs_for e p (Page s a k) x h = (h.0, h.1)
   overs_for e p (Upcall s) x h = h
+  overs_for e p _ x h = (h.0, h.1)
 
   overs : (e : ℕ) (p : ProcNo) (io : IoNo) (kind : Option IoKind) (x : Scene C) → IsInOrder x.state → IsInOrder (over e p io kind x).state
   overs e p io None x h = h
@@ -137,10 +133,9 @@ module _ {C : Type 0} (w : Fixed) where
   hands (Some i) a k h = (h.0, h.1)
 
   fetches : (note : Note) (k : KernelState C) → IsInOrder k → IsInOrder (fetched note k)
-  fetches (Add p) k h = h
-  fetches (Blocked a) k h = h
   fetches (Preempted a) k h = hands (held_of (k.acts a.0)) a k h
   fetches (Unblocked a) k h = hands (held_of (k.acts a.0)) a k h
+  fetches _ k h = h
 
 module _ {U C : Type 0} (f : Calls U C) (w : Fixed) where
   abbrev pub Ordered : Machine U C → Type 0
