@@ -1,7 +1,7 @@
 -- The numbers of a command are in their ranges, since their words are.
 use Rattle.std.proofs.Common.{◌≡◌, ℕ, ◌≤◌, Bool, true, false, List, [], ◌∷◌, Option, Some, None, refl, sym, ◌∙◌, subst, inl, inr, lit≤}
 use Rattle.std.proofs.lemmas.Bool.Decides.{leb_tells}
-use Rattle.std.proofs.lemmas.Bool.{false≢true}
+use Rattle.std.proofs.lemmas.Bool.{false≢true, leb-true}
 use Rattle.std.specs.Prelude.{IfSome, ⊤, nat_le, ◌&&◌, option_and_then, unwrap_or, codes, is_none, if◌then◌else◌}
 use Rattle.std.specs.Option.{option_map}
 use Rattle.std.specs.Str.{bytes_eq}
@@ -44,13 +44,10 @@ both true false n P h = tt
 both false true n P h = tt
 both false false n P h = tt
 
-told : (a b : ℕ) → nat_le a b ≡ true → a ≤ b
-told a b is = elim (leb_tells a b) [ inl below ↦ below.1 | inr above ↦ absurd (false≢true (sym above.0 ∙ is)) ]
-
 number-within : (low high : ℕ) (bytes : List ℕ) → IfSome (number_within low high bytes) (IsFrom low high)
 number-within low high bytes =
     bind (λ n. ⊤) (IsFrom low high) (within low high) (number_of bytes) (any (number_of bytes))
-    (λ n h. both (nat_le low n) (nat_le n high) n (IsFrom low high) (λ a b. record { least = told low n a; most = told n high b }))
+    (λ n h. both (nat_le low n) (nat_le n high) n (IsFrom low high) (λ a b. record { least = leb-true low n a; most = leb-true n high b }))
 
 -- the numbers that are set are in range
 record AreFine (s : Settings) : Type 0 where
