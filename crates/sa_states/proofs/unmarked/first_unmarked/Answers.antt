@@ -1,10 +1,7 @@
 use Rattle.std.proofs.Common.{◌≡◌, ℕ, Bool, Some, true, false, not, position, get_or, refl, sym, ap, ◌∙◌}
+use Rattle.std.proofs.lemmas.Bool.{not-true}
 use Rattle.sa_states.proofs.Firsts.{first-passes, first-at, none-passes}
 use Rattle.sa_states.proofs.unmarked.first_unmarked.Goals as goal
-
-is-false : (b : Bool) → not b ≡ true → b ≡ false
-is-false true h = absurd (cc)
-is-false false h = refl
 
 pub returns : goal.returns
 returns c =
@@ -14,7 +11,7 @@ returns c =
     let at = first-at not marks place true found in
     record {
       place = place;
-      is = at.0 ∙ ap (λ (b : Bool). Some b) (is-false (get_or marks place true) at.1);
+      is = at.0 ∙ ap (λ (b : Bool). Some b) (not-true (get_or marks place true) at.1);
       first = λ k is. first-passes not marks place true found k false is refl;
       schedule = c.in_ok-schedule.ensures;
       count = c.count_false-count.ensures;
