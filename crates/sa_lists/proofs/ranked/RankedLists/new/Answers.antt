@@ -1,16 +1,13 @@
-use Rattle.std.proofs.Common.{◌≡◌, ◌+◌, ◌*◌, ℕ, [], replicate, ap, ◌∙◌, arith}
+use Rattle.std.proofs.Common.{◌≡◌, ◌+◌, ◌*◌, ℕ, [], replicate, ap, ◌∙◌, arith, add-zero}
 use Rattle.sa_links.specs.Lists.{Lists}
 use Rattle.sa_lists.specs.Chains.{width_of}
 use Rattle.sa_lists.proofs.Storage.{opened-ranked, opened-value}
 use Rattle.sa_lists.proofs.ranked.RankedLists.new.Goals as goal
 
-plus-none : (n : ℕ) → n + 0 ≡ n
-plus-none n = omega arith
-
 pub invariant_of-result : goal.invariant_of-result
 invariant_of-result c =
     opened-ranked c.args.kind c.args.lists c.args.threads c.in_ok-chains.chains.lists c.in_ok-filled.filled.items c.in_ok-ranks.ranks.items
-    (ap (λ (l : Lists). l.lists) c.in_ok-chains.ensures ∙ ap (λ n. replicate n []) (c.chain_of.ensures ∙ plus-none (c.args.lists * width_of c.args.kind)))
+    (ap (λ (l : Lists). l.lists) c.in_ok-chains.ensures ∙ ap (λ n. replicate n []) (c.chain_of.ensures ∙ add-zero (c.args.lists * width_of c.args.kind)))
     c.in_ok-filled.ensures.0 c.in_ok-filled.ensures.1 c.in_ok-ranks.ensures
 
 pub returns : goal.returns
