@@ -3,7 +3,7 @@ use Rattle.std.proofs.Common.{◌≡◌, ◌≢◌, ℕ, Bool, true, false, List
 use Rattle.std.specs.Prelude.{filter, not}
 use Rattle.std.specs.List.{list_any}
 use Rattle.std.proofs.lemmas.List.{length-set, get_or-set_same, get_or-set_other}
-use Rattle.std.proofs.lemmas.Bool.{cases_Bool, cases_eq, cond-true, cond-false}
+use Rattle.std.proofs.lemmas.Bool.{cases_Bool, cases_eq, cond-true, cond-false, not-true}
 use Rattle.std.proofs.lemmas.Bool.Decides.{nat_tests}
 use Rattle.sa_base.specs.declared.number.SpaceNo.{SpaceNo}
 use Rattle.sa_base.specs.declared.number.ActNo.{ActNo}
@@ -39,10 +39,7 @@ fetches-life s a ios = list_any-kept (fetches s) (is_io_of_other a) ios (λ x go
   apart (Upcall t) gone = cc
 
 pub fetches-same : (s : SpaceNo) (ios : List Io) → list_any (fetches s.0) (filter (fetches_other s) ios) ≡ false
-fetches-same s ios = list_any-gone (fetches s.0) (fetches_other s) ios (λ x left. step (fetches s.0 x) left) where
-  step : (b : Bool) → not b ≡ true → b ≡ false
-  step true left = cc
-  step false left = refl
+fetches-same s ios = list_any-gone (fetches s.0) (fetches_other s) ios (λ x left. not-true (fetches s.0 x) left)
 
 pub fetches-other : (s : SpaceNo) (t : ℕ) (ios : List Io) → t ≢ s.0 → list_any (fetches t) (filter (fetches_other s) ios) ≡ list_any (fetches t) ios
 fetches-other s t ios apart = list_any-kept (fetches t) (fetches_other s) ios (λ x gone. step x.kind gone) where
