@@ -1,7 +1,7 @@
 -- The laws of the kernel as a value.
-use Rattle.std.proofs.Common.{◌≡◌, ◌≢◌, ℕ, suc, ◌<◌, ◌≤◌, ◌^◌, Bool, true, false, ◌&&◌, ◌||◌, eqb, not, Option, Some, None, IsSome, is_some, option_map, List, [], ◌∷◌, length, map, sum_by, slice_get, Contains, refl, sym, ap, ◌∙◌, inl, inr, arith}
+use Rattle.std.proofs.Common.{◌≡◌, ◌≢◌, ℕ, suc, ◌<◌, ◌≤◌, ◌^◌, Bool, true, false, ◌&&◌, eqb, not, Option, Some, None, IsSome, is_some, option_map, List, [], ◌∷◌, length, map, sum_by, slice_get, Contains, refl, sym, ap, ◌∙◌, inl, inr, arith}
 use Rattle.std.specs.List.{list_any}
-use Rattle.std.proofs.lemmas.Bool.{cases_lt, cond-true, eqb-true, eq-eqb, and_parts, false_from_ne_true, not-true}
+use Rattle.std.proofs.lemmas.Bool.{cases_lt, cond-true, eqb-true, eq-eqb, and_parts, false_from_ne_true, not-true, or_from}
 use Rattle.std.proofs.lemmas.List.{get_or_past}
 use Rattle.std.proofs.lemmas.List.Folds.{list_any_at}
 use Rattle.std.proofs.lemmas.List.Sums.{sum_by-cons, get_or-le-sum_by}
@@ -59,12 +59,7 @@ none-passes test xs x none has =
 pub pass-none : {A : Type 0} (test : A → Bool) (xs : List A) → ((x : A) → Contains xs x → test x ≡ false) → list_any test xs ≡ false
 pass-none test [] all = refl
 pass-none test (x ∷ xs) all =
-    either (test x) (list_any test xs) (all x (0, omega arith, refl)) (pass-none test xs (λ y has. all y (suc has.0, (let h = has.1 in omega arith), has.2)))
-  where
-    either : (a b : Bool) → a ≡ false → b ≡ false → (a || b) ≡ false
-    either true b h k = absurd cc
-    either false true h k = absurd cc
-    either false false h k = refl
+    or_from (test x) (list_any test xs) (all x (0, omega arith, refl)) (pass-none test xs (λ y has. all y (suc has.0, (let h = has.1 in omega arith), has.2)))
 
 apart-from : (a : ℕ) (b : ActNo) → bit_of (eqb a b.0) ≡ 0 → b.0 ≢ a
 apart-from a b none same = let one = ap bit_of (eq-eqb a b.0 (sym same)) in omega arith

@@ -4,6 +4,7 @@ use Rattle.std.specs.Prelude.{Option, Bool, ◌&&◌, not, cond, is_none, IsSome
 use Rattle.std.proofs.lemmas.Bool.{ne_eqb}
 use Rattle.std.proofs.lemmas.List.{set-get_or, append-nil, length-map, length-replicate, length_push, take-replicate}
 use Rattle.std.proofs.lemmas.List.Elements.{All-head, All-tail}
+use Rattle.sa_lemmas.proofs.Searches.{none-left}
 use Rattle.sa_base.specs.declared.number.SpaceNo.{SpaceNo}
 use Rattle.sa_base.specs.declared.number.ProcNo.{ProcNo}
 use Rattle.sa_base.specs.declared.number.ActNo.{ActNo}
@@ -39,7 +40,6 @@ use Rattle.sa_kernel_laws.proofs.overview.Records.{overview-ended}
 use Rattle.sa_kernel_laws.proofs.overview.Idle.{idles, idles-ended}
 use Rattle.sa_kernel_laws.proofs.entries.Walks.{not-empty}
 use Rattle.sa_kernel_laws.proofs.closings.Wants.{spaces_from, nothing-heard}
-use Rattle.sa_kernel_laws.proofs.rules.Causes.{filter-nothing}
 use Rattle.sa_kernel_laws.proofs.turns.WholeTurn.{Closing, closing-walk, closing-leaves, last-some}
 use Rattle.sa_kernel_laws.proofs.turns.Kept.{tidy-closed, idle-closed}
 
@@ -123,11 +123,11 @@ untold-none c n s is = ap (λ us. get_or us s.0 []) is ∙ all-same n s.0 no_not
   no_notes = []
 
 pub no-wants : (w : WorkloadView) (c : Readings) (n : ℕ) → c.untold ≡ replicate n [] → wants_due w c ≡ []
-no-wants w c n is = ap (map want_one) (filter-nothing (must_want c) (spaces_of w) (λ s. nothing-heard c s (untold-none c n s is)))
+no-wants w c n is = ap (map want_one) (none-left (must_want c) (spaces_of w) (λ s. nothing-heard c s (untold-none c n s is)))
 
 pub no-lines_due : (w : WorkloadView) (c : Readings) (n : ℕ) → c.untold ≡ replicate n [] → lines_due w c ≡ []
 no-lines_due w c n is =
-    ap (filter_map (line_due w c)) (filter-nothing (must_interrupt w c) (spaces_of w) (λ s. quiet s (untold-none c n s is))) where
+    ap (filter_map (line_due w c)) (none-left (must_interrupt w c) (spaces_of w) (λ s. quiet s (untold-none c n s is))) where
       quiet : (s : SpaceNo) → untold_of c s ≡ [] → must_interrupt w c s ≡ false
       quiet s none = ap (λ ns. has_untold ns && not (is_fetching c s) && is_none (least_below w.processors (will_tell c s))) none
 

@@ -1,8 +1,8 @@
 -- What waits and what is under way is there once: what each part of an entry leaves of that.
-use Rattle.std.proofs.Common.{◌≡◌, ◌≢◌, ℕ, zero, suc, ◌<◌, ◌≤◌, ◌+◌, inl, inr, refl, sym, ◌∙◌, ap, subst, arith, Some, None, List, [], ◌∷◌, ◌++◌, length, sum_by, true, false}
-use Rattle.std.specs.Prelude.{Option, Bool, ◌⊎◌, ◌==◌, ◌&&◌, ◌||◌, get_or, slice_set}
+use Rattle.std.proofs.Common.{◌≡◌, ◌≢◌, ℕ, zero, suc, ◌<◌, ◌≤◌, ◌+◌, inl, inr, refl, sym, ◌∙◌, ap, subst, arith, Some, None, List, [], ◌∷◌, ◌++◌, length, sum_by, false}
+use Rattle.std.specs.Prelude.{Option, ◌⊎◌, ◌==◌, ◌&&◌, get_or, slice_set}
 use Rattle.std.specs.List.{list_any}
-use Rattle.std.proofs.lemmas.Bool.{cases_eq, eq-eqb, ne_eqb}
+use Rattle.std.proofs.lemmas.Bool.{cases_eq, eq-eqb, ne_eqb, or_parts}
 use Rattle.std.proofs.lemmas.List.Sums.{sum_by-cons, sum_by_push}
 use Rattle.sa_base.specs.declared.number.SpaceNo.{SpaceNo}
 use Rattle.sa_base.specs.declared.number.ActNo.{ActNo}
@@ -125,16 +125,10 @@ none-fetched : (s : ℕ) (ios : List Io) → list_any (fetches s) ios ≡ false 
 none-fetched s [] none = refl
 none-fetched s (io ∷ ios) none =
     let all = sum_by-cons (fetch_claim s) io ios in
-    let one = ap once_if (or-left (fetches s io) (list_any (fetches s) ios) none) in
-    let rest = none-fetched s ios (or-right (fetches s io) (list_any (fetches s) ios) none) in
-    omega arith where
-      or-left : (a b : Bool) → (a || b) ≡ false → a ≡ false
-      or-left true b is = absurd (cc)
-      or-left false b is = refl
-
-      or-right : (a b : Bool) → (a || b) ≡ false → b ≡ false
-      or-right true b is = absurd (cc)
-      or-right false b is = is
+    let neither = or_parts (fetches s io) (list_any (fetches s) ios) none in
+    let one = ap once_if neither.0 in
+    let rest = none-fetched s ios neither.1 in
+    omega arith
 
 pub tidy-fetch : (us : List (List Note)) (ios : List Io) (s : SpaceNo) (number ends : ℕ) → list_any (fetches s.0) ios ≡ false → AreTidy us ios
     → AreTidy us (ios ++ record { number = number; ends = ends; kind = Upcall s } ∷ [])

@@ -1,6 +1,6 @@
 -- Wants, lines and aims have their causes at the event of a turn.
 use Rattle.std.proofs.Common.{◌≡◌, ◌≢◌, ℕ, refl, sym, ◌∙◌, ap, subst, None, List, [], ◌∷◌, ◌++◌, append_assoc, length, map, drop, true, false}
-use Rattle.std.specs.Prelude.{Option, Bool, ◌==◌, ◌&&◌, not, cond, get_or, slice_index, filter}
+use Rattle.std.specs.Prelude.{Option, ◌==◌, ◌&&◌, not, get_or, slice_index, filter}
 use Rattle.std.specs.List.{list_all, list_any}
 use Rattle.std.proofs.Math.Path.{fun_ext}
 use Rattle.std.proofs.lemmas.List.{append-nil}
@@ -13,7 +13,7 @@ use Rattle.sa_base.specs.declared.record.Note.TheVariants.{Add, Preempted, Block
 use Rattle.sa_base.specs.declared.record.Record.{Record}
 use Rattle.sa_base.specs.declared.record.Record.TheVariants.{Line}
 use Rattle.sa_spaces.specs.Workload.{WorkloadView}
-use Rattle.sa_lemmas.proofs.Searches.{while-none}
+use Rattle.sa_lemmas.proofs.Searches.{while-none, none-left}
 use Rattle.sa_assign.specs.Aims.{Change}
 use Rattle.sa_assign.specs.Reaim.{proc_no, line_at, lines_after, records_of}
 use Rattle.sa_kernel_model.specs.State.{KernelState}
@@ -49,10 +49,6 @@ must-alike : (c d : Readings) (s : SpaceNo) → d.demands ≡ c.demands → d.un
 must-alike c d s demands untold idle =
     let hears : must_hear d ≡ must_hear c = fun_ext (hear-alike c d idle) in
     λ i. slice_index (demands i) s.0 == 0 && list_any (hears i) (get_or (untold i) s.0 [])
-
-pub filter-nothing : (f : SpaceNo → Bool) (ss : List SpaceNo) → ((s : SpaceNo) → f s ≡ false) → filter f ss ≡ []
-filter-nothing f [] none = refl
-filter-nothing f (s ∷ ss) none = ap (λ b. cond b (s ∷ filter f ss) (filter f ss)) (none s) ∙ filter-nothing f ss none
 
 -- wants in an event
 wants-behind : (own wl rest : List Record) → own ≢ [] → AreOwn (others_of own) → list_all is_want wl ≡ true → list_all is_no_want rest ≡ true
@@ -132,7 +128,7 @@ module _ {C : Type 0} where
         ap before_wants records ∙ before-none whole.own.records rest whole.own.some whole.own.own no_wants ∙ sym records in
         ap (λ xs. wants_in (others_of xs)) records ∙ wants-behind whole.own.records [] rest whole.own.some whole.own.own refl no_wants
         ∙ sym (ap (λ xs. wants_due w (after_records w e p c xs)) all ∙ ap (λ (d : Readings). wants_due w d) whole.behind
-        ∙ ap (map want_one) (filter-nothing (must_want whole.closing.lined) (spaces_of w) (none-must w k r t whole)))
+        ∙ ap (map want_one) (none-left (must_want whole.closing.lined) (spaces_of w) (none-must w k r t whole)))
     go (s ∷ ss) some =
         let wl : wants_due w m ≡ want_one s ∷ map want_one ss = ap (map want_one) some in
         let records : (event_of t k).records ≡ whole.own.records ++ (want_one s ∷ (map want_one ss ++ rest)) =

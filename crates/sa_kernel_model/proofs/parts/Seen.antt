@@ -6,6 +6,7 @@ use Rattle.std.proofs.lemmas.Nat.{or_lt}
 use Rattle.std.proofs.lemmas.Nat.Bits.{bit_at-pow_same, bit_at-pow_other, bit_at_above, bit_at_or}
 use Rattle.std.proofs.lemmas.List.{get_or_past}
 use Rattle.std.proofs.Math.Pow.{pow-lt}
+use Rattle.std.proofs.lemmas.Option.{none-some}
 use Rattle.sa_base.specs.declared.number.ProcNo.{ProcNo}
 use Rattle.sa_base.specs.declared.number.SpaceNo.{SpaceNo}
 use Rattle.sa_assign.specs.Aims.{is_aim}
@@ -83,13 +84,10 @@ module _ {C : Type 0} where
         (λ is. low-is k s q (one-true (has_low_line k s.0 q.0) (sym bit ∙ is)), λ low. bit ∙ ap bit_of (is-low k s q low))
     | inr past ↦ (
       λ is. absurd (let none = bit_at_above (low_of k s) (length k.lives) q.0 (bits_where-lt (has_low_line k s.0) (length k.lives)) past in omega arith),
-      λ low. absurd (no-owner s (sym (get_or_past k.assign.owners q.0 None (let e = sizes.owners in omega arith)) ∙ low.owner)),
+      λ low. absurd (none-some s (sym (get_or_past k.assign.owners q.0 None (let e = sizes.owners in omega arith)) ∙ low.owner)),
     )
   ]
     where
       one-true : (b : Bool) → bit_of b ≡ 1 → b ≡ true
       one-true true is = refl
       one-true false is = absurd (omega arith)
-
-      no-owner : (s : SpaceNo) → None ≡ Some s → ⊥
-      no-owner s is = cc

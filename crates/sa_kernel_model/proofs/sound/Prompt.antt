@@ -5,6 +5,7 @@ use Rattle.std.proofs.lemmas.List.{get_or_past, get_or-set_other, get_or-set_sam
 use Rattle.sa_base.specs.declared.number.ProcNo.{ProcNo}
 use Rattle.sa_base.specs.declared.number.SpaceNo.{SpaceNo}
 use Rattle.std.specs.List.{list_any}
+use Rattle.std.proofs.lemmas.Option.{none-some}
 use Rattle.sa_base.specs.declared.number.ActNo.{ActNo}
 use Rattle.sa_base.specs.declared.context.Stopped.{Stopped}
 use Rattle.sa_base.specs.declared.record.Note.{Note}
@@ -25,9 +26,6 @@ use Rattle.sa_kernel_model.proofs.parts.Closings.{length-lines_after}
 use Rattle.sa_kernel_model.proofs.parts.Seen.{is-low}
 use Rattle.sa_kernel_model.proofs.parts.Placed.{for_spaces-keeps}
 
-no-owner : (s : SpaceNo) → None ≡ Some s → ⊥
-no-owner s is = cc
-
 raised-line : (l : Option ℕ) → (l ≡ None → ⊥) → IsSome l
 raised-line None h = absurd (h refl)
 raised-line (Some e) h = refl
@@ -45,7 +43,7 @@ module _ {C : Type 0} where
   owned-within : (k : KernelState C) (p : ProcNo) (s : SpaceNo) → IsEven k → owner_of k p ≡ Some s → p.0 < length k.lives
   owned-within k p s even owner = elim (cases_lt p.0 (length k.lives)) [
     | inl below ↦ below
-    | inr past ↦ absurd (no-owner s (sym (get_or_past k.assign.owners p.0 None (let e = even.owners in omega arith)) ∙ owner))
+    | inr past ↦ absurd (none-some s (sym (get_or_past k.assign.owners p.0 None (let e = even.owners in omega arith)) ∙ owner))
   ]
 
   -- a raised line stays raised where another is
