@@ -1,7 +1,7 @@
 -- Which lists are locked, and which are open: the history and the package say the same.
 use Rattle.std.proofs.Common.{◌≡◌, ℕ, zero, suc, ◌≤◌, ◌<◌, Bool, true, false, List, [], ◌∷◌, map, length, Contains, Option, Some, None, slice_index_or, refl, sym, ap, ◌∙◌, subst, inl, inr, arith}
 use Rattle.std.specs.Prelude.{not, ◌&&◌, nat_lt}
-use Rattle.std.proofs.lemmas.Bool.{cases_eq}
+use Rattle.std.proofs.lemmas.Bool.{cases_eq, and_parts}
 use Rattle.std.proofs.lemmas.Option.{same_Some}
 use Rattle.sa_base.specs.declared.number.ActNo.{ActNo}
 use Rattle.sa_base.specs.declared.number.ProcNo.{ProcNo}
@@ -109,19 +109,11 @@ module _ (set : Setting) (e : ℕ) (u : Package) (cs : Contexts Context) (h : Is
 
   module _ (ready-there : AreReadyAlike s r u) where
     pub opens : (l : ProcNo) → is_open u.shared.state.lists l.0 ≡ true → IsOpen r s l
-    opens l is = record {
-      ready = ready-there l ∙ both_second (is_locked u.shared.state.lists l.0) (nat_lt 0 (length (list_of u.shared.state.lists l.0))) is;
-      unlocked =
-          λ locked. absurd (let yes = locked-kept l locked in
-          let no = both_first (is_locked u.shared.state.lists l.0) (nat_lt 0 (length (list_of u.shared.state.lists l.0))) is in cc);
-    } where
-      both_first : (x y : Bool) → (not x && y) ≡ true → x ≡ false
-      both_first true y e = absurd cc
-      both_first false y e = refl
-
-      both_second : (x y : Bool) → (not x && y) ≡ true → y ≡ true
-      both_second true y e = absurd cc
-      both_second false y e = e
+    opens l is =
+        let both = and_parts (not (is_locked u.shared.state.lists l.0)) (nat_lt 0 (length (list_of u.shared.state.lists l.0))) is in record {
+          ready = ready-there l ∙ both.1;
+          unlocked = λ locked. absurd (let yes = locked-kept l locked in let no = both.0 in cc);
+        }
 
     pub opens-not : (l : ProcNo) → is_open u.shared.state.lists l.0 ≡ false → IsOpen r s l → ⊥
     opens-not l is opened = by (is_locked u.shared.state.lists l.0) refl where

@@ -254,10 +254,6 @@ module _ (s : Setting) (e : ℕ) (r : Readings) (u : Package) (cs : Contexts Con
           let said = (rests a c.0 its.0 c.1 its.1).idle (ap is_running stage) in
           let idle : its.0.idle ≡ false = not-true its.0.idle (ap (λ o. not (reads_idle o)) (sym its.1) ∙ must) in
           stirs a c.0 its.0 c.1 its.1 (ap is_gone stage) (sym said ∙ ap (λ g. was_idle g its.0) stage ∙ idle)
-
-      not-true : (b : Bool) → not b ≡ true → b ≡ false
-      not-true true is = absurd cc
-      not-true false is = refl
     must-hear (Unblocked a) has must = by (cs a.0) refl (k.noted a (inr has)) where
       by : (o : Option Context) → cs a.0 ≡ o → IsSome (cs a.0) → Stirs
       by None none some = absurd (let no_such = subst IsSome none some in cc)

@@ -4,9 +4,9 @@ use Rattle.std.specs.Prelude.{length, ◌≤◌, cond}
 use Rattle.std.proofs.lemmas.List.{get_or-set_same, get_or-replicate, length-replicate}
 use Rattle.std.proofs.lemmas.List.Sums.{sum_by-cons}
 use Rattle.std.proofs.lemmas.Option.{same_Some, none-some, slice_get_within}
+use Rattle.sa_lemmas.proofs.Membership.{contains-nil}
 use Rattle.sa_base.specs.declared.limits.TheConstants.{MAX_THREADS}
 use Rattle.sa_base.specs.declared.number.ThreadNo.{ThreadNo}
-use Rattle.sa_base.specs.declared.record.Note.{Note}
 use Rattle.sa_base.specs.declared.record.Note.TheVariants.{Preempted, Unblocked}
 use Rattle.sa_spaces.specs.Workload.{WorkloadView}
 use Rattle.sa_lemmas.proofs.ListReads.{all-same}
@@ -34,9 +34,6 @@ none_loaded (suc n) = sum_by-cons (λ (z : Block). cond (is_loaded z.place) 1 0)
     ∙ (let rest = none_loaded n in let sum : 0 + loaded (replicate n unmade) ≡ 0 = omega arith in sum)
 
 module _ (ranks : Ranks) (w : WorkloadView) (s : Setting) (of : IsOfSpace w s) where
-  nothing : (m : Note) → Contains [] m → ⊥
-  nothing m has = let none : length {A = Note} [] ≡ 0 = refl in let inside = has.1 in omega arith
-
   below : s.space.0 < length w.spaces
   below = slice_get_within w.spaces s.space.0 s.def of.def
 
@@ -81,8 +78,8 @@ module _ (ranks : Ranks) (w : WorkloadView) (s : Setting) (of : IsOfSpace w s) w
     lives = λ a c at. absurd cc;
     others = λ a life at mine none. absurd cc;
     noted = λ a there. elim there [
-      | inl stop ↦ absurd (nothing (Preempted a) (subst (λ ns. Contains ns (Preempted a)) (all-same (length w.spaces) s.space.0 []) stop))
-      | inr back ↦ absurd (nothing (Unblocked a) (subst (λ ns. Contains ns (Unblocked a)) (all-same (length w.spaces) s.space.0 []) back))
+      | inl stop ↦ absurd (contains-nil (Preempted a) (subst (λ ns. Contains ns (Preempted a)) (all-same (length w.spaces) s.space.0 []) stop))
+      | inr back ↦ absurd (contains-nil (Unblocked a) (subst (λ ns. Contains ns (Unblocked a)) (all-same (length w.spaces) s.space.0 []) back))
     ];
     single = λ a. subst (λ ns. count_by (is_of a) ns ≤ 1) (sym (all-same (length w.spaces) s.space.0 [])) (omega arith);
     runs = λ p a life at its mine. absurd cc;

@@ -1,6 +1,6 @@
 -- A notice of one life more waits to be told: the life ceases to run, or comes back, and its thread goes to another place.
 -- What is to be shown of it alone, so that all holds.
-use Rattle.std.proofs.Common.{◌≡◌, ◌≢◌, ℕ, ◌+◌, ◌≤◌, ◌<◌, ◌==◌, Bool, true, false, ◌||◌, [], ◌∷◌, ◌++◌, length, count_by, sum_by, slice_set, slice_index_or, Contains, Option, Some, None, IsSome, refl, sym, ap, ◌∙◌, subst, inl, inr, arith, ◌⊎◌}
+use Rattle.std.proofs.Common.{◌≡◌, ◌≢◌, ℕ, ◌+◌, ◌≤◌, ◌<◌, Bool, true, false, ◌||◌, [], ◌∷◌, ◌++◌, length, count_by, sum_by, slice_set, slice_index_or, Contains, Option, Some, None, IsSome, refl, sym, ap, ◌∙◌, subst, inl, inr, arith, ◌⊎◌}
 use Rattle.std.proofs.lemmas.Bool.{cases_eq, eq-eqb, ne_eqb}
 use Rattle.std.proofs.lemmas.List.{get_or-set_same, get_or-set_other}
 use Rattle.std.proofs.lemmas.List.Sums.{sum_by-append}
@@ -176,12 +176,10 @@ module _ (set : Setting) (e : ℕ) (u : Package) (cs : Contexts Context) (h : Is
       → Contains (untold_of r s) m
   noted_before x ne m kind has = was-there (untold_of r s) note m (λ same. elim kind [
     | inl stop ↦
-        absurd (let no = (i.noted.apart x ne).0 in let yes : same_note (Preempted x) note ≡ true = ap (same_note (Preempted x)) (sym same ∙ stop) ∙ self x in cc)
+        absurd (let no = (i.noted.apart x ne).0 in let yes : same_note (Preempted x) note ≡ true = ap (same_note (Preempted x)) (sym same ∙ stop) ∙ eq-eqb x.0 x.0 refl in cc)
     | inr back ↦
-        absurd (let no = (i.noted.apart x ne).1 in let yes : same_note (Unblocked x) note ≡ true = ap (same_note (Unblocked x)) (sym same ∙ back) ∙ self x in cc)
-  ]) (subst (λ ns. Contains ns m) i.noted.untold has) where
-    self : (x : ActNo) → (x.0 == x.0) ≡ true
-    self x = eq-eqb x.0 x.0 refl
+        absurd (let no = (i.noted.apart x ne).1 in let yes : same_note (Unblocked x) note ≡ true = ap (same_note (Unblocked x)) (sym same ∙ back) ∙ eq-eqb x.0 x.0 refl in cc)
+  ]) (subst (λ ns. Contains ns m) i.noted.untold has)
 
   -- ALL HOLDS
   pub untold-holds : Holds s q v cs

@@ -1,7 +1,7 @@
 -- At the end of an own event a life is in exactly where its context is inside the package.
 use Rattle.std.proofs.Common.{◌≡◌, ℕ, ◌-◌, ◌≤◌, ◌<◌, min, nat_le, nat_lt, Bool, true, false, ◌||◌, List, [], ◌∷◌, map, length, Option, Some, None, is_some, is_none, refl, sym, ap, ◌∙◌, subst, inl, inr, arith}
 use Rattle.std.specs.Prelude.{◌&&◌, if◌then◌else◌}
-use Rattle.std.proofs.lemmas.Bool.{cases_lt, lt-ltb, le-ltb}
+use Rattle.std.proofs.lemmas.Bool.{cases_lt, lt-ltb, le-ltb, lt-leb, le-leb}
 use Rattle.std.proofs.lemmas.Bool.Decides.{nat_tests}
 use Rattle.std.specs.List.{list_any}
 use Rattle.sa_base.specs.declared.context.Seen.{Seen}
@@ -42,20 +42,14 @@ use Rattle.sa_fast_laws.specs.View.{view, left_at, looks_of, in_copy}
 pub owed_by : (demand processors amount : ℕ) → is_some (more_owed demand processors amount) ≡ nat_lt demand (min processors amount)
 owed_by demand processors amount = elim (cases_lt demand (usable_by processors amount)) [
   | inl less ↦
-      ap (λ b. is_some (if b then None else Some (usable_by processors amount - demand))) (not_le (usable_by processors amount) demand less)
+      ap (λ b. is_some (if b then None else Some (usable_by processors amount - demand))) (lt-leb (usable_by processors amount) demand less)
       ∙ sym (ap (nat_lt demand) (same_min processors amount) ∙ lt-ltb demand (usable_by processors amount) less)
   | inr more ↦
-      ap (λ b. is_some (if b then None else Some (usable_by processors amount - demand))) (is_le (usable_by processors amount) demand more)
+      ap (λ b. is_some (if b then None else Some (usable_by processors amount - demand))) (le-leb (usable_by processors amount) demand more)
       ∙ sym (ap (nat_lt demand) (same_min processors amount) ∙ le-ltb demand (usable_by processors amount) more)
 ] where
   same_min : (n m : ℕ) → min n m ≡ usable_by n m
   same_min n m = grind (arith, nat_tests)
-
-  not_le : (n m : ℕ) → m < n → nat_le n m ≡ false
-  not_le n m less = grind (arith, nat_tests)
-
-  is_le : (n m : ℕ) → n ≤ m → nat_le n m ≡ true
-  is_le n m less = grind (arith, nat_tests)
 
 module _ (set : Setting) (e : ℕ) (u : Package) (cs : Contexts Context) (h : IsStanding set e u cs) (s : SpaceNo) (r : Readings) (k : Holds s r u cs)
     (a : ActNo) (state : ContextState) (fs : List Frame) (wk : Option ThreadNo) (is : cs a.0 ≡ Some (record { state = state; sections = fs; work = wk }))

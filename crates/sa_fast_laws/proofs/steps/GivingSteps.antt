@@ -1,8 +1,8 @@
 -- FastThreads gives activations back; and where its hint or return is no longer owed it goes on as it settles again.
 use Rattle.std.proofs.Common.{◌≡◌, ℕ, Bool, true, false, ◌||◌, List, [], ◌∷◌, map, Option, Some, None, is_some, is_none, nat_le, refl, sym, ap, ◌∙◌, subst, inr, arith}
 use Rattle.std.specs.Prelude.{nat_lt, min, length, not, ◌≤◌}
-use Rattle.std.proofs.lemmas.Bool.Decides.{nat_tests}
 use Rattle.std.specs.List.{list_any}
+use Rattle.std.proofs.lemmas.Bool.{ltb-false}
 use Rattle.sa_base.specs.declared.context.Seen.{Seen}
 use Rattle.sa_base.specs.declared.limits.TheConstants.{BULK_RETURN}
 use Rattle.sa_base.specs.declared.number.ActNo.{ActNo}
@@ -171,7 +171,7 @@ module _ (set : Setting) (e : ℕ) (u : Package) (cs : Contexts Context) (w : Wo
         record {
           nothing = record { locks = none.locks; cont = none.cont; hand = none.hand };
           announced =
-              let less = not_less_of seen.demand (min u.processors (load u)) enough in
+              let less = ltb-false seen.demand (min u.processors (load u)) enough in
               let one : usable w r life.space ≡ min u.processors (load u) = ap (usable w r) i.on.space ∙ ap (min w.processors) i.holds.load
               ∙ ap (λ m. min m (load u)) (sym processors) in
               let two : demand_of r life.space ≡ seen.demand = ap (demand_of r) i.on.space ∙ sym i.sees.demand in
@@ -180,9 +180,6 @@ module _ (set : Setting) (e : ℕ) (u : Package) (cs : Contexts Context) (w : Wo
               ap (λ o. is_some o || not (many_taken r life.space)) (runs ∙ carries)
               ∙ ap (λ b. is_some t || not b) (ap (many_taken r) i.on.space ∙ ap (nat_le BULK_RETURN) (sym i.sees.taken)) ∙ by t few;
         } where
-          not_less_of : (x y : ℕ) → nat_lt x y ≡ false → y ≤ x
-          not_less_of x y e = grind (arith, nat_tests)
-
           by : (o : Option ThreadNo) → (is_none o ≡ true → has_bulk seen ≡ false) → (is_some o || not (has_bulk seen)) ≡ true
           by None less = ap not (less refl)
           by (Some x) less = refl

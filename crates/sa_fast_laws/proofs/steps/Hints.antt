@@ -1,7 +1,7 @@
 -- What the table of steps asks of hints and of looks that find nothing.
-use Rattle.std.proofs.Common.{◌≡◌, ℕ, ◌+◌, ◌-◌, ◌≤◌, ◌<◌, min, nat_le, nat_lt, Bool, true, false, [], length, Some, None, refl, sym, ap, ◌∙◌, subst, inl, inr, arith}
-use Rattle.std.specs.Prelude.{◌&&◌, if◌then◌else◌}
-use Rattle.std.proofs.lemmas.Bool.{cases_lt, ltb-true, lt-ltb}
+use Rattle.std.proofs.Common.{◌≡◌, ℕ, ◌+◌, ◌-◌, ◌≤◌, ◌<◌, min, nat_le, nat_lt, true, false, [], length, Some, None, refl, sym, ap, ◌∙◌, subst, inl, inr, arith}
+use Rattle.std.specs.Prelude.{if◌then◌else◌}
+use Rattle.std.proofs.lemmas.Bool.{cases_lt, ltb-true, lt-ltb, lt-leb, le-leb, leb-true, and_from, and_parts}
 use Rattle.std.proofs.lemmas.Bool.Decides.{nat_tests}
 use Rattle.std.proofs.lemmas.Option.{same_Some}
 use Rattle.sa_base.specs.declared.context.Seen.{Seen}
@@ -67,22 +67,16 @@ module _ (set : Setting) (e : ℕ) (u : Package) (cs : Contexts Context) (h : Is
         same_min : (n m : ℕ) → min n m ≡ usable_by n m
         same_min n m = grind (arith, nat_tests)
 
-        not_le : (n m : ℕ) → m < n → nat_le n m ≡ false
-        not_le n m less = grind (arith, nat_tests)
-
-        is_le : (n m : ℕ) → n ≤ m → nat_le n m ≡ true
-        is_le n m less = grind (arith, nat_tests)
-
         more_parts : (d p m n : ℕ) → more_owed d p m ≡ Some n → (d < usable_by p m) × (d + n ≡ usable_by p m)
         more_parts d p m n owes = elim (cases_lt d (usable_by p m)) [
           | inl less ↦
               let is_it : (if nat_le (usable_by p m) d then None else Some (usable_by p m - d)) ≡ Some (usable_by p m - d) =
-              ap (λ b. if b then None else Some (usable_by p m - d)) (not_le (usable_by p m) d less) in
+              ap (λ b. if b then None else Some (usable_by p m - d)) (lt-leb (usable_by p m) d less) in
               let same = same_Some (usable_by p m - d) n (sym is_it ∙ owes) in (less, omega arith)
           | inr more ↦
               absurd
               (let is_it : (if nat_le (usable_by p m) d then None else Some (usable_by p m - d)) ≡ None = ap (λ b. if b then None else Some (usable_by p m - d))
-              (is_le (usable_by p m) d more) in let no_such = sym is_it ∙ owes in cc)
+              (le-leb (usable_by p m) d more) in let no_such = sym is_it ∙ owes in cc)
         ]
 
   -- A LOOK that finds nothing
@@ -106,39 +100,24 @@ module _ (set : Setting) (e : ℕ) (u : Package) (cs : Contexts Context) (h : Is
         | inr more ↦ inr (elim (cases_lt (load u) seen.demand) [
           | inl above ↦ absurd (
               let yes : is_idle u seen looks ≡ true =
-              both (nat_le u.def.patience looks) (nat_lt (load u) seen.demand) (is_le u.def.patience looks (let same = scans_are in omega arith))
+              and_from (nat_le u.def.patience looks) (nat_lt (load u) seen.demand) (le-leb u.def.patience looks (let same = scans_are in omega arith))
               (lt-ltb (load u) seen.demand above) in
               cc)
           | inr few ↦ let at_s = ap (demand_of r) l.space in let load_s = ap (load_of r) l.space in let same = k.load in omega arith
         ])
       ];
-    } where
-      is_le : (n m : ℕ) → n ≤ m → nat_le n m ≡ true
-      is_le n m less = grind (arith, nat_tests)
-
-      both : (x y : Bool) → x ≡ true → y ≡ true → (x && y) ≡ true
-      both x y one two = ap (λ z. z && y) one ∙ two
+    }
 
     pub can-lower : is_idle u seen looks ≡ true → CanLower w r life (demand_of r s - 1)
     can-lower idle = record {
       finds = finds;
       patient = let same = patience_is in let scans = scans_are in
-          let less = le_of (u.def.patience) looks (first (nat_le u.def.patience looks) (nat_lt (load u) seen.demand) idle) in omega arith;
+          let less = leb-true u.def.patience looks (and_parts (nat_le u.def.patience looks) (nat_lt (load u) seen.demand) idle).0 in omega arith;
       above = let at_s = ap (demand_of r) l.space in let load_s = ap (load_of r) l.space in let same = k.load in
-          let less = ltb-true (load u) seen.demand (second (nat_le u.def.patience looks) (nat_lt (load u) seen.demand) idle) in omega arith;
+          let less = ltb-true (load u) seen.demand (and_parts (nat_le u.def.patience looks) (nat_lt (load u) seen.demand) idle).1 in omega arith;
       number = let at_s = ap (demand_of r) l.space in
-          let less = ltb-true (load u) seen.demand (second (nat_le u.def.patience looks) (nat_lt (load u) seen.demand) idle) in omega arith;
-    } where
-      first : (x y : Bool) → (x && y) ≡ true → x ≡ true
-      first true y e = refl
-      first false y e = absurd cc
-
-      second : (x y : Bool) → (x && y) ≡ true → y ≡ true
-      second true y e = e
-      second false y e = absurd cc
-
-      le_of : (n m : ℕ) → nat_le n m ≡ true → n ≤ m
-      le_of n m e = grind (arith, nat_tests)
+          let less = ltb-true (load u) seen.demand (and_parts (nat_le u.def.patience looks) (nat_lt (load u) seen.demand) idle).1 in omega arith;
+    }
 
 -- the count of looks goes on with the scans
 pub scans_more : (scans looks : ℕ) → min scans MAX_PATIENCE ≡ looks → min (scans + 1) MAX_PATIENCE ≡ min (looks + 1) MAX_PATIENCE

@@ -1,10 +1,10 @@
 -- The moves of a look at the ready lists: a take for a pop, an idle record, or the hint that the processor is idle; and the
 -- hint for more.
-use Rattle.std.proofs.Common.{◌≡◌, ℕ, ◌+◌, Bool, true, false, ◌&&◌, [], ◌∷◌, Option, Some, None, is_some, slice_get, refl, sym, ap, ◌∙◌, subst, arith}
+use Rattle.std.proofs.Common.{◌≡◌, ℕ, ◌+◌, Bool, true, false, [], ◌∷◌, Option, Some, None, is_some, slice_get, refl, sym, ap, ◌∙◌, subst, arith}
 use Rattle.std.specs.Prelude.{nat_lt, min, not, ◌-◌, ◌≤◌, ◌==◌, if◌then◌else◌}
 use Rattle.std.proofs.lemmas.Bool.Decides.{nat_tests}
 use Rattle.std.proofs.lemmas.Option.{same_Some}
-use Rattle.std.proofs.lemmas.Bool.{and_right}
+use Rattle.std.proofs.lemmas.Bool.{and_right, not-true, and_parts}
 use Rattle.sa_base.specs.declared.context.Seen.{Seen}
 use Rattle.sa_base.specs.declared.limits.TheConstants.{PACKAGE_PAGE}
 use Rattle.sa_base.specs.declared.number.ActNo.{ActNo}
@@ -107,11 +107,8 @@ module _ (set : Setting) (e : ℕ) (u : Package) (cs : Contexts Context) (w : Wo
 
       free : is_locked u.shared.state.lists l ≡ false
       free =
-          first_of (is_locked u.shared.state.lists l) _
-          (sought-first u.shared.state.lists (own_list u seen.proc).0 l (scene.list-inside set e u cs w r p a life c seen i) found_it).here where
-            first_of : (x y : Bool) → (not x && y) ≡ true → x ≡ false
-            first_of true y e = absurd cc
-            first_of false y e = refl
+          not-true (is_locked u.shared.state.lists l) (and_parts (not (is_locked u.shared.state.lists l)) _
+          (sought-first u.shared.state.lists (own_list u seen.proc).0 l (scene.list-inside set e u cs w r p a life c seen i) found_it).here).0
 
       pop-marks : (v : Package) (now : Life) (q : Readings) (ev : Event) (last : Readings)
           → IsBehind set seen.event v (put cs a.0 (Some behind_pop)) a behind_pop now seen q last
