@@ -5,6 +5,7 @@ use Rattle.std.proofs.lemmas.Bool.{ltb-true, cases_lt}
 use Rattle.std.proofs.lemmas.List.{append-nil, length-append}
 use Rattle.std.proofs.lemmas.Option.{slice_get_past}
 use Rattle.std.proofs.Math.Seq.{take-append_seam}
+use Rattle.sa_lemmas.proofs.ListUpdates.{slice_get-append_seam}
 use Rattle.sa_base.specs.declared.record.Item.{Item}
 use Rattle.sa_shapes.specs.declared.shape.Shape.{Shape}
 use Rattle.sa_shapes.specs.declared.shape.Shape.TheVariants as shape
@@ -24,10 +25,6 @@ shown-more : (t : Track) (v : Shown) (done : List Item) (i : Item)
     → shown_from t v (done ++ i ∷ []) ≡ turns_to (change t (shown_from t v done) i) (shown_from t v done)
 shown-more t v [] i = refl
 shown-more t v (j ∷ done) i = shown-more t (turns_to (change t v j) v) done i
-
-at_seam : (done : List Item) (i : Item) (items : List Item) → slice_get (done ++ i ∷ items) (length done) ≡ Some i
-at_seam [] i items = refl
-at_seam (j ∷ done) i items = at_seam done i items
 
 past_seam : (done : List Item) (i : Item) (items : List Item) → take (length done + 1) (done ++ i ∷ items) ≡ done ++ i ∷ []
 past_seam done i items =
@@ -121,7 +118,7 @@ module _ (w : Window) (t : Track) (items : List Item) where
       })
   shows-next done i rest o k (Some v) stands is same other =
       let here : slice_get items k ≡ Some i = ap (λ (l : List Item). slice_get l k) stands.whole ∙ ap (slice_get (done ++ i ∷ rest)) stands.count
-      ∙ at_seam done i rest in
+      ∙ slice_get-append_seam done rest i in
       let after : shown_after t (take (k + 1) items) ≡ v = next_on done i rest o k (Some v) stands is in
       right-closed o (turned w o i) k _
       (λ less. record {
