@@ -1,9 +1,10 @@
 -- A step keeps all standing.
 use Rattle.std.proofs.Common.{◌≡◌, ℕ, ◌≤◌, ◌<◌, Bool, true, false, not, length, [], Option, Some, None, refl, sym, ap, ◌∙◌, subst, arith}
-use Rattle.std.specs.Prelude.{◌&&◌, if◌then◌else◌}
+use Rattle.std.specs.Prelude.{if◌then◌else◌}
 use Rattle.std.specs.Option.{option_map}
 use Rattle.std.proofs.lemmas.List.{length-set}
 use Rattle.std.proofs.lemmas.List.Elements.{All-cons, All-nil}
+use Rattle.std.proofs.lemmas.Bool.{and_parts}
 use Rattle.sa_base.specs.declared.limits.TheConstants.{MAX_EVENTS}
 use Rattle.sa_base.specs.declared.number.ThreadNo.{ThreadNo}
 use Rattle.sa_base.specs.declared.context.Seen.{Seen}
@@ -39,10 +40,7 @@ use Rattle.sa_prio_model.proofs.Calling.{well-marked, well-unmarked, out-no-sect
 
 -- where a context came out, it is out
 came_is_out : (before after : ContextState) → came_out before after ≡ true → is_out after ≡ true
-came_is_out before after e = first (is_out after) (not (remains_out before after)) e where
-  first : (a b : Bool) → (a && b) ≡ true → a ≡ true
-  first true b h = refl
-  first false b h = absurd cc
+came_is_out before after e = (and_parts (is_out after) (not (remains_out before after)) e).0
 
 -- what is on the processor after a step is a thread of the space
 left_is_thread : (answer : Step) (state : ContextState) → IsThread (carried_by state) → IsThread (left_on answer state)
