@@ -1,4 +1,4 @@
-use Rattle.std.proofs.Common.{◌≡◌, ◌+◌, ◌*◌, ℕ, [], replicate, ap, ◌∙◌, arith, add-zero}
+use Rattle.std.proofs.Common.{◌*◌, [], replicate, ap, ◌∙◌, add-zero}
 use Rattle.sa_links.specs.Lists.{Lists}
 use Rattle.sa_lists.specs.Chains.{width_of}
 use Rattle.sa_lists.proofs.Storage.{opened-ranked, opened-value}
