@@ -1,6 +1,7 @@
 -- The order in which I/Os are due: which of them is first in it, and what it becomes where one begins or is over.
 use Rattle.std.proofs.Common.{◌≡◌, ℕ, ◌+◌, ◌<◌, ◌≤◌, Bool, true, false, ◌&&◌, ◌||◌, cond, eqb, ltb, leb, Option, Some, None, List, [], ◌∷◌, ◌++◌, refl, sym, ap, subst, ◌∙◌, ◌⊎◌, inl, inr, arith}
 use Rattle.std.proofs.lemmas.Bool.{cond-true, cond-false, eq-eqb, ne_eqb, le-leb, lt-leb, lt-ltb, le-ltb, leb-true, leb-false}
+use Rattle.std.proofs.Math.Bool.{and-false}
 use Rattle.sa_devices.specs.Ios.{Io, is_sooner, sooner_of, due_of, io_at, without}
 use Rattle.sa_outlook.specs.DueOrder.{put_first, in_order}
 
@@ -155,11 +156,7 @@ due-first e low high (io ∷ ios) num = go (due-first e (io.number + 1) high ios
             let b : ltb y.number io.number ≡ false = le-ltb y.number io.number (omega arith) in
             cond-false (is_sooner y io) y io
             (ap (λ (t : Bool). t || (eqb y.ends io.ends && ltb y.number io.number)) a
-            ∙ ap (λ (t : Bool). eqb y.ends io.ends && t) b ∙ none (eqb y.ends io.ends))
-          where
-            none : (t : Bool) → t && false ≡ false
-            none true = refl
-            none false = refl
+            ∙ ap (λ (t : Bool). eqb y.ends io.ends && t) b ∙ and-false (eqb y.ends io.ends))
 
 -- the first in order is found by its number
 pub first-at : (low high : ℕ) (ios ys : List Io) (d : Io) → AreNumbered low high ios → in_order ios ≡ d ∷ ys → io_at d.number ios ≡ Some d

@@ -1,6 +1,6 @@
 -- The beginning of an event keeps machines alike: time goes on, and pages are evicted.
 use Rattle.std.proofs.Common.{◌≡◌, ℕ, ◌+◌, ◌-◌, ◌*◌, ◌/◌, ◌%◌, ◌<◌, ◌≤◌, ◌⊎◌, Bool, true, false, ◌||◌, cond, eqb, ltb, Option, Some, None, List, [], ◌∷◌, length, map, refl, sym, ap, ◌∙◌, inl, inr, arith, add-mul, one-mul}
-use Rattle.std.proofs.lemmas.Bool.{ne_eqb, eqb-false, ltb-false, le-ltb}
+use Rattle.std.proofs.lemmas.Bool.{ne_eqb, eqb-false, ltb-false, le-ltb, or_parts}
 use Rattle.std.proofs.lemmas.Nat.{div-mul-add, mod-mul-add, div-add-mod', mod_below}
 use Rattle.sa_spaces.specs.Space.{SpaceView}
 use Rattle.sa_spaces.specs.declared.workload.Evict.{Evict}
@@ -80,25 +80,17 @@ next-first d n a b some same first = go (eqb d 0) refl same first
 none-evicted : (e : ℕ) (es : List Evict) (pages : List ℕ) → is_to_come e es ≡ false → evicted (e + 1) es pages ≡ pages
 none-evicted e [] pages none = refl
 none-evicted e (x ∷ es) pages none =
-    let two = split (ltb e x.event) (is_to_come e es) none in
+    let two = or_parts (ltb e x.event) (is_to_come e es) none in
     let late : x.event ≤ e = ltb-false e x.event two.0 in
     ap (λ (t : Bool). evicted (e + 1) es (cond t (gone pages x.space.0 x.page) pages)) (ne_eqb x.event (e + 1) (λ s. omega arith))
     ∙ none-evicted e es pages two.1
-  where
-    split : (a b : Bool) → a || b ≡ false → (a ≡ false) × (b ≡ false)
-    split true b h = absurd cc
-    split false b h = (refl, h)
 
 later-none : (e : ℕ) (es : List Evict) → is_to_come e es ≡ false → is_to_come (e + 1) es ≡ false
 later-none e [] none = refl
 later-none e (x ∷ es) none =
-    let two = split (ltb e x.event) (is_to_come e es) none in
+    let two = or_parts (ltb e x.event) (is_to_come e es) none in
     let late : x.event ≤ e = ltb-false e x.event two.0 in
     ap (λ (t : Bool). t || is_to_come (e + 1) es) (le-ltb (e + 1) x.event (omega arith)) ∙ later-none e es two.1
-  where
-    split : (a b : Bool) → a || b ≡ false → (a ≡ false) × (b ≡ false)
-    split true b h = absurd cc
-    split false b h = (refl, h)
 
 until-cases : (e g : ℕ) (es : List Evict) → until e es ≡ until g es → (e ≡ g) ⊎ ((is_to_come e es ≡ false) × (is_to_come g es ≡ false))
 until-cases e g es same = go (is_to_come e es) (is_to_come g es) refl refl same
