@@ -12,7 +12,7 @@ use Rattle.sa_lemmas.specs.Function.{put}
 use Rattle.sa_lemmas.proofs.ListUpdates.{slice_get-set_cases}
 use Rattle.sa_spaces.specs.Space.{SpaceView}
 use Rattle.sa_spaces.specs.Workload.{WorkloadView, IsWorkload}
-use Rattle.sa_lemmas.proofs.ListReads.{some-below}
+use Rattle.sa_lemmas.proofs.ListReads.{some-below, read-at}
 use Rattle.sa_abstract.specs.Calls.{Calls, Contexts}
 use Rattle.sa_abstract.specs.Keeps.{Standing, Keeps}
 use Rattle.sa_acts.specs.declared.acts.Act.{Act}
@@ -172,8 +172,8 @@ module _ {U C : Type 0} (f : Calls U C) (stands : Standing U C) (keep : Keeps f 
       let a : ActNo = life.0 in
       let c = some-is (context_on m p) (st.there p.0 ∙ ap (λ (o : Option ActNo). is_some o) life.1) in
       let within : s.0 < length m.kernel.demands = st.sound.formed.owners p.0 s owner in
-      let u = read m.users s.0 (omega (arith, st.users, st.demands, within)) in
-      let d = read m.workload.spaces s.0 (omega (arith, st.demands, within)) in
+      let u = read-at m.users s.0 (omega (arith, st.users, st.demands, within)) in
+      let d = read-at m.workload.spaces s.0 (omega (arith, st.demands, within)) in
       record {
         act = a;
         user = u.0;
@@ -187,11 +187,6 @@ module _ {U C : Type 0} (f : Calls U C) (stands : Standing U C) (keep : Keeps f 
         is_ctx = c.1;
         is_def = d.1;
       }
-    where
-      read : {A : Type 0} (xs : List A) (i : ℕ) → i < length xs → (x : A) × (slice_get xs i ≡ Some x)
-      read [] i below = absurd (omega (arith, below))
-      read (x ∷ xs) zero below = (x, refl)
-      read (x ∷ xs) (suc i) below = read xs i (omega (arith, below))
 
   -- a context is set aside
   pub paused-stop : (e : ℕ) (m : Machine U C) (p : ProcNo) (s : SpaceNo) (held : Stopped C) → Stands stands e m → (here : IsAt m p s) → held.ctx ≡ here.ctx
