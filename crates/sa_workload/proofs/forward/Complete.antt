@@ -8,6 +8,7 @@ use Rattle.std.proofs.lemmas.List.{get_or_append_left}
 use Rattle.std.proofs.lemmas.List.Elements.{All-push}
 use Rattle.std.proofs.lemmas.List.{nil_from_length}
 use Rattle.std.proofs.lemmas.Option.{same_Some}
+use Rattle.sa_lemmas.proofs.ListUpdates.{slice_get-append_seam}
 use Rattle.sa_base.specs.declared.limits.TheConstants.{MAX_EVENTS, MAX_PROCESSORS, MAX_SPACES}
 use Rattle.sa_instr.specs.declared.limits.TheConstants.{LAST_PAGE, MAX_CELLS, MAX_EVICTIONS, MAX_FETCH, MAX_INSTRUCTIONS, MAX_MUTEXES, MAX_PATIENCE, MAX_PRIORITY, MAX_PROGRAMS, MAX_SEMAPHORES, MAX_SLICE, MAX_START, MAX_TURNS}
 use Rattle.sa_base.specs.declared.number.ProcNo.{ProcNo}
@@ -28,7 +29,7 @@ use Rattle.sa_workload_lines.specs.Steps.{expected, after_sem, after_spaces, aft
 use Rattle.sa_workload_lines.specs.Next.{draft_numbers, fields_of, is_full, last_numbers, last_of, evict_numbers, is_end, is_last_impatient, step, step_instr, next}
 use Rattle.sa_workload_lines.proofs.fields.FieldLemmas.{line-spelled, spelled_all, AllPass, passes-within, passes-declared}
 use Rattle.sa_workload_lines.proofs.fields.InstrLemmas.{AreSmall, IsAllowed, instr-back, numbers_of_instr, operation-expected}
-use Rattle.sa_workload_lines.proofs.forward.Fronts.{last_is, slice_get_at, all_true, true_all}
+use Rattle.sa_workload_lines.proofs.forward.Fronts.{last_is, all_true, true_all}
 use Rattle.sa_workload_lines.proofs.forward.Orders.{none-order, before_evict, less_head}
 
 -- what a version says of the patience of all spaces, and of the slice
@@ -204,7 +205,7 @@ program_run versions m spaces d p few h names =
         })
         (λ t.
         let last : length p - 1 ≡ length done = omega (arith, eqb-true (length done + 1) (length p) t) in
-        same_Some i End (sym (slice_get_at done i at.rest) ∙ ap₂ (λ (l : List Instr) (k : ℕ). slice_get l k) (sym at.is) (sym last) ∙ h.ends)))
+        same_Some i End (sym (slice_get-append_seam done at.rest i) ∙ ap₂ (λ (l : List Instr) (k : ℕ). slice_get l k) (sym at.is) (sym last) ∙ h.ends)))
 
 -- a space
 abbrev first_draft : SpaceView → Draft

@@ -8,6 +8,7 @@ use Rattle.std.proofs.lemmas.List.{map-append}
 use Rattle.std.proofs.lemmas.List.Elements.{All-nil, All-push, All-head, All-tail}
 use Rattle.std.proofs.lemmas.List.Splits.{join_with_byte-slice_split}
 use Rattle.std.proofs.lemmas.Option.{slice_get_past}
+use Rattle.sa_lemmas.proofs.ListUpdates.{slice_get-append_seam}
 use Rattle.sa_base.specs.declared.refusal.Bad.{Bad}
 use Rattle.sa_base.specs.declared.refusal.Unread.{Unread}
 use Rattle.sa_base.specs.declared.refusal.Unread.TheVariants.{Bad as refuses, OutOfMemory}
@@ -25,7 +26,6 @@ use Rattle.sa_lemmas.proofs.Booleans.{if_either}
 use Rattle.sa_workload.specs.Reading.{line_in, finished, after_line, read_from, read_of, IsReading}
 use Rattle.sa_workload_lines.proofs.fields.FieldLemmas.{same_err}
 use Rattle.sa_workload.proofs.forward.Standing.{IsAt, Setting, any, alone, of_any, of_first, is_first, at_first, at_next, begins, whole_lines}
-use Rattle.sa_workload_lines.proofs.forward.Fronts.{slice_get_at}
 use Rattle.sa_workload_lines.proofs.forward.Sound.{took, sound}
 use Rattle.sa_workload.proofs.causes.Causes.{word_cause, refused}
 use Rattle.sa_workload.proofs.whole.TextLemmas.{IsWords, workload-words, join-printed, text_of-from_words}
@@ -172,7 +172,7 @@ outcome versions s (l ∷ rest) front p h = by_line (line_in versions p l) refl 
         (subst (λ (k : ℕ). IsOutcome versions ((front ++ l ∷ []) ++ rest) (read_from versions k q rest)) n (later q (one_more versions s.few p q front l h e)))
     by_line (Err why) e later =
         bad_behind versions s p front (l ∷ rest) why h
-        (subst (IsWrong versions (front ++ l ∷ rest) front (length front + 1) why) (sym (slice_get_at front l rest))
+        (subst (IsWrong versions (front ++ l ∷ rest) front (length front + 1) why) (sym (slice_get-append_seam front rest l))
         (subst (λ (ls : List (List (List ℕ))). IsBadLine versions ls l why) h.lines (bad_line versions s p l why h.at e)))
 
 -- a text is read as what it is

@@ -1,9 +1,9 @@
 -- Lists with one element more at the end: what holds of the whole holds of its front and of its last element.
-use Rattle.std.proofs.Common.{◌≡◌, ℕ, ◌⊎◌, Bool, true, false, ◌&&◌, List, [], ◌∷◌, ◌++◌, length, get_or, slice_get, ◌<◌, ◌-◌, Some, All, arith, refl, ap, ◌∙◌, subst, inl, inr, eqb, eq-eqb, ne_eqb, ◌≢◌}
+use Rattle.std.proofs.Common.{◌≡◌, ℕ, ◌⊎◌, Bool, true, ◌&&◌, List, [], ◌∷◌, ◌++◌, length, get_or, ◌<◌, ◌-◌, Some, All, arith, refl, ap, ◌∙◌, subst, inl, inr, eqb, eq-eqb, ne_eqb, ◌≢◌}
 use Rattle.std.specs.List.{list_all}
 use Rattle.std.proofs.lemmas.List.{get_or_push, get_or_append_left, length_push}
 use Rattle.std.proofs.lemmas.List.Elements.{All-nil, All-cons, All-head, All-tail}
-use Rattle.std.proofs.lemmas.Bool.{cases_eq}
+use Rattle.std.proofs.lemmas.Bool.{cases_eq, and_parts}
 use Rattle.std.proofs.lemmas.Option.{slice_get-get_or}
 use Rattle.sa_workload_lines.specs.Next.{last_of}
 
@@ -15,10 +15,6 @@ pub last_of-push : {X : Type 0} (xs : List X) (x : X) → last_of (xs ++ x ∷ [
 last_of-push xs x =
     last_is (xs ++ x ∷ []) x (omega (arith, length_push xs x))
     ∙ ap Some (get_or_push xs x x (length (xs ++ x ∷ []) - 1) (omega (arith, length_push xs x)))
-
-pub slice_get_at : {X : Type 0} (front : List X) (x : X) (rest : List X) → slice_get (front ++ x ∷ rest) (length front) ≡ Some x
-slice_get_at [] x rest = refl
-slice_get_at (y ∷ front) x rest = slice_get_at front x rest
 
 pub All-front : {X : Type 0} (P : X → Type 0) (xs : List X) (y : X) → All P (xs ++ y ∷ []) → All P xs
 All-front P xs y h = λ k d l. subst P (get_or_append_left xs (y ∷ []) d k l) (h k d (omega (arith, length_push xs y)))
@@ -33,13 +29,9 @@ all_true {X} f n (x ∷ xs) h =
     ap (λ (b : Bool). b && list_all (λ (x : X). eqb (f x) n) xs) (eq-eqb (f x) n (All-head (λ (x : X). f x ≡ n) x xs h))
     ∙ all_true f n xs (All-tail (λ (x : X). f x ≡ n) x xs h)
 
-and_second : (a b : Bool) → (a && b) ≡ true → b ≡ true
-and_second true b h = h
-and_second false b h = absurd (cc h)
-
 pub true_all : {X : Type 0} (f : X → ℕ) (n : ℕ) (xs : List X) → list_all (λ (x : X). eqb (f x) n) xs ≡ true → All (λ (x : X). f x ≡ n) xs
 true_all {X} f n [] h = All-nil (λ (x : X). f x ≡ n)
-true_all {X} f n (x ∷ xs) h = by_test (cases_eq (f x) n) (true_all f n xs (and_second (eqb (f x) n) (list_all (λ (x : X). eqb (f x) n) xs) h))
+true_all {X} f n (x ∷ xs) h = by_test (cases_eq (f x) n) (true_all f n xs (and_parts (eqb (f x) n) (list_all (λ (x : X). eqb (f x) n) xs) h).1)
   where
     by_test : (f x ≡ n) ⊎ (f x ≢ n) → All (λ (x : X). f x ≡ n) xs → All (λ (x : X). f x ≡ n) (x ∷ xs)
     by_test (inl e) rest = All-cons (λ (x : X). f x ≡ n) x xs e rest

@@ -3,6 +3,7 @@ use Rattle.std.proofs.Common.{◌≡◌, ℕ, ◌<◌, ◌⊎◌, ◌&&◌, ◌|
 use Rattle.std.specs.Str.{bytes_eq}
 use Rattle.std.proofs.lemmas.Bool.{false≢true, false_from_ne_true, cases_lt, cases_eq, and_parts, or_cases}
 use Rattle.std.proofs.lemmas.Slice.Eq.{bytes_eq-Decides}
+use Rattle.std.proofs.Math.Bool.{or-true}
 use Rattle.sa_spaces.specs.declared.workload.Evict.{Evict}
 use Rattle.sa_spaces.specs.Workload.{IsBefore}
 use Rattle.sa_workload_lines.specs.Bad.{list_lt}
@@ -36,13 +37,9 @@ list_lt-irrefl xs ys e h = list_lt-asym xs ys h (subst (λ (zs : List ℕ). list
 pub less_head : (x y : ℕ) (xs ys : List ℕ) → x < y → list_lt (x ∷ xs) (y ∷ ys) ≡ true
 less_head x y xs ys h = ap (λ (b : Bool). b || (eqb x y && list_lt xs ys)) (lt-ltb x y h)
 
-or_true : (b : Bool) → (b || true) ≡ true
-or_true true = refl
-or_true false = refl
-
 pub same_head : (x y : ℕ) (xs ys : List ℕ) → x ≡ y → list_lt xs ys ≡ true → list_lt (x ∷ xs) (y ∷ ys) ≡ true
 same_head x y xs ys e h =
-    ap (λ (b : Bool). ltb x y || (b && list_lt xs ys)) (eq-eqb x y e) ∙ ap (λ (b : Bool). ltb x y || b) h ∙ or_true (ltb x y)
+    ap (λ (b : Bool). ltb x y || (b && list_lt xs ys)) (eq-eqb x y e) ∙ ap (λ (b : Bool). ltb x y || b) h ∙ or-true (ltb x y)
 
 -- of two lists one is before the other, or they are the same
 pub cases_list_lt : (xs ys : List ℕ) → length xs ≡ length ys → (list_lt xs ys ≡ true) ⊎ ((xs ≡ ys) ⊎ (list_lt ys xs ≡ true))
