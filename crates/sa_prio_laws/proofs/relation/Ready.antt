@@ -4,6 +4,7 @@ use Rattle.std.proofs.lemmas.Bool.{cases_eq, cases_lt, lt-ltb, le-ltb}
 use Rattle.std.proofs.lemmas.List.Sums.{sum_by-cons}
 use Rattle.std.proofs.lemmas.Option.{same_Some, none-some}
 use Rattle.std.specs.List.{list_any}
+use Rattle.std.proofs.Math.Bool.{or-true, and-false}
 use Rattle.sa_base.specs.declared.number.ProcNo.{ProcNo}
 use Rattle.sa_base.specs.declared.number.SpaceNo.{SpaceNo}
 use Rattle.sa_base.specs.declared.number.ThreadNo.{ThreadNo}
@@ -59,10 +60,7 @@ ready-kept kept.Done x made sits carried is = absurd (let no = sym (ap is_ready 
 any-at : (p : Thread → Bool) (xs : List Thread) (i : ℕ) (d : Thread) → i < length xs → p (slice_index_or xs i d) ≡ true → list_any p xs ≡ true
 any-at p [] i d below is = absurd (omega arith)
 any-at p (x ∷ xs) zero d below is = ap (λ b. b || list_any p xs) is
-any-at p (x ∷ xs) (suc i) d below is = ap (λ b. p x || b) (any-at p xs i d (omega arith) is) ∙ yes (p x) where
-  yes : (b : Bool) → (b || true) ≡ true
-  yes true = refl
-  yes false = refl
+any-at p (x ∷ xs) (suc i) d below is = ap (λ b. p x || b) (any-at p xs i d (omega arith) is) ∙ or-true (p x)
 
 none-at : (p : Thread → Bool) (xs : List Thread) (d : Thread) → ((i : ℕ) → i < length xs → p (slice_index_or xs i d) ≡ false) → list_any p xs ≡ false
 none-at p [] d none = refl
@@ -145,15 +143,11 @@ module _ (set : Setting) (e : ℕ) (u : Package) (bs : Contexts Context) (h : Is
 
   pub outranked-is : (rank : ℕ) → is_outranked x rank ≡ below_best rank (first_rank u)
   outranked-is rank = by (first_rank u) refl where
-    no : (b : Bool) → (b && false) ≡ false
-    no true = refl
-    no false = refl
-
     fails : (t : ThreadNo) (b : Bool) → is_ready (thread_in x t).place ≡ b
         → (is_ready (thread_in x t).place ≡ true → nat_lt rank (thread_in x t).program ≡ false)
         → outranks rank (thread_in x t) ≡ false
     fails t false is none = ap (λ b. b && nat_lt rank (thread_in x t).program) is
-    fails t true is none = ap (λ b. is_ready (thread_in x t).place && b) (none is) ∙ no (is_ready (thread_in x t).place)
+    fails t true is none = ap (λ b. is_ready (thread_in x t).place && b) (none is) ∙ and-false (is_ready (thread_in x t).place)
 
     by : (o : Option ℕ) → first_rank u ≡ o → is_outranked x rank ≡ below_best rank (first_rank u)
     by None is =

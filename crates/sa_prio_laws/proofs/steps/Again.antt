@@ -1,9 +1,8 @@
 -- A context settles again without an event: a hint that is no longer owed, activations that are too few by now, and a
 -- pair that is there no longer.
-use Rattle.std.proofs.Common.{◌≡◌, ℕ, ◌≤◌, Bool, true, false, not, ◌||◌, [], Option, Some, None, is_some, is_none, nat_le, nat_lt, min, refl, sym, ap, ◌∙◌, subst, inl, inr, arith}
+use Rattle.std.proofs.Common.{◌≡◌, ℕ, Bool, true, false, not, ◌||◌, [], Option, Some, None, is_some, is_none, nat_le, nat_lt, min, refl, sym, ap, ◌∙◌, subst, inl, inr, arith}
 use Rattle.std.proofs.Math.Path.{fun_ext}
-use Rattle.std.proofs.lemmas.Bool.{cases_eq}
-use Rattle.std.proofs.lemmas.Bool.Decides.{nat_tests}
+use Rattle.std.proofs.lemmas.Bool.{cases_eq, ltb-false}
 use Rattle.std.proofs.lemmas.Option.{none-some, same_Some}
 use Rattle.sa_assign.specs.Aims.{least_below}
 use Rattle.sa_assign.specs.Reaim.{proc_no}
@@ -130,7 +129,7 @@ module _ (set : Setting) (e : ℕ) (v : Prio) (cs : Contexts PrioContext) (w : W
       record {
         nothing = none;
         announced =
-            let less = not_less_of seen.demand (min v.base.processors (load v.base)) enough in
+            let less = ltb-false seen.demand (min v.base.processors (load v.base)) enough in
             let one : usable w r life.space ≡ min v.base.processors (load v.base) = ap (usable w r) i.on.space ∙ ap (min w.processors) i.holds.load
             ∙ ap (λ m. min m (load v.base)) (sym processors) in
             let two : demand_of r life.space ≡ seen.demand = ap (demand_of r) i.on.space ∙ sym i.sees.demand in
@@ -139,9 +138,6 @@ module _ (set : Setting) (e : ℕ) (v : Prio) (cs : Contexts PrioContext) (w : W
             ap (λ o. is_some o || not (many_taken r life.space)) (runs ∙ carries)
             ∙ ap (λ b. is_some t || not b) (ap (many_taken r) i.on.space ∙ ap (nat_le _) (sym i.sees.taken)) ∙ by t few;
       } where
-        not_less_of : (x y : ℕ) → nat_lt x y ≡ false → y ≤ x
-        not_less_of x y e = grind (arith, nat_tests)
-
         by : (o : Option ThreadNo) → (is_none o ≡ true → has_bulk seen ≡ false) → (is_some o || not (has_bulk seen)) ≡ true
         by None less = ap not (less refl)
         by (Some x) less = refl

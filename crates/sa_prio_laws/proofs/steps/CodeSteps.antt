@@ -1,5 +1,6 @@
 -- Steps in the code that leave the ready list as it is: a free, and the back of a copy.
-use Rattle.std.proofs.Common.{◌≡◌, ℕ, Bool, true, false, ◌&&◌, List, [], ◌∷◌, Option, Some, slice_get, refl, sym, ap, ◌∙◌, subst, inl, inr, arith}
+use Rattle.std.proofs.Common.{◌≡◌, ℕ, true, false, List, [], ◌∷◌, Option, Some, slice_get, refl, sym, ap, ◌∙◌, subst, inl, inr, arith}
+use Rattle.std.proofs.lemmas.Bool.{and_parts}
 use Rattle.sa_base.specs.declared.context.Seen.{Seen}
 use Rattle.sa_base.specs.declared.number.ActNo.{ActNo}
 use Rattle.sa_base.specs.declared.number.ProcNo.{ProcNo}
@@ -55,11 +56,8 @@ pub keeps-with : (w : WorkloadView) (r : Readings) (p : ProcNo) (life : Life) (x
 keeps-with w r p life x keeps back = record {
   keeps = keeps;
   due = λ due. back ∙ due;
-  back = λ is cont. second life.cont life.freed (sym back ∙ is);
-} where
-  second : (b c : Bool) → (b && c) ≡ true → c ≡ true
-  second true c e = e
-  second false c e = absurd cc
+  back = λ is cont. (and_parts life.cont life.freed (sym back ∙ is)).1;
+}
 
 -- out of the code a context comes to an instruction or a look
 pub from-code : (f : Frame) (state : ContextState) → stands_inside state ≡ false → true ≡ came_out (Code f) state
@@ -128,7 +126,7 @@ module _ (set : Setting) (e : ℕ) (v : Prio) (cs : Contexts PrioContext) (w : W
       let scene = base-scene set e v cs w r p a life c seen i in
       let m = back-move set e v.base (bases cs) w r p a life seen f fs wk scene op is in
       let x : Record = records.Back set.space f.thread in
-      let opened : life.cont ≡ true = left life.cont life.freed (sym m.back) in
+      let opened : life.cont ≡ true = (and_parts life.cont life.freed (sym m.back)).0 in
       move-legal set e v cs w r p a life c seen i x [] _ _ m (record {
         ruled = record {
           step = refl;
@@ -148,10 +146,7 @@ module _ (set : Setting) (e : ℕ) (v : Prio) (cs : Contexts PrioContext) (w : W
               ranks = λ n made. i.ranked.ranks n made ∙ sym (placed-programs v.base.shared.threads f.thread kept.Carried n.0);
             };
         settled = λ last state out. from-code f _ out;
-      }) where
-        left : (b other : Bool) → (b && other) ≡ true → b ≡ true
-        left true other e = refl
-        left false other e = absurd cc
+      })
 
   -- a thread is made ready
   pub ready-legal : (t : ThreadNo) → slice_get package_ops f.pc ≡ Some ops.Push → f.pushed ≡ Some t
