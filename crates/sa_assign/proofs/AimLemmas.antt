@@ -1,8 +1,9 @@
 -- A processor is found as long as a space misses one, and every space that has its share keeps it.
-use Rattle.std.proofs.Common.{◌≡◌, ◌≢◌, ℕ, zero, suc, ◌+◌, ◌-◌, ◌<◌, ◌≤◌, Bool, true, false, cond, eqb, List, [], ◌∷◌, ◌++◌, length, set, Option, Some, None, refl, sym, ap, subst, ◌∙◌, arith, ◌⊎◌, inl, inr, sum, count_by, MatchOption, is_none}
+use Rattle.std.proofs.Common.{◌≡◌, ◌≢◌, ℕ, zero, suc, ◌+◌, ◌-◌, ◌<◌, ◌≤◌, Bool, true, false, cond, eqb, List, [], ◌∷◌, ◌++◌, length, set, Option, Some, None, refl, sym, ap, subst, ◌∙◌, arith, ◌⊎◌, inl, inr, sum, count_by, MatchOption}
 use Rattle.std.proofs.lemmas.List.{length-set, get_or-set_same, get_or-set_other, get_or_past}
 use Rattle.std.proofs.lemmas.List.Sums.{sum_by-cons, sum_by-set, sum_by-append}
 use Rattle.std.proofs.lemmas.Bool.{cases_eq, cases_lt, cases_Bool, eqb-true, eq-eqb, ne_eqb, ltb-true, ltb-false, cond-true, cond-false}
+use Rattle.sa_lemmas.proofs.Options.{none-is}
 use Rattle.sa_base.specs.declared.number.SpaceNo.{SpaceNo}
 use Rattle.sa_share.specs.Share.{share_at}
 use Rattle.sa_assign.specs.Aims.{Change, space_no, is_aim, aim_at, aimed, has_no_aim, is_surplus, can_be_spared, choice, aims_with, aims_after, missing, change_to, changes_for, changes_from}
@@ -120,10 +121,6 @@ Keeps-trans share before between after first second = record {
   above = λ le. second.above (first.above le);
 }
 
-is_none-true : (o : Option SpaceNo) → is_none o ≡ true → o ≡ None
-is_none-true None e = refl
-is_none-true (Some t) e = cc
-
 -- a processor that is chosen has no aim, or one of a space with more than its share
 abbrev IsSpared : List ℕ → List (Option SpaceNo) → Option SpaceNo → Type 0
 IsSpared shares aims o = MatchOption o (Unit {0}) (λ t. share_at shares t.0 < aimed t.0 aims)
@@ -135,7 +132,7 @@ surplus-spared shares aims (Some t) e = ltb-true (share_at shares t.0) (aimed t.
 choice-spared : (shares : List ℕ) (marks : List Bool) (aims : List (Option SpaceNo)) (p : ℕ) → choice shares marks aims ≡ Some p
     → (p < length aims) × IsSpared shares aims (aim_at aims p)
 choice-spared shares marks aims p chosen = elim (choice-passes shares marks aims p chosen) [
-  | inl free ↦ (free.within, subst (IsSpared shares aims) (sym (is_none-true (aim_at aims p) free.passes)) tt)
+  | inl free ↦ (free.within, subst (IsSpared shares aims) (sym (none-is (aim_at aims p) free.passes)) tt)
   | inr spared ↦ (spared.within, surplus-spared shares aims (aim_at aims p) spared.passes)
 ]
 

@@ -1,7 +1,8 @@
 -- Changes of aims that are made one after another.
 use Rattle.std.proofs.Common.{◌≡◌, ℕ, zero, suc, ◌+◌, List, [], ◌∷◌, ◌++◌, set, Bool, true, false, Option, Some, None, is_some, refl, sym, ap, ◌∙◌, append_assoc}
-use Rattle.std.proofs.lemmas.Bool.{false≢true, true≢false}
+use Rattle.std.proofs.lemmas.Bool.{false≢true}
 use Rattle.std.proofs.lemmas.List.{set-get_or}
+use Rattle.sa_lemmas.proofs.Options.{not_some-is}
 use Rattle.sa_base.specs.declared.number.ProcNo.{ProcNo}
 use Rattle.sa_base.specs.declared.number.SpaceNo.{SpaceNo}
 use Rattle.sa_base.specs.declared.record.Record.{Record}
@@ -107,11 +108,7 @@ pub one-aim-low : (event : ℕ) (proc : ProcNo) (s : SpaceNo) (p : ℕ) (chosen 
 one-aim-low event proc s p chosen old items is low =
     ap (λ (xs : List Item). (record old { aims = set old.aims p (Some s); lines = set old.lines p (Some event) }, xs))
     (append_assoc items (aim_item event proc p s ∷ []) (line_item event proc p ∷ []))
-    ∙ sym (carried_out-one event proc s p chosen (old, items) is ∙ ap (one_aim event proc s p (old, items)) (none (line_at old.lines p) low))
-  where
-    none : (line : Option ℕ) → is_some line ≡ false → line ≡ None
-    none None e = refl
-    none (Some earlier) e = absurd (true≢false e)
+    ∙ sym (carried_out-one event proc s p chosen (old, items) is ∙ ap (one_aim event proc s p (old, items)) (not_some-is (line_at old.lines p) low))
 
 -- one more aim leaves a raised line as it is
 pub one-aim-raised : (event : ℕ) (proc : ProcNo) (s : SpaceNo) (p : ℕ) (chosen : Option ℕ) (old : AssignView) (items : List Item) → chosen ≡ Some p

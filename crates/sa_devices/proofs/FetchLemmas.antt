@@ -1,9 +1,9 @@
 -- What is written back into lists of a fixed room, and the counts of fetches.
-use Rattle.std.proofs.Common.{◌≡◌, ℕ, ◌+◌, ◌-◌, ◌<◌, ◌≤◌, List, ◌++◌, length, get_or, set, take, drop, slice_index, All, refl, sym, ap, subst, ◌∙◌, inl, inr, arith}
-use Rattle.std.proofs.Math.Seq.{take-append_seam}
+use Rattle.std.proofs.Common.{◌≡◌, ℕ, ◌+◌, ◌-◌, ◌<◌, ◌≤◌, List, length, get_or, set, slice_index, All, refl, sym, ap, subst, ◌∙◌, inl, inr, arith}
 use Rattle.std.proofs.lemmas.Bool.{cases_eq, eq-eqb, ne_eqb, cond-true, cond-false}
-use Rattle.std.proofs.lemmas.List.{length-set, get_or-set_same, get_or-set_other}
+use Rattle.std.proofs.lemmas.List.{get_or-set_same, get_or-set_other}
 use Rattle.std.specs.List.{refill}
+use Rattle.sa_lemmas.proofs.ListUpdates.{refill-whole, refill-set}
 use Rattle.sa_base.specs.declared.number.SpaceNo.{SpaceNo}
 use Rattle.sa_spaces.specs.declared.workload.Evict.{Evict}
 use Rattle.sa_spaces.specs.Workload.{IsEviction}
@@ -14,17 +14,7 @@ use Rattle.sa_devices.specs.Pages.{IsKind, evicted}
 use Rattle.sa_devices.specs.Sound.{IsSound}
 use Rattle.sa_devices.proofs.SoundLemmas.{length-evicted}
 
--- a list of the same length is written back whole
-pub refill-whole : (xs ws : List ℕ) → length ws ≡ length xs → refill (length xs) xs ws ≡ ws
-refill-whole xs ws same =
-    ap (λ n. take n (ws ++ drop (length ws) xs)) (sym same) ∙ take-append_seam ws (drop (length ws) xs)
-
--- so is one with another entry
-pub refill-set : (xs now : List ℕ) (i p v : ℕ) → now ≡ xs → i ≡ p → refill (length xs) xs (set now i v) ≡ set xs p v
-refill-set xs now i p v is at =
-    ap (λ ys. refill (length xs) xs (set ys i v)) is ∙ ap (λ k. refill (length xs) xs (set xs k v)) at ∙ refill-whole xs (set xs p v) (length-set xs p v)
-
--- and one whose entry was changed by a function
+-- a list is written back whole whose entry at a place was changed by a function
 pub refill-changed : (f : ℕ → ℕ) (xs now : List ℕ) (i p : ℕ) → now ≡ xs → i ≡ p
     → refill (length xs) xs (set now i (f (get_or now i 0))) ≡ set xs p (f (get_or xs p 0))
 refill-changed f xs now i p is at =

@@ -1,5 +1,5 @@
 -- How the I/Os under way are kept in a heap.
-use Rattle.std.proofs.Common.{◌≡◌, ℕ, zero, suc, ◌+◌, ◌<◌, ◌≤◌, false, ◌⊎◌, inl, inr, List, [], ◌∷◌, ◌++◌, length, set, Option, Some, None, option_map, refl, sym, ap, subst, ◌∙◌, arith, Contains, ◌-◌, slice_index_or, length-set, IsSome, IfSome, OnSome}
+use Rattle.std.proofs.Common.{◌≡◌, ℕ, suc, ◌+◌, ◌<◌, ◌≤◌, false, inl, inr, List, [], ◌∷◌, ◌++◌, length, set, Option, Some, None, option_map, refl, sym, ap, subst, ◌∙◌, arith, Contains, ◌-◌, slice_index_or, length-set, IsSome, IfSome, OnSome}
 use Rattle.std.specs.Ordering.{is_lt}
 use Rattle.std.specs.BinaryHeap.{KeepsHeap, PopsGreatest, IsUpperBound, lt_by_cmp}
 use Rattle.std.specs.List.Sorted.{IsPermutation}
@@ -10,20 +10,12 @@ use Rattle.std.proofs.lemmas.List.Elements.{All-from_recursion}
 use Rattle.std.proofs.lemmas.List.Sorted.{Contains-permutation, IsPermutation-sym}
 use Rattle.std.proofs.lemmas.Option.{none-some, same_Some}
 use Rattle.sa_base.specs.declared.number.IoNo.{IoNo}
-use Rattle.sa_lemmas.proofs.Membership.{contains-head, contains-tail}
+use Rattle.sa_lemmas.proofs.Membership.{contains-head, contains-tail, contains-cases}
 use Rattle.sa_devices.specs.declared.under_way.Entry.{Entry}
 use Rattle.sa_devices.specs.Ios.{Io, due_of, io_no, io_at, without}
 use Rattle.sa_devices.specs.DevicesView.{IosView, begun_with, ended_with}
 use Rattle.sa_devices.specs.Kept.{Key, key_of, key_cmp, IsNotAfter, listed, entry_at, ends_at, IsOfOne, HaveKeys, IsCovered, AreKept}
 use Rattle.sa_devices.proofs.IosLemmas.{io_of, listed-append, without-listed, io_at-listed, Member, stands-under_way, IsListed, ends_at-listed, IsDueOf, due_of-due}
-
--- ---- elements
-
-Contains-cases : {X : Type 0} (x y : X) (xs : List X) → Contains (x ∷ xs) y → (x ≡ y) ⊎ Contains xs y
-Contains-cases {X} x y xs at = go at.0 at.1 at.2 where
-  go : (k : ℕ) → k < length (x ∷ xs) → slice_index_or (x ∷ xs) k y ≡ y → (x ≡ y) ⊎ Contains xs y
-  go zero below is = inl is
-  go (suc k) below is = inr (k, omega arith, is)
 
 -- ---- places
 
@@ -60,7 +52,7 @@ AreKept-begin places e keys after old moved order =
             let is : key ≡ key_of ends n = ap (λ (x : ℕ). key_of x (length places)) ends_is ∙ ap (key_of ends) (sym last) in
             subst (Contains (key ∷ keys)) is (contains-head key keys)
       ]);
-      covered = λ k at. elim (Contains-cases key k keys (Contains-permutation after (key ∷ keys) k (IsPermutation-sym (key ∷ keys) after moved) at)) [
+      covered = λ k at. elim (contains-cases key k keys (Contains-permutation after (key ∷ keys) k (IsPermutation-sym (key ∷ keys) after moved) at)) [
         | inl same ↦ subst (IsCovered (places ++ Some e ∷ [])) same (record { by = key; one = ends_at-new places e; first = inr (refl, omega arith) })
         | inr there ↦
             let cover = old.covered k there in
@@ -74,7 +66,7 @@ AreKept-begin places e keys after old moved order =
 pub HaveKeys-pop : (places : List (Option Entry)) (key : Key) (keys after : List Key) → HaveKeys places keys → IsPermutation keys (key ∷ after)
     → (IsOfOne places key → ⊥) → HaveKeys places after
 HaveKeys-pop places key keys after old moved over n ends at =
-    elim (Contains-cases key (key_of ends n) after (Contains-permutation keys (key ∷ after) (key_of ends n) moved (old n ends at))) [
+    elim (contains-cases key (key_of ends n) after (Contains-permutation keys (key ∷ after) (key_of ends n) moved (old n ends at))) [
       | inl same ↦ absurd (over (subst (IsOfOne places) (sym same) at))
       | inr there ↦ there
     ]

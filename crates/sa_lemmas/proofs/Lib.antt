@@ -1,3 +1,4 @@
+pub mod Appends
 pub mod Booleans
 pub mod FunctionUpdates
 pub mod ListReads

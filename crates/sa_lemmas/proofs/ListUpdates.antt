@@ -1,7 +1,10 @@
 -- A list that was updated at one place, or got one item more. Lemmas on `get_or`, two updates, the length and
 -- `map` after an update are in `Rattle.std.proofs.lemmas.List`; those on sums and counts are in its `Sums`, and
 -- those on folds over `++` in its `Sums` and `Folds`.
-use Rattle.std.proofs.Common.{◌≡◌, ◌≢◌, ℕ, zero, suc, ◌<◌, Some, List, [], ◌∷◌, ◌++◌, length, slice_get, slice_set, ◌⊎◌, inl, inr, refl, ap, arith}
+use Rattle.std.proofs.Common.{◌≡◌, ◌≢◌, ℕ, zero, suc, ◌<◌, Some, List, [], ◌∷◌, ◌++◌, length, slice_get, slice_set, set, take, drop, ◌⊎◌, inl, inr, refl, sym, ap, ◌∙◌, arith}
+use Rattle.std.specs.List.{refill}
+use Rattle.std.proofs.Math.Seq.{take-append_seam}
+use Rattle.std.proofs.lemmas.List.{length-set}
 
 -- an item after an update is the new one or an old one
 pub slice_get-set_cases : {A : Type 0} (xs : List A) (i j : ℕ) (x y : A) → slice_get (slice_set xs i x) j ≡ Some y
@@ -36,3 +39,11 @@ slice_get-push_cases (z ∷ xs) (suc i) x y is = elim (slice_get-push_cases xs i
   | inl at ↦ inl (ap suc at.0, at.1)
   | inr old ↦ inr old
 ]
+
+-- a list of as many items is written back whole, and so is one with another item at a place
+pub refill-whole : {A : Type 0} (xs ws : List A) → length ws ≡ length xs → refill (length xs) xs ws ≡ ws
+refill-whole xs ws same = ap (λ n. take n (ws ++ drop (length ws) xs)) (sym same) ∙ take-append_seam ws (drop (length ws) xs)
+
+pub refill-set : {A : Type 0} (xs now : List A) (i p : ℕ) (x : A) → now ≡ xs → i ≡ p → refill (length xs) xs (set now i x) ≡ set xs p x
+refill-set xs now i p x is at =
+    ap (λ ys. refill (length xs) xs (set ys i x)) is ∙ ap (λ k. refill (length xs) xs (set xs k x)) at ∙ refill-whole xs (set xs p x) (length-set xs p x)

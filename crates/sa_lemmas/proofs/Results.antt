@@ -1,4 +1,4 @@
--- What holds at an error.
+-- What holds at an error, and the values of equal answers.
 use Rattle.std.proofs.Common.{◌≡◌, sym, subst}
 use Rattle.std.specs.Prelude.{Result, Ok, Err, OnErr, IfErr, IsErrAnd}
 
@@ -11,3 +11,7 @@ on_err (Err e) holds = holds
 pub err_along : {T E : Type 0} (P : E → Type 0) (why : E) (result : Result T E) → P why → IsErrAnd result (λ e. e ≡ why) → IfErr result P
 err_along P why (Ok x) holds is = absurd is
 err_along P why (Err e) holds is = subst P (sym is) holds
+
+-- equal answers have equal values
+pub same-ok : {T E : Type 0} (a b : T) → (λ (r : Result T E). r) (Ok a) ≡ Ok b → a ≡ b
+same-ok a b is = cc

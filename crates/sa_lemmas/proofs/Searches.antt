@@ -1,7 +1,8 @@
 -- What a search of a list by a test gives.
 use Rattle.std.proofs.Common.{◌≡◌, ℕ, zero, suc, Bool, true, false, cond, Some, List, [], ◌∷◌, find, get_or, inl, inr, refl, sym, ap, ◌∙◌, subst}
-use Rattle.std.specs.Prelude.{filter, take_while, ◌||◌, if◌then◌else◌}
+use Rattle.std.specs.Prelude.{Contains, filter, take_while, ◌||◌, if◌then◌else◌}
 use Rattle.std.specs.List.{list_any}
+use Rattle.std.proofs.lemmas.List.Folds.{list_any_at}
 use Rattle.std.proofs.lemmas.List.Sums.{take_while-cons}
 use Rattle.std.proofs.lemmas.Option.{same_Some, none-some}
 use Rattle.sa_lemmas.proofs.Booleans.{if_either}
@@ -31,3 +32,7 @@ any_at nothing f (x ∷ xs) (suc i) none is = one (f x) (any_at nothing f xs i n
   one : (b : Bool) → list_any f xs ≡ true → (b || list_any f xs) ≡ true
   one true any = refl
   one false any = any
+
+-- a test that an item of a list passes is passed by some item
+pub any-contained : {A : Type 0} (test : A → Bool) (x : A) (xs : List A) → Contains xs x → test x ≡ true → list_any test xs ≡ true
+any-contained test x xs has is = list_any_at test xs has.0 x has.1 (ap test has.2 ∙ is)

@@ -2,13 +2,12 @@
 use Rattle.std.proofs.Common.{◌<◌, ◌≤◌, List, [], ◌∷◌, inl, inr, subst, arith}
 use Rattle.std.specs.Prelude.{Contains}
 use Rattle.sa_base.specs.declared.record.Item.{Item}
-use Rattle.sa_lemmas.proofs.Membership.{contains-nil}
+use Rattle.sa_lemmas.proofs.Membership.{contains-nil, contains-cases}
 use Rattle.sa_shapes.specs.declared.extent.Extent.{Extent}
 use Rattle.sa_shapes.specs.declared.window.Window.{Window}
 use Rattle.sa_shapes.specs.Marks.{lane_of}
 use Rattle.sa_shapes.specs.Extent.{with_item, extent_from}
 use Rattle.sa_shapes.specs.Laws.{HasLane}
-use Rattle.sa_shapes.proofs.Elements.{first_or_rest}
 
 grow : (w : Window) (e : Extent) (items : List Item) → e.lanes ≤ (extent_from w e items).lanes
 grow w e [] = omega arith
@@ -21,7 +20,7 @@ record Holds (w : Window) (e : Extent) (items : List Item) (i : Item) : Type 0 w
 hold : (w : Window) (e : Extent) (items : List Item) (i : Item) → Contains items i → Holds w e items i
 hold w e [] i there = absurd (contains-nil i there)
 hold w e (j ∷ items) i there =
-    elim (first_or_rest j items i there) [
+    elim (contains-cases j i items there) [
       | inl same ↦
           let more = grow w (with_item w e j) items in
           subst (λ (x : Item). Holds w e (j ∷ items) x) same (record { own = omega (arith, more); marked = omega (arith, more) })

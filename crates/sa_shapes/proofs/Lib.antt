@@ -1,4 +1,3 @@
-mod Elements
 mod Fills
 mod Changes
 mod Shows

@@ -6,7 +6,7 @@ use Rattle.std.proofs.lemmas.List.Sums.{sum_by-cons}
 use Rattle.std.proofs.lemmas.List.Elements.{Contains-append_right}
 use Rattle.sa_base.specs.declared.number.ProcNo.{ProcNo}
 use Rattle.sa_base.specs.declared.record.Item.{Item}
-use Rattle.sa_lemmas.proofs.Membership.{contains-head, contains-nil}
+use Rattle.sa_lemmas.proofs.Membership.{contains-head, contains-nil, contains-cases}
 use Rattle.sa_shapes.specs.declared.marks.Stack.{Stack}
 use Rattle.sa_shapes.specs.declared.shape.Mark.{Mark}
 use Rattle.sa_shapes.specs.declared.shape.Shape.{Shape}
@@ -15,7 +15,6 @@ use Rattle.sa_shapes.specs.declared.window.Window.{Window}
 use Rattle.sa_shapes.specs.Window.{place, is_inside}
 use Rattle.sa_shapes.specs.Marks.{has_mark, lane_of, is_marked, row_at, height_over, mark_at, marks_from, marks}
 use Rattle.sa_shapes.specs.Laws.{HasMark}
-use Rattle.sa_shapes.proofs.Elements.{first_or_rest}
 
 module _ (w : Window) (lane : ProcNo) where
   record Marked (shapes : List Shape) (i : Item) : Type 0 where
@@ -47,7 +46,7 @@ module _ (w : Window) (lane : ProcNo) where
       → Marked (marks_from w lane s items) i
   marked s [] i there inside has = absurd (contains-nil i there)
   marked s (j ∷ items) i there inside has =
-      elim (first_or_rest j items i there) [
+      elim (contains-cases j i items there) [
         | inl same ↦
             subst (λ (x : Item). is_inside w x.event ≡ true → is_marked lane x ≡ true → Marked (marks_from w lane s (j ∷ items)) x) same
             (marked-first (row_at s j.event) j _ _) inside has

@@ -58,6 +58,7 @@ keeps-with w r p life x keeps back = record {
   due = λ due. back ∙ due;
   back = λ is cont. (and_parts life.cont life.freed (sym back ∙ is)).1;
 }
+
 -- out of the code a context comes to an instruction or a look
 pub from-code : (f : Frame) (state : ContextState) → stands_inside state ≡ false → true ≡ came_out (Code f) state
 from-code f (User t) out = refl
@@ -122,7 +123,7 @@ module _ (set : Setting) (e : ℕ) (v : Prio) (cs : Contexts PrioContext) (w : W
       let scene = base-scene set e v cs w r p a life c seen i in
       let m = back-move set e v.base (bases cs) w r p a life seen f fs wk scene op is in
       let x : Record = records.Back set.space f.thread in
-      let opened : life.cont ≡ true = left life.cont life.freed (sym m.back) in
+      let opened : life.cont ≡ true = (and_parts life.cont life.freed (sym m.back)).0 in
       move-legal set e v cs w r p a life c seen i x [] _ _ m (record {
         ruled = record {
           step = refl;
@@ -143,6 +144,7 @@ module _ (set : Setting) (e : ℕ) (v : Prio) (cs : Contexts PrioContext) (w : W
             };
         settled = λ last state out. from-code f _ out;
       })
+
   -- a thread is made ready
   pub ready-legal : (t : ThreadNo) → slice_get package_ops f.pc ≡ Some ops.Push → f.pushed ≡ Some t
       → micro v.base.shared.state f seen.pages ≡ pushed v.base.shared.state f true (list_in f) (Some t)

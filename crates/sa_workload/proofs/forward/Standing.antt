@@ -5,6 +5,7 @@ use Rattle.std.specs.List.{list_all}
 use Rattle.std.proofs.lemmas.Bool.{false≢true}
 use Rattle.std.proofs.lemmas.List.Elements.{All-contains}
 use Rattle.std.proofs.lemmas.List.Sums.{AllPass-from_list_all}
+use Rattle.sa_lemmas.proofs.Results.{same-ok}
 use Rattle.sa_instr.specs.declared.operation.Operation.{Operation}
 use Rattle.sa_instr.specs.declared.operation.Operation.TheVariants as Operations
 use Rattle.sa_instr.specs.Operation.{form_of}
@@ -16,7 +17,7 @@ use Rattle.sa_workload_lines.specs.Fields.{and_then, index_of}
 use Rattle.sa_workload_lines.specs.Position.{Position, AtVersion, AtInstr, Closed, IsReached, shown}
 use Rattle.sa_workload_lines.specs.Steps.{Steps, expected, step_absent, step_instr, step_evict, step_first_turn, step_turn}
 use Rattle.sa_workload_lines.specs.Next.{next}
-use Rattle.sa_workload_lines.proofs.fields.FieldLemmas.{contained, same_ok, and_then-ok, known_word}
+use Rattle.sa_workload_lines.proofs.fields.FieldLemmas.{contained, and_then-ok, known_word}
 use Rattle.sa_workload_lines.proofs.forward.ShownStep.{shown-step}
 use Rattle.sa_workload.proofs.forward.Completion.{completes}
 use Rattle.sa_workload.proofs.forward.Says.{Heard, heard, heard-push, Says, says-next, last_line-push}
@@ -114,10 +115,10 @@ begins versions s p a = completes versions s.one s.few p a.reached
 pub whole_lines : (versions : ℕ) → Setting versions → (p : Position) (w : WorkloadView) → IsAt versions p → IsUpTo versions w → workload_lines w ≡ shown p
     → p ≡ Closed w
 whole_lines versions s p w a h e =
-    same_ok p (Closed w) (sym a.run_is ∙ ap (run versions AtVersion) (sym e) ∙ complete versions w h.workload s.few h.version)
+    same-ok p (Closed w) (sym a.run_is ∙ ap (run versions AtVersion) (sym e) ∙ complete versions w h.workload s.few h.version)
 
 pub lines-injective : (v w : WorkloadView) → IsWorkload v → IsWorkload w → workload_lines v ≡ workload_lines w → v ≡ w
-lines-injective v w a b e = same (same_ok (Closed v) (Closed w)
+lines-injective v w a b e = same (same-ok (Closed v) (Closed w)
     (sym (complete 3 v a (omega arith) (version_of-le v)) ∙ ap (run 3 AtVersion) e ∙ complete 3 w b (omega arith) (version_of-le w)))
   where
     same : Closed v ≡ Closed w → v ≡ w

@@ -10,6 +10,7 @@ use Rattle.std.proofs.lemmas.Bool.{false_from_ne_true, false≢true, eqb-true, a
 use Rattle.std.proofs.lemmas.Slice.Eq.{bytes_eq-Decides}
 use Rattle.std.proofs.lemmas.List.{length-map}
 use Rattle.std.proofs.lemmas.List.Elements.{All-map}
+use Rattle.sa_lemmas.proofs.Results.{same-ok}
 use Rattle.sa_instr.specs.Parts.{parts_of}
 use Rattle.sa_workload_lines.specs.Text.{instr_line}
 use Rattle.sa_workload_lines.specs.Bad.{ordered_words, is_ordered, first_word, Begins, MayFollow, IsRightWord, IsTooMany, Field, Register, Number, list_lt, numbers_of, instr_words, last_line, fields_behind, fields_by, DeclaredNumbers}
@@ -18,7 +19,7 @@ use Rattle.sa_workload_lines.specs.Fields.{and_then, index_of, order_cause, read
 use Rattle.sa_workload_lines.specs.Position.{Position, AtVersion, AtInstr, Closed, shown, shown_spaces, shown_draft}
 use Rattle.sa_workload_lines.specs.Steps.{expected}
 use Rattle.sa_workload_lines.specs.Next.{numbers_at, is_full, last_numbers, fields_of, next}
-use Rattle.sa_workload_lines.proofs.fields.FieldLemmas.{same_ok, and_then-ok, and_then-err, contained, spelled_all, AllPass, read-ok, behind, fields-ok, fields-spelled, all_long}
+use Rattle.sa_workload_lines.proofs.fields.FieldLemmas.{and_then-ok, and_then-err, contained, spelled_all, AllPass, read-ok, behind, fields-ok, fields-spelled, all_long}
 use Rattle.sa_workload_lines.proofs.fields.InstrLemmas.{operation-expected}
 use Rattle.sa_workload.proofs.causes.Causes.{is_stuck, Leads, step-leads}
 use Rattle.sa_workload.proofs.forward.Completion.{begins_front}
@@ -33,7 +34,7 @@ use Rattle.sa_workload.proofs.forward.Standing.{IsAt, Setting, at_first, at_next
 run-at : (versions : ℕ) → versions ≤ 3 → (ls : List (List (List ℕ))) (p q : Position) → IsAt versions p → run versions p ls ≡ Ok q
     → IsAt versions q × (shown q ≡ shown p ++ ls)
 run-at versions three [] p q a h =
-    let same : p ≡ q = same_ok p q h in
+    let same : p ≡ q = same-ok p q h in
     (subst (IsAt versions) same a, ap shown (sym same) ∙ sym (append-nil (shown p)))
 run-at versions three (l ∷ ls) p q a h =
     let n = and_then-ok (next versions p l) (λ r. run versions r ls) q h in

@@ -1,8 +1,8 @@
 -- The text of a workload, part by part as it is printed.
-use Rattle.std.proofs.Common.{◌≡◌, ℕ, ◌+◌, ◌<◌, ◌≤◌, cond, get_or, Result, Ok, Err, OnOk, List, [], ◌∷◌, ◌++◌, length, take, map, codes, decimal, refl, sym, ◌∙◌, ap, append_assoc}
+use Rattle.std.proofs.Common.{◌≡◌, ℕ, ◌≤◌, cond, Result, Ok, Err, OnOk, List, [], ◌∷◌, ◌++◌, length, take, map, codes, decimal, refl, sym, ◌∙◌, ap, append_assoc}
 use Rattle.std.specs.List.{flat_map, join_with_byte}
 use Rattle.std.specs.Result.{is_ok}
-use Rattle.std.proofs.lemmas.List.{append-nil, flat_map_more, take_all, take_more}
+use Rattle.std.proofs.lemmas.List.{append-nil, take_all}
 use Rattle.std.proofs.lemmas.List.Concat.{flat_map-append}
 use Rattle.std.proofs.lemmas.List.Folds.{flat_map-map}
 use Rattle.sa_instr.specs.declared.instr.Instr.{Instr}
@@ -30,18 +30,6 @@ pushed_line f out word xs a b d p q r =
 pub ok_items : {T E : Type 0} (r : Result T E) (now added before : List ℕ) → now ≡ cond (is_ok r) added before → OnOk r (now ≡ added)
 ok_items (Ok x) now added before e = e
 ok_items (Err d) now added before e = tt
-
--- a piece more of a list that is printed one by one
-pub pushed_more : {X : Type 0} (f : X → List ℕ) (xs : List X) (i : ℕ) (x y : X) (before now after : List ℕ) → i < length xs → y ≡ get_or xs i x
-    → now ≡ before ++ flat_map f (take i xs) → after ≡ now ++ f y → after ≡ before ++ flat_map f (take (i + 1) xs)
-pushed_more f xs i x y before now after within is so_far more =
-    more ∙ ap (λ ys. ys ++ f y) so_far ∙ flat_map_more f before (take i xs) y
-    ∙ ap (λ ys. before ++ flat_map f ys) (ap (λ z. take i xs ++ z ∷ []) is ∙ sym (take_more xs i x within))
-
--- a list that is printed one by one to its end
-pub pushed_each : {X : Type 0} (f : X → List ℕ) (xs : List X) (i : ℕ) (before now : List ℕ) → length xs ≤ i
-    → now ≡ before ++ flat_map f (take i xs) → now ≡ before ++ flat_map f xs
-pushed_each f xs i before now passed so_far = so_far ∙ ap (λ ys. before ++ flat_map f ys) (take_all i xs passed)
 
 -- the line of an eviction whose numbers are these
 pub evict_text : (e : Evict) (space page : ℕ) → space ≡ e.space.0 → page ≡ e.page

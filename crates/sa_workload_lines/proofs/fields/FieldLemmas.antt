@@ -6,6 +6,7 @@ use Rattle.std.proofs.lemmas.Bool.{false≢true, ltb-true, leb-true, le-leb, lt-
 use Rattle.std.proofs.lemmas.Fmt.{decimal_digit}
 use Rattle.std.proofs.lemmas.List.{append-nil}
 use Rattle.std.proofs.lemmas.Slice.Eq.{bytes_eq-Decides}
+use Rattle.sa_lemmas.proofs.Results.{same-ok}
 use Rattle.sa_text.specs.Number.{number_of}
 use Rattle.sa_text.proofs.NumberOf.{reads_number, number_of-some}
 use Rattle.sa_lemmas.proofs.Booleans.{if_either}
@@ -13,9 +14,6 @@ use Rattle.sa_workload_lines.specs.Bad.{Field, Register, Number, within, declare
 use Rattle.sa_workload_lines.specs.Fields.{and_then, unless, or_cause, index_of, read_field, fields_at, at_end, order_cause, line_numbers}
 
 -- what an answer is made of
-pub same_ok : {A : Type 0} (a b : A) → (λ (r : Result A ℕ). r) (Ok a) ≡ Ok b → a ≡ b
-same_ok a b h = cc
-
 pub same_err : {A : Type 0} (a b : ℕ) → (λ (r : Result A ℕ). r) (Err a) ≡ Err b → a ≡ b
 same_err a b h = cc
 
@@ -34,7 +32,7 @@ unless-ok (Some cause) r a h = absurd cc
 
 or_cause-ok : {A : Type 0} (o : Option A) (cause : ℕ) (a : A) → or_cause o cause ≡ Ok a → o ≡ Some a
 or_cause-ok None cause a h = absurd cc
-or_cause-ok (Some b) cause a h = ap Some (same_ok b a h)
+or_cause-ok (Some b) cause a h = ap Some (same-ok b a h)
 
 -- the place of a word
 pub index_of-some : (word : List ℕ) (ks : List (List ℕ)) (n : ℕ) → index_of word ks ≡ Some n → (n < length ks) × (get_or ks n word ≡ word)
@@ -133,7 +131,7 @@ read-ok (Number test cause) word n h =
     let got = and_then-ok (or_cause (number_of word) 3) (λ n. cond (test n) (Ok n) (Err cause)) n h in
     let s = number_of-some word got.0 (or_cause-ok (number_of word) 3 got.0 got.1) in
     elim (if_either (test got.0) (Ok got.0) (Err cause) (Ok n) got.2) [
-      | inl right ↦ let same : got.0 ≡ n = same_ok got.0 n right.1 in
+      | inl right ↦ let same : got.0 ≡ n = same-ok got.0 n right.1 in
           (s.0 ∙ ap decimal same, (subst (λ (m : ℕ). m < 2 ^ 64) same s.1, ap test (sym same) ∙ right.0))
       | inr wrong ↦ absurd (cc (wrong.1))
     ]
@@ -156,7 +154,7 @@ IsSpelled fs words read = (words ≡ spelled_all fs read.0 ++ read.1) × AllPass
 
 pub fields-ok : (fs : List Field) (words : List (List ℕ)) (read : List ℕ × List (List ℕ)) → fields_at fs words ≡ Ok read
     → (words ≡ spelled_all fs read.0 ++ read.1) × AllPass fs read.0
-fields-ok [] words read h = subst (IsSpelled [] words) (same_ok ([], words) read h) (refl, tt)
+fields-ok [] words read h = subst (IsSpelled [] words) (same-ok ([], words) read h) (refl, tt)
 fields-ok (f ∷ fs) [] read h = absurd cc
 fields-ok (f ∷ fs) (word ∷ words) read h = by (read_field f word) refl h (fields-ok fs words)
   where
@@ -167,7 +165,7 @@ fields-ok (f ∷ fs) (word ∷ words) read h = by (read_field f word) refl h (fi
         let own = read-ok f word n e in
         let others = and_then-ok (fields_at fs words) (λ others. Ok (n ∷ others.0, others.1)) read h in
         let later = rest others.0 others.1 in
-        subst (IsSpelled (f ∷ fs) (word ∷ words)) (same_ok (n ∷ others.0.0, others.0.1) read others.2)
+        subst (IsSpelled (f ∷ fs) (word ∷ words)) (same-ok (n ∷ others.0.0, others.0.1) read others.2)
         (ap₂ (λ (w : List ℕ) (ws : List (List ℕ)). w ∷ ws) own.0 later.0, (own.1, later.1))
 
 pub all_long : (fs : List Field) (ns : List ℕ) → AllPass fs ns → (length ns ≡ length fs) × (length (spelled_all fs ns) ≡ length fs)
@@ -195,7 +193,7 @@ line-ok fs last words ns h =
     let read = and_then-ok (fields_at fs words) (λ read. unless (order_cause last read.0) (unless (at_end read.1) (Ok read.0))) ns h in
     let order = unless-ok (order_cause last read.0.0) (unless (at_end read.0.1) (Ok read.0.0)) ns read.2 in
     let end = unless-ok (at_end read.0.1) (Ok read.0.0) ns order.1 in
-    let same : read.0.0 ≡ ns = same_ok read.0.0 ns end.1 in
+    let same : read.0.0 ≡ ns = same-ok read.0.0 ns end.1 in
     let f = fields-ok fs words read.0 read.1 in
     subst (λ (ms : List ℕ). (words ≡ spelled_all fs ms) × AllPass fs ms × (order_cause last ms ≡ None)) same
     (f.0 ∙ ap (λ ws. spelled_all fs read.0.0 ++ ws) (at_end-none read.0.1 end.0) ∙ append-nil (spelled_all fs read.0.0), f.1, order.0)

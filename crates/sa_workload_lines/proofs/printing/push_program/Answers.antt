@@ -1,12 +1,14 @@
-use Rattle.std.proofs.Common.{◌<◌, ◌≤◌, ◌∙◌, subst}
+use Rattle.std.proofs.Common.{◌<◌, ◌≤◌, ◌∙◌, subst, ◌++◌, ap}
+use Rattle.sa_lemmas.proofs.Appends.{list-more}
 use Rattle.sa_workload_lines.specs.Text.{line_text, instr_line}
-use Rattle.sa_workload_lines.proofs.calls.PrintedText.{pushed_more, pushed_program}
+use Rattle.sa_workload_lines.proofs.calls.PrintedText.{pushed_program}
 use Rattle.sa_workload_lines.proofs.printing.push_program.Goals as goal
 
 pub loop-pc-preserved : goal.loop-pc-preserved
 loop-pc-preserved c =
-    pushed_more (λ i. line_text (instr_line i)) c.args.program.now c.loop-pc.pc _ c.at.result _ _ _
-    (subst (λ len. c.loop-pc.pc < len) c.len-len.ensures.len c.loop-pc-test.true) c.at.ensures.instr c.loop-pc.invariant c.in_ok-push_instr.ensures
+    list-more (λ i. line_text (instr_line i)) c.args.program.now c.loop-pc.pc _ _ _ _
+    (subst (λ len. c.loop-pc.pc < len) c.len-len.ensures.len c.loop-pc-test.true) c.loop-pc.invariant
+    (c.in_ok-push_instr.ensures ∙ ap (λ i. c.loop-pc.out.items ++ line_text (instr_line i)) c.at.ensures.instr)
 
 pub returns : goal.returns
 returns c =

@@ -1,13 +1,13 @@
-use Rattle.std.proofs.Common.{◌++◌, ◌∷◌, [], ◌∙◌, ap, codes, decimal, refl}
+use Rattle.std.proofs.Common.{◌++◌, ◌∷◌, [], ◌∙◌, ap, codes, decimal}
+use Rattle.sa_lemmas.proofs.Appends.{list-more, list-all}
 use Rattle.sa_workload_lines.specs.Text.{line_text, turn_line}
-use Rattle.sa_workload_lines.proofs.calls.PrintedText.{pushed_each, pushed_more}
 use Rattle.sa_workload_lines.proofs.printing.push_turns.Goals as goal
 
 pub loop-proc-preserved : goal.loop-proc-preserved
 loop-proc-preserved c =
-    pushed_more (λ p. line_text (turn_line p)) c.args.turns.now c.loop-proc.proc-index (record { 0 = 0 }) _ _ _ _
-    c.loop-proc-test.true refl c.loop-proc.invariant
+    list-more (λ p. line_text (turn_line p)) c.args.turns.now c.loop-proc.proc-index (record { 0 = 0 }) _ _ _
+    c.loop-proc-test.true c.loop-proc.invariant
     (c.in_ok-push_line.ensures ∙ ap (λ number. c.loop-proc.out.items ++ line_text (codes "turn" ∷ decimal number ∷ [])) c.from.ensures)
 
 pub returns : goal.returns
-returns c = pushed_each (λ p. line_text (turn_line p)) c.args.turns.now c.loop-proc.proc-index _ _ c.loop-proc-test.false c.loop-proc.invariant
+returns c = list-all (λ p. line_text (turn_line p)) c.args.turns.now c.loop-proc.proc-index _ _ c.loop-proc-test.false c.loop-proc.invariant

@@ -1,16 +1,12 @@
-use Rattle.std.proofs.Common.{◌≡◌, Option, Some, None, refl, sym, ap, ◌∙◌, arith}
-use Rattle.std.specs.Prelude.{SomeIff, IsSome}
+use Rattle.std.proofs.Common.{◌≡◌, Option, Some, None, sym, ap, ◌∙◌, arith}
+use Rattle.std.specs.Prelude.{SomeIff}
+use Rattle.sa_lemmas.proofs.Options.{there-where}
 use Rattle.sa_spaces.specs.Space.{SpaceView, IsSpace}
 use Rattle.sa_workload_lines.specs.Steps.{space_of_draft}
 use Rattle.sa_workload_lines.specs.Stage.{draft_of}
 use Rattle.sa_workload_lines.proofs.step.space_of.Goals as goal
 
--- what is there exactly where something holds is there where that holds
-is_there : {T : Type 0} (o : Option T) (P : Type 0) (v : T) → SomeIff o P v → P → IsSome o
-is_there None P v iff holds = absurd (iff holds)
-is_there (Some x) P v iff holds = refl
-
--- and is what it then is
+-- what is there exactly where something holds is what it then is
 is_that : {T : Type 0} (o : Option T) (P : Type 0) (v x : T) → SomeIff o P v → o ≡ Some x → x ≡ v
 is_that None P v x iff some = absurd cc
 is_that (Some y) P v x iff some = let same : y ≡ x = cc in sym same ∙ iff.1
@@ -34,10 +30,10 @@ impatient s is = record {
 }
 
 pub unwrap-requires : goal.unwrap-requires
-unwrap-requires c = is_there c.new.result _ _ c.new.ensures (impatient (space_of_draft (draft_of c.args.draft)) c.requires)
+unwrap-requires c = there-where c.new.result _ _ c.new.ensures (impatient (space_of_draft (draft_of c.args.draft)) c.requires)
 
 pub unwrap-requires-2 : goal.unwrap-requires-2
-unwrap-requires-2 c = is_there c.with_patience.result _ _ c.with_patience.ensures (c.requires.patient, c.requires.patience)
+unwrap-requires-2 c = there-where c.with_patience.result _ _ c.with_patience.ensures (c.requires.patient, c.requires.patience)
 
 pub returns : goal.returns
 returns c =
