@@ -1,6 +1,7 @@
 -- A processor can act on each board that is read.
 use Rattle.std.proofs.Common.{◌≡◌, ℕ, ◌<◌, ◌≤◌, nat_le, List, [], ◌∷◌, slice_get, Option, Some, None, refl, sym, ap, subst, ◌∙◌, arith}
 use Rattle.std.specs.Option.{option_map}
+use Rattle.std.proofs.lemmas.Bool.{and_parts}
 use Rattle.std.proofs.lemmas.Option.{same_Some}
 use Rattle.sa_base.specs.declared.number.ProcNo.{ProcNo}
 use Rattle.sa_base.specs.declared.number.ThreadNo.{ThreadNo}
@@ -14,7 +15,6 @@ use Rattle.sa_virtual.specs.Virtual.{Virtuals, placed_on}
 use Rattle.sa_virtual.specs.Turn as rules
 use Rattle.sa_virtual.specs.Holding.{numbers}
 use Rattle.sa_virtual.specs.Turning.{Good, HasRoom}
-use Rattle.sa_virtual.proofs.Main.{second}
 use Rattle.sa_vp_model.specs.Board.{Board, act_numbers}
 use Rattle.sa_vp_model.specs.Turn.{act, after_evictions, thread}
 use Rattle.sa_vp_model.specs.Mirror.{Own, board_of, Mirrors, IsBounded}
@@ -91,7 +91,7 @@ module _ (w : WorkloadView) (valid : IsWorkload w) (v : Virtuals) (good : Good w
     first = places;
     gives_way =
         λ a at turn. safe.gives_way w valid v good x fits p inside a at
-        (second (nat_le rules.quantum (v.steps a.0)) (rules.some_wait v.queue) (sym (main.turn_same w valid p inside v good x fits first room a) ∙ turn));
+        (and_parts (nat_le rules.quantum (v.steps a.0)) (rules.some_wait v.queue) (sym (main.turn_same w valid p inside v good x fits first room a) ∙ turn)).1;
     steps = steps;
   }
 

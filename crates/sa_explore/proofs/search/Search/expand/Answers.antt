@@ -14,7 +14,7 @@ use Rattle.sa_explore.proofs.Doings.{way-few}
 use Rattle.sa_explore.proofs.search.Search.expand.Goals as goal
 
 -- any state
-no_state : State
+abbrev no_state : State
 no_state = record { before = 0; proc = record { 0 = 0 }; end = None }
 
 -- runs go on at a state that has no end
