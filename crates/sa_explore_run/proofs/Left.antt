@@ -11,7 +11,7 @@ use Rattle.sa_explore_run.specs.declared.answer.Wait.{Wait}
 use Rattle.sa_explore_run.specs.Behind.{HaveEach, LeadToStuck, AreWaits, AreLeft}
 use Rattle.sa_explore_run.proofs.Running.{lead-reaches, stuck-ended}
 use Rattle.sa_explore_run.proofs.Holders.{all-held}
-use Rattle.sa_explore_run.proofs.Queues.{have-each}
+use Rattle.sa_explore_run.proofs.EachWaits.{have-each}
 
 pub are-left : {U C : Type 0} (f : Calls U C) (w : WorkloadView) (turns : List ProcNo) (waits : List Wait) → StuckThreadsWait f w MAX_EVENTS
     → LeadToStuck f w turns → AreWaits f w turns waits → AreLeft f w turns waits

@@ -2,11 +2,11 @@
 -- Numbers: Numbers gone through in order.
 -- Running: Turns that are made one after another, from the opening on.
 -- Holders: In the states of the abstract machine nobody waits for a mutex that nobody holds.
--- Queues: A thread that is in some queue waits for something, and each thread that waits has a line.
+-- EachWaits: A thread that is in some queue waits for something, and each thread that waits has a line.
 -- Left: Where turns lead to a stuck end, those that wait are all the threads that are left.
 pub mod Schedules
 pub mod Numbers
 pub mod Running
 pub mod Holders
-pub mod Queues
+pub mod EachWaits
 pub mod Left
