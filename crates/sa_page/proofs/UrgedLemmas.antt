@@ -1,5 +1,6 @@
 -- What is known of pairs at the end of an event, where they are asked for before its last record.
 use Rattle.std.proofs.Common.{◌≡◌, refl, sym, ◌∙◌, ap, subst, Bool, false, length, Option, Some}
+use Rattle.std.proofs.lemmas.Bool.{or_parts}
 use Rattle.std.specs.Prelude.{if◌then◌else◌}
 use Rattle.sa_base.specs.declared.number.ActNo.{ActNo}
 use Rattle.sa_laws.specs.Event.{Event}
@@ -17,7 +18,7 @@ use Rattle.sa_check_moment.specs.Urged.{urged_by, is_closed, asks_last}
 use Rattle.sa_check_moment.specs.Ending.{IsOver}
 use Rattle.sa_check.specs.Places.{urged_at}
 use Rattle.sa_check.specs.Records.{behind_some}
-use Rattle.sa_check.proofs.UrgedLemmas.{space_of, or-both, none-of, none-behind, parts-are, urged-as, space-if, all-spaces}
+use Rattle.sa_check.proofs.UrgedLemmas.{space_of, none-of, none-behind, parts-are, urged-as, space-if, all-spaces}
 
 pub over-is : (m start all : Seen) (e : Event) (running : Option ActNo) (urged : Bool) → start ≡ at_event e.number e.proc m
     → running ≡ running_of m.readings e.proc → all ≡ behind_some start e e.records
@@ -35,7 +36,7 @@ over-is m start all e running urged begins runs reads is =
         let w = m.workload in
         let q = behind w e m.readings (own_part e.records) in
         let after = behind_all w e m.readings in
-        let none = (or-both (has_entry e.records) (is_closed (closing_part e.records)) early).0 in
+        let none = (or_parts (has_entry e.records) (is_closed (closing_part e.records)) early).0 in
         let ends : after_records w e.number e.proc q (closing_part e.records) ≡ after =
         sym (records-append w e.number e.proc (event_begun w e m.readings) (own_part e.records) (closing_part e.records))
         ∙ ap (after_records w e.number e.proc (event_begun w e m.readings)) (parts-are e.records) in
