@@ -7,7 +7,7 @@ use Rattle.sa_command.specs.declared.command.Command.{Command}
 use Rattle.sa_command.specs.declared.command.Command.TheVariants.{Run, Threads, Load, Migrate, Check, Vp, Debug, Explore}
 use Rattle.sa_cli.specs.declared.outcome.Ran.{Ran}
 use Rattle.sa_cli.specs.declared.outcome.Status.{Status}
-use Rattle.sa_cli.specs.declared.outcome.Status.TheVariants.{AllDone, Usage, BadWorkload, Stuck, Budget, ReadFault, WriteFault, OutOfMemory, Migrated, Checked, Broken, BadTrace, Quit, BadScript, Explored}
+use Rattle.sa_cli.specs.declared.outcome.Status.TheVariants.{AllDone, BadWorkload, Stuck, Budget, ReadFault, WriteFault, OutOfMemory, Migrated, Checked, Broken, BadTrace}
 use Rattle.sa_cli.specs.Outcome.{HasEnded, history, status_of_found}
 use Rattle.sa_cli.specs.Answers.{World, Plan}
 use Rattle.sa_cli.specs.Commands.{run_plan, AnswersRun, AnswersLoad, MigrateAnswers, CheckAnswers, Answers}
@@ -35,14 +35,7 @@ run-takes plan old new items (BadWorkload bad) answers = λ input w told is shor
     absurd (told-not_refused IsText BadAt all-parted old.left input w bad told is short answers.0)
 run-takes plan old new items ReadFault answers = λ input w told is short reads writes. absurd (reads answers.0)
 run-takes plan old new items WriteFault answers = λ input w told is short reads writes. absurd (writes answers.0)
-run-takes plan old new items Usage answers = absurd answers
-run-takes plan old new items Checked answers = absurd answers
-run-takes plan old new items (Broken event rule) answers = absurd answers
-run-takes plan old new items (BadTrace bad) answers = absurd answers
-run-takes plan old new items Quit answers = absurd answers
-run-takes plan old new items (BadScript bad) answers = absurd answers
-run-takes plan old new items (Explored finding) answers = absurd answers
-run-takes plan old new items Migrated answers = absurd answers
+run-takes plan old new items _ answers = absurd answers
 
 run-refuses : (plan : Plan) (old new : World) (items : List Item) (status : Status)
     → AnswersRun plan old new items status → Refuses BadAt old new status
@@ -58,14 +51,7 @@ run-refuses plan old new items (BadWorkload other) answers = λ input bad told r
 run-refuses plan old new items ReadFault answers = λ input bad told refused reads. absurd (reads answers.0)
 run-refuses plan old new items WriteFault answers = λ input bad told refused reads.
     absurd (gave-not_refused IsText BadAt all-parted old.left new.left answers.1.1.workload input bad told answers.1.1.is refused)
-run-refuses plan old new items Usage answers = absurd answers
-run-refuses plan old new items Checked answers = absurd answers
-run-refuses plan old new items (Broken event rule) answers = absurd answers
-run-refuses plan old new items (BadTrace bad) answers = absurd answers
-run-refuses plan old new items Quit answers = absurd answers
-run-refuses plan old new items (BadScript bad) answers = absurd answers
-run-refuses plan old new items (Explored finding) answers = absurd answers
-run-refuses plan old new items Migrated answers = absurd answers
+run-refuses plan old new items _ answers = absurd answers
 
 load-ends : (number budget : ℕ) (old new : World) (items : List Item) (status : Status)
     → AnswersLoad number budget old new items status → NoWriteFailed old new → HasEnded status ⊎ (status ≡ OutOfMemory)
@@ -74,16 +60,7 @@ load-ends number budget old new items Stuck answers writes = inl tt
 load-ends number budget old new items Budget answers writes = inl tt
 load-ends number budget old new items OutOfMemory answers writes = inr refl
 load-ends number budget old new items WriteFault answers writes = absurd (writes answers.0)
-load-ends number budget old new items (BadWorkload bad) answers writes = absurd answers
-load-ends number budget old new items ReadFault answers writes = absurd answers
-load-ends number budget old new items Usage answers writes = absurd answers
-load-ends number budget old new items Checked answers writes = absurd answers
-load-ends number budget old new items (Broken event rule) answers writes = absurd answers
-load-ends number budget old new items (BadTrace bad) answers writes = absurd answers
-load-ends number budget old new items Quit answers writes = absurd answers
-load-ends number budget old new items (BadScript bad) answers writes = absurd answers
-load-ends number budget old new items (Explored finding) answers writes = absurd answers
-load-ends number budget old new items Migrated answers writes = absurd answers
+load-ends number budget old new items _ answers writes = absurd answers
 
 migrate-takes : (slice : ℕ) (old new : World) (status : Status)
     → MigrateAnswers slice old new status → Takes IsText1 old new status (status ≡ Migrated)
@@ -93,16 +70,7 @@ migrate-takes slice old new (BadWorkload bad) answers = λ input w told is short
     absurd (told-not_refused IsText1 BadAt1 first-parted old.left input w bad told is short answers)
 migrate-takes slice old new ReadFault answers = λ input w told is short reads writes. absurd (reads answers)
 migrate-takes slice old new WriteFault answers = λ input w told is short reads writes. absurd (writes answers.0)
-migrate-takes slice old new AllDone answers = absurd answers
-migrate-takes slice old new Stuck answers = absurd answers
-migrate-takes slice old new Budget answers = absurd answers
-migrate-takes slice old new Usage answers = absurd answers
-migrate-takes slice old new Checked answers = absurd answers
-migrate-takes slice old new (Broken event rule) answers = absurd answers
-migrate-takes slice old new (BadTrace bad) answers = absurd answers
-migrate-takes slice old new Quit answers = absurd answers
-migrate-takes slice old new (BadScript bad) answers = absurd answers
-migrate-takes slice old new (Explored finding) answers = absurd answers
+migrate-takes slice old new _ answers = absurd answers
 
 migrate-refuses : (slice : ℕ) (old new : World) (status : Status)
     → MigrateAnswers slice old new status → Refuses BadAt1 old new status
@@ -114,16 +82,7 @@ migrate-refuses slice old new (BadWorkload other) answers = λ input bad told re
 migrate-refuses slice old new ReadFault answers = λ input bad told refused reads. absurd (reads answers)
 migrate-refuses slice old new WriteFault answers = λ input bad told refused reads.
     absurd (gave-not_refused IsText1 BadAt1 first-parted old.left new.left answers.1.gave.workload input bad told answers.1.gave.gave refused)
-migrate-refuses slice old new AllDone answers = absurd answers
-migrate-refuses slice old new Stuck answers = absurd answers
-migrate-refuses slice old new Budget answers = absurd answers
-migrate-refuses slice old new Usage answers = absurd answers
-migrate-refuses slice old new Checked answers = absurd answers
-migrate-refuses slice old new (Broken event rule) answers = absurd answers
-migrate-refuses slice old new (BadTrace bad) answers = absurd answers
-migrate-refuses slice old new Quit answers = absurd answers
-migrate-refuses slice old new (BadScript bad) answers = absurd answers
-migrate-refuses slice old new (Explored finding) answers = absurd answers
+migrate-refuses slice old new _ answers = absurd answers
 
 check-finds : (rules : Rules) (old new : World) (status : Status) → CheckAnswers rules old new status → Finds rules old new status
 check-finds rules old new Checked answers = λ input found told is reads writes.
@@ -137,14 +96,7 @@ check-finds rules old new (BadTrace bad) answers = λ input found told is reads 
 check-finds rules old new OutOfMemory answers = λ input found told is reads writes. inr refl
 check-finds rules old new ReadFault answers = λ input found told is reads writes. absurd (reads answers)
 check-finds rules old new WriteFault answers = λ input found told is reads writes. absurd (writes answers.0)
-check-finds rules old new Quit answers = absurd answers
-check-finds rules old new (BadScript bad) answers = absurd answers
-check-finds rules old new (Explored finding) answers = absurd answers
-check-finds rules old new AllDone answers = absurd answers
-check-finds rules old new Stuck answers = absurd answers
-check-finds rules old new Budget answers = absurd answers
-check-finds rules old new Usage answers = absurd answers
-check-finds rules old new Migrated answers = absurd answers
+check-finds rules old new _ answers = absurd answers
 
 -- what a command answers is complete
 pub answers-complete : (command : Command) (old new : World) (ran : Ran) (status : Status)

@@ -5,7 +5,7 @@ use Rattle.sa_workload_lines.specs.Bad.{BadAt}
 use Rattle.sa_command.specs.declared.command.PackageWord.{PackageWord}
 use Rattle.sa_command.specs.declared.command.GiveWord.{GiveWord}
 use Rattle.sa_cli.specs.declared.outcome.Status.{Status}
-use Rattle.sa_cli.specs.declared.outcome.Status.TheVariants.{AllDone, Usage, BadWorkload, Stuck, Budget, ReadFault, WriteFault, OutOfMemory, Migrated, Checked, Broken, BadTrace, Quit, BadScript, Explored}
+use Rattle.sa_cli.specs.declared.outcome.Status.TheVariants.{BadWorkload, ReadFault, WriteFault, OutOfMemory, Explored}
 use Rattle.sa_cli.specs.Outcome.{HasExplored}
 use Rattle.sa_cli.specs.Answers.{World}
 use Rattle.sa_cli.specs.Complete.{Takes, Refuses}
@@ -21,16 +21,7 @@ module _ (states : ℕ) (user_level : PackageWord) (give : Option GiveWord) (old
       absurd (told-not_refused IsText BadAt all-parted old.left input w bad told is short answers)
   explore-takes ReadFault answers = λ input w told is short reads writes. absurd (reads answers)
   explore-takes WriteFault answers = λ input w told is short reads writes. absurd (writes answers.0)
-  explore-takes AllDone answers = absurd answers
-  explore-takes Usage answers = absurd answers
-  explore-takes Stuck answers = absurd answers
-  explore-takes Budget answers = absurd answers
-  explore-takes Migrated answers = absurd answers
-  explore-takes Checked answers = absurd answers
-  explore-takes (Broken event rule) answers = absurd answers
-  explore-takes (BadTrace bad) answers = absurd answers
-  explore-takes Quit answers = absurd answers
-  explore-takes (BadScript bad) answers = absurd answers
+  explore-takes _ answers = absurd answers
 
   pub explore-refuses : (status : Status) → ExploreAnswers states user_level give old new status → Refuses BadAt old new status
   explore-refuses (Explored said) answers = λ input bad told refused reads.
@@ -41,13 +32,4 @@ module _ (states : ℕ) (user_level : PackageWord) (give : Option GiveWord) (old
   explore-refuses ReadFault answers = λ input bad told refused reads. absurd (reads answers)
   explore-refuses WriteFault answers = λ input bad told refused reads.
       absurd (gave-not_refused IsText BadAt all-parted old.left new.left answers.1.1.gave.workload input bad told answers.1.1.gave.gave refused)
-  explore-refuses AllDone answers = absurd answers
-  explore-refuses Usage answers = absurd answers
-  explore-refuses Stuck answers = absurd answers
-  explore-refuses Budget answers = absurd answers
-  explore-refuses Migrated answers = absurd answers
-  explore-refuses Checked answers = absurd answers
-  explore-refuses (Broken event rule) answers = absurd answers
-  explore-refuses (BadTrace bad) answers = absurd answers
-  explore-refuses Quit answers = absurd answers
-  explore-refuses (BadScript bad) answers = absurd answers
+  explore-refuses _ answers = absurd answers

@@ -8,9 +8,9 @@ use Rattle.sa_spaces.specs.Workload.{WorkloadView, IsWorkload}
 use Rattle.sa_workload_lines.specs.Text.{IsText}
 use Rattle.sa_run.specs.Run.{RunsTo, RunsUnended}
 use Rattle.sa_command.specs.declared.command.Command.{Command}
-use Rattle.sa_command.specs.declared.command.Command.TheVariants.{Run, Threads, Load, Migrate, Check, Vp, Debug, Explore}
+use Rattle.sa_command.specs.declared.command.Command.TheVariants.{Migrate, Check, Explore}
 use Rattle.sa_cli.specs.declared.outcome.Status.{Status}
-use Rattle.sa_cli.specs.declared.outcome.Status.TheVariants.{AllDone, Usage, BadWorkload, Stuck, Budget, ReadFault, WriteFault, OutOfMemory, Migrated, Checked, Broken, BadTrace, Quit, BadScript, Explored}
+use Rattle.sa_cli.specs.declared.outcome.Status.TheVariants.{AllDone, Usage, Stuck, Budget, WriteFault, OutOfMemory, Migrated}
 use Rattle.sa_cli.specs.declared.outcome.Ran.{Ran}
 use Rattle.sa_cli.specs.declared.outcome.Ran.TheVariants.{Plain}
 use Rattle.sa_cli.specs.Outcome.{status_of_end, history}
@@ -30,22 +30,14 @@ run-answers plan old new items WriteFault answers = answers
 run-answers plan old new items OutOfMemory answers = answers
 run-answers plan old new items Usage answers = answers
 run-answers plan old new items Migrated answers = answers
-run-answers plan old new items ReadFault answers = absurd answers
-run-answers plan old new items (BadWorkload bad) answers = absurd answers
-run-answers plan old new items Checked answers = absurd answers
-run-answers plan old new items (Broken event rule) answers = absurd answers
-run-answers plan old new items (BadTrace bad) answers = absurd answers
-run-answers plan old new items Quit answers = absurd answers
-run-answers plan old new items (BadScript bad) answers = absurd answers
-run-answers plan old new items (Explored finding) answers = absurd answers
+run-answers plan old new items _ answers = absurd answers
 
 -- a run that ended was written, or cut
 module _ (mine : WorkloadView → Type 0) (plan : Plan) (kept : AreKept plan.runs) (old new : World) where
   ended-written : (items : List Item) (e : End) → Ended mine plan (TookAll old new) items e
       → RunAnswers mine plan old new items (status_of_end e)
   ended-written items end.AllDone ended = ended
-  ended-written items end.Stuck ended = ended
-  ended-written items end.Budget ended = ended
+  ended-written items _ ended = ended
 
   -- what is promised of each run
   ended-so : (items : List Item) (w : WorkloadView) (e : End) (events : ℕ) (goes : List ℕ → Type 0) → mine w → IsWorkload w
@@ -92,11 +84,7 @@ module _ (mine : WorkloadView → Type 0) (plan : Plan) (kept : AreKept plan.run
 
 -- no command is answered as words that are none
 pub not-usage : (command : Command) (old new : World) (ran : Ran) → Answers command old new ran Usage → ⊥
-not-usage (Run schedule budget user_level) old new ran answers = answers
-not-usage (Threads budget burst) old new ran answers = answers
-not-usage (Load number budget) old new ran answers = answers
 not-usage (Migrate slice) old new ran answers = answers.1
 not-usage (Check user_level) old new ran answers = answers.1
-not-usage (Vp schedule budget) old new ran answers = answers
-not-usage (Debug budget) old new ran answers = answers
 not-usage (Explore states user_level give) old new ran answers = answers.1
+not-usage _ old new ran answers = answers

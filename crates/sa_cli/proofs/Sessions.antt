@@ -61,10 +61,3 @@ module _ (budget : ℕ) (old new : World) where
       → IsStopped budget bytes (stopped.BadScript bad) → ran ≡ Nothing → s ≡ status.BadScript bad → AnswersDebug budget old new ran s
   script-answers bytes bad ran s reads wrong none is =
       subst (λ (x : Status). AnswersDebug budget old new ran x) (sym is) (gave-scripted old.left new.left bytes (BadScript bad) reads wrong, none)
-
-  -- nothing was read
-  pub unread-answers : (error : ReadError) (ran : Ran) (s : Status) → (error ≡ read.Fault → HasRisen old.reads new.reads) → ran ≡ Nothing → s ≡ status_of error
-      → AnswersDebug budget old new ran s
-  unread-answers read.Fault ran s rose none is = subst (λ (x : Status). AnswersDebug budget old new ran x) (sym is) (rose refl, none)
-  unread-answers read.OutOfMemory ran s rose none is =
-      subst (λ (x : Status). AnswersDebug budget old new ran x) (sym is) (inl (ap history none))

@@ -14,7 +14,7 @@ use Rattle.sa_package_runs.proofs.Shared.{shared-legal}
 use Rattle.sa_cli.specs.declared.outcome.Ran.{Ran}
 use Rattle.sa_cli.specs.declared.outcome.Ran.TheVariants.{Nothing, Shared}
 use Rattle.sa_cli.specs.declared.outcome.Status.{Status}
-use Rattle.sa_cli.specs.declared.outcome.Status.TheVariants.{AllDone, Usage, BadWorkload, Stuck, Budget, ReadFault, WriteFault, OutOfMemory, Migrated, Checked, Broken, BadTrace, Quit, BadScript, Explored}
+use Rattle.sa_cli.specs.declared.outcome.Status.TheVariants.{AllDone, BadWorkload, Stuck, Budget, ReadFault, WriteFault, OutOfMemory}
 use Rattle.sa_cli.specs.Input.{GaveText}
 use Rattle.sa_cli.specs.Refusals.{NothingRead}
 use Rattle.sa_cli.specs.Outcome.{status_of_end, HasEnded}
@@ -24,29 +24,10 @@ use Rattle.sa_cli.specs.Shared.{WritesClosed, SharedRun, SharedEnded, AnswersThr
 use Rattle.sa_cli.proofs.Inputs.{all-parted, told-not_refused, told-refused_once, gave-not_refused}
 
 module _ (budget : ℕ) (old new : World) where
-  -- where nothing was read, nothing ran
-  pub nothing-shared : (status : Status) → NothingRead BadAt old.left old.reads new.reads status → AnswersThreads budget old new Nothing status
-  nothing-shared (BadWorkload bad) cause = (cause, refl)
-  nothing-shared ReadFault cause = (cause, refl)
-  nothing-shared OutOfMemory cause = inl refl
-  nothing-shared AllDone cause = absurd cause
-  nothing-shared Usage cause = absurd cause
-  nothing-shared Stuck cause = absurd cause
-  nothing-shared Budget cause = absurd cause
-  nothing-shared WriteFault cause = absurd cause
-  nothing-shared Migrated cause = absurd cause
-  nothing-shared Checked cause = absurd cause
-  nothing-shared (Broken event rule) cause = absurd cause
-  nothing-shared (BadTrace bad) cause = absurd cause
-  nothing-shared Quit cause = absurd cause
-  nothing-shared (BadScript bad) cause = absurd cause
-  nothing-shared (Explored finding) cause = absurd cause
-
   -- a run that ended was written, or cut
   ended-shared : (ran : Ran) (e : End) → SharedEnded budget old new (TookAll old new) ran e → AnswersThreads budget old new ran (status_of_end e)
   ended-shared ran end.AllDone ended = ended
-  ended-shared ran end.Stuck ended = ended
-  ended-shared ran end.Budget ended = ended
+  ended-shared ran _ ended = ended
 
   written-shared : (ran : Ran) (shared : SharedRun budget old new ran) (e : End) (status : Status) → shared.closed.end ≡ Some e
       → Writes old.taken new.taken old.writes new.writes (trace_text shared.closed.items e (sum shared.closed.turns)) (status_of_end e) status
@@ -85,14 +66,7 @@ module _ (budget : ℕ) (old new : World) where
       absurd (told-not_refused IsText BadAt all-parted old.left input w bad told is short answers.0)
   shared-takes ran ReadFault answers = λ input w told is short reads writes. absurd (reads answers.0)
   shared-takes ran WriteFault answers = λ input w told is short reads writes. absurd (writes answers.0)
-  shared-takes ran Usage answers = absurd answers
-  shared-takes ran Migrated answers = absurd answers
-  shared-takes ran Checked answers = absurd answers
-  shared-takes ran (Broken event rule) answers = absurd answers
-  shared-takes ran (BadTrace bad) answers = absurd answers
-  shared-takes ran Quit answers = absurd answers
-  shared-takes ran (BadScript bad) answers = absurd answers
-  shared-takes ran (Explored finding) answers = absurd answers
+  shared-takes ran _ answers = absurd answers
 
   not-refused : (ran : Ran) (e : End) (goes : List ℕ → Type 0) (status : Status) → SharedEnded budget old new goes ran e → Refuses BadAt old new status
   not-refused ran e goes status ended = λ input bad told refused reads.
@@ -107,11 +81,4 @@ module _ (budget : ℕ) (old new : World) where
       inl (ap BadWorkload (told-refused_once IsText BadAt all-parted old.left input other bad told answers.0 refused))
   shared-refuses ran ReadFault answers = λ input bad told refused reads. absurd (reads answers.0)
   shared-refuses ran WriteFault answers = not-refused ran answers.1.0 _ WriteFault answers.1.1
-  shared-refuses ran Usage answers = absurd answers
-  shared-refuses ran Migrated answers = absurd answers
-  shared-refuses ran Checked answers = absurd answers
-  shared-refuses ran (Broken event rule) answers = absurd answers
-  shared-refuses ran (BadTrace bad) answers = absurd answers
-  shared-refuses ran Quit answers = absurd answers
-  shared-refuses ran (BadScript bad) answers = absurd answers
-  shared-refuses ran (Explored finding) answers = absurd answers
+  shared-refuses ran _ answers = absurd answers

@@ -13,7 +13,7 @@ use Rattle.sa_vp.specs.Run.{RunsTo, RunsSoFar}
 use Rattle.sa_cli.specs.declared.outcome.Ran.{Ran}
 use Rattle.sa_cli.specs.declared.outcome.Ran.TheVariants.{Plain}
 use Rattle.sa_cli.specs.declared.outcome.Status.{Status}
-use Rattle.sa_cli.specs.declared.outcome.Status.TheVariants.{AllDone, Usage, BadWorkload, Stuck, Budget, ReadFault, WriteFault, OutOfMemory, Migrated, Checked, Broken, BadTrace, Quit, BadScript, Explored}
+use Rattle.sa_cli.specs.declared.outcome.Status.TheVariants.{AllDone, BadWorkload, Stuck, Budget, ReadFault, WriteFault, OutOfMemory}
 use Rattle.sa_cli.specs.Outcome.{status_of_end, history, HasEnded}
 use Rattle.sa_cli.specs.Input.{GaveText}
 use Rattle.sa_cli.specs.Refusals.{NothingRead}
@@ -24,30 +24,11 @@ use Rattle.sa_cli.specs.Virtual.{run_text, VpEnded, VpCame, AnswersVp}
 use Rattle.sa_cli.proofs.Inputs.{all-parted, told-not_refused, told-refused_once, gave-not_refused}
 
 module _ (schedule : ScheduleWord) (budget : ℕ) (old new : World) where
-  -- where nothing was read, nothing ran
-  pub nothing-virtual : (status : Status) → NothingRead BadAt old.left old.reads new.reads status → AnswersVp schedule budget old new [] status
-  nothing-virtual (BadWorkload bad) cause = (cause, refl)
-  nothing-virtual ReadFault cause = (cause, refl)
-  nothing-virtual OutOfMemory cause = inl refl
-  nothing-virtual AllDone cause = absurd cause
-  nothing-virtual Usage cause = absurd cause
-  nothing-virtual Stuck cause = absurd cause
-  nothing-virtual Budget cause = absurd cause
-  nothing-virtual WriteFault cause = absurd cause
-  nothing-virtual Migrated cause = absurd cause
-  nothing-virtual Checked cause = absurd cause
-  nothing-virtual (Broken event rule) cause = absurd cause
-  nothing-virtual (BadTrace bad) cause = absurd cause
-  nothing-virtual Quit cause = absurd cause
-  nothing-virtual (BadScript bad) cause = absurd cause
-  nothing-virtual (Explored finding) cause = absurd cause
-
   -- a run that ended was written, or cut, or memory ran out
   ended-virtual : (items : List Item) (e : End) → VpEnded schedule budget old new (TookAll old new) items e
       → AnswersVp schedule budget old new items (status_of_end e)
   ended-virtual items end.AllDone ended = ended
-  ended-virtual items end.Stuck ended = ended
-  ended-virtual items end.Budget ended = ended
+  ended-virtual items _ ended = ended
 
   module _ (w : WorkloadView) (gave : GaveText IsText old.left new.left w) (order : Order) (is : order ≡ order_by schedule w) (items : List Item) where
     ran-so : (e : End) (events : ℕ) (lost : List ℕ) (goes : List ℕ → Type 0) → RunsTo w order budget items e events lost → goes (run_text items e events lost)
@@ -101,14 +82,7 @@ module _ (schedule : ScheduleWord) (budget : ℕ) (old new : World) where
       absurd (told-not_refused IsText BadAt all-parted old.left input w bad told is short answers.0)
   virtual-takes items ReadFault answers = λ input w told is short reads writes. absurd (reads answers.0)
   virtual-takes items WriteFault answers = λ input w told is short reads writes. absurd (writes answers.0)
-  virtual-takes items Usage answers = absurd answers
-  virtual-takes items Checked answers = absurd answers
-  virtual-takes items (Broken event rule) answers = absurd answers
-  virtual-takes items (BadTrace bad) answers = absurd answers
-  virtual-takes items Quit answers = absurd answers
-  virtual-takes items (BadScript bad) answers = absurd answers
-  virtual-takes items (Explored finding) answers = absurd answers
-  virtual-takes items Migrated answers = absurd answers
+  virtual-takes items _ answers = absurd answers
 
   pub virtual-refuses : (items : List Item) (status : Status) → AnswersVp schedule budget old new items status → Refuses BadAt old new status
   virtual-refuses items AllDone answers = λ input bad told refused reads.
@@ -123,11 +97,4 @@ module _ (schedule : ScheduleWord) (budget : ℕ) (old new : World) where
   virtual-refuses items ReadFault answers = λ input bad told refused reads. absurd (reads answers.0)
   virtual-refuses items WriteFault answers = λ input bad told refused reads.
       absurd (gave-not_refused IsText BadAt all-parted old.left new.left answers.1.1.workload input bad told answers.1.1.gave refused)
-  virtual-refuses items Usage answers = absurd answers
-  virtual-refuses items Checked answers = absurd answers
-  virtual-refuses items (Broken event rule) answers = absurd answers
-  virtual-refuses items (BadTrace bad) answers = absurd answers
-  virtual-refuses items Quit answers = absurd answers
-  virtual-refuses items (BadScript bad) answers = absurd answers
-  virtual-refuses items (Explored finding) answers = absurd answers
-  virtual-refuses items Migrated answers = absurd answers
+  virtual-refuses items _ answers = absurd answers

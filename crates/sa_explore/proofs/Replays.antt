@@ -48,14 +48,6 @@ module _ {U C : Type 0} (f : Calls U C) where
   end-is budget m false false true x y z = (rw (x, y) refl, rw (x, y, z) refl)
   end-is budget m false false false x y z = (rw (x, y) refl, rw (x, y, z) refl)
 
-  pub end-budget : (budget : ℕ) (m : Machine U C) → end_of f budget m ≡ Some Budget → end f m ≡ None
-  end-budget budget m is = go (all_done f m) (is_stuck f m) (m.event == budget) (end-is budget m _ _ _ refl refl refl)
-    where
-      go : (d s b : Bool) → (end f m ≡ by d s false) × (end_of f budget m ≡ by d s b) → end f m ≡ None
-      go true s b both = absurd (let e : Some Budget ≡ Some AllDone = sym is ∙ both.1 in cc)
-      go false true b both = absurd (let e : Some Budget ≡ Some Stuck = sym is ∙ both.1 in cc)
-      go false false b both = both.0
-
   pub end-other : (budget : ℕ) (m : Machine U C) → (end_of f budget m ≡ Some Budget → ⊥) → end_of f budget m ≡ end f m
   end-other budget m other = go (all_done f m) (is_stuck f m) (m.event == budget) (end-is budget m _ _ _ refl refl refl)
     where

@@ -12,21 +12,11 @@ use Rattle.sa_package_keys.specs.Values.{IsStood}
 use Rattle.sa_lemmas.proofs.ListReads.{read-at}
 
 module _ {U C : Type 0} (stands : Standing U C) (m : Machine U C) (between : IsBetween stands m) where
-  pub owners-are : length m.kernel.assign.owners ≡ m.workload.processors
-  owners-are = between.standing.sound.formed.sizes.owners ∙ between.standing.lives
-
   pub demands-are : length m.kernel.demands ≡ length m.workload.spaces
   demands-are = between.standing.demands
 
-  pub pages-are : length m.kernel.pages ≡ length m.workload.spaces
-  pages-are = between.standing.sound.formed.sizes.pages ∙ demands-are
-
   pub users-are : length m.users ≡ length m.workload.spaces
   users-are = between.standing.users
-
-  pub owner-within : (p : ℕ) (s : SpaceNo) → slice_index_or m.kernel.assign.owners p None ≡ Some s → s.0 < length m.workload.spaces
-  owner-within p s is =
-      let low : s.0 < length m.kernel.demands = between.standing.sound.formed.owners p s is in omega (arith, demands-are)
 
   pub ios-within : AreIos (length m.workload.spaces) m.kernel.under_way
   ios-within = rw (sym demands-are) between.standing.sound.formed.ios

@@ -44,6 +44,3 @@ module _ (s : Setting) (event : ℕ) (u : Package) (cs : Contexts Context) (h : 
         (unmade_ends (place_at u.shared t) (unmade_at u.shared.state.lists t) (done_at u.shared.sync t) (unmade-one t from) (h.places t).new (h.places t).ends);
     works = λ t from. unlisted-empty t from (list_at u.shared.works t) refl;
   }
-
-  pub has-threads : HasThreads u.shared
-  has-threads = record { blocks = h.parts.blocks; joiners = h.parts.sync.joiners; works = h.parts.works.named.all }

@@ -12,13 +12,6 @@ module _ {U C : Type 0} (f : Calls U C) (budget : ℕ) (m : Machine U C) (s : Se
   pub events-none : (n : ℕ) (after : Machine U C) → s.pending ≡ 0 → IsTurned f budget m s n after → IsEvents f budget m s s.pending n after
   events-none n after none is = subst (λ (k : ℕ). IsEvents f budget m s k n after) (sym none) is
 
-  pub events-some : (n : ℕ) (after : Machine U C) → 0 < s.pending → IsCommitted f budget m s n after → IsEvents f budget m s s.pending n after
-  events-some n after some is = go s.pending refl
-    where
-      go : (k : ℕ) → k ≡ s.pending → IsEvents f budget m s k n after
-      go zero e = absurd (omega (arith, e, some))
-      go (suc k) e = is
-
   -- the answer of one turn, where moves led to the machine
   pub one_turn : (w : WorkloadView) (answer : Entered) (after : Machine U C) (seat : SeatView) → IsLed f budget w m → IsEntered f budget m s answer after seat
       → IsOneTurn f budget w s answer seat
