@@ -5,6 +5,7 @@ mod bits;
 mod context;
 mod limits;
 mod number;
+mod package;
 mod record;
 mod refusal;
 mod trace;
@@ -17,6 +18,7 @@ pub use limits::{
     run_limits_are_these,
 };
 pub use number::{ActNo, IoNo, ProcNo, SpaceNo, ThreadNo};
+pub use package::{PackageName, RulesName, read_package, read_rules};
 pub use record::{End, Item, Note, Record};
 pub use refusal::{Bad, Cause, Unread};
 pub use trace::Trace;

@@ -17,7 +17,7 @@ use Rattle.sa_instr.specs.declared.operation.Operation.TheVariants as does
 use Rattle.sa_instr.specs.Instr.{reg_number}
 use Rattle.sa_instr.specs.Operation.{form_of}
 use Rattle.sa_instr.specs.Parts.{parts_of}
-use Rattle.sa_workload_lines.specs.Text.{operand_word}
+use Rattle.sa_workload.specs.Text.{operand_word}
 use Rattle.sa_sync.specs.Sync.{Sync, Mutex, Semaphore, mutex_at, semaphore_at}
 use Rattle.sa_laws.specs.declared.place.Place.{Place}
 use Rattle.sa_laws.specs.declared.place.Place.TheVariants as place

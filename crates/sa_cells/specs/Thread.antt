@@ -10,7 +10,7 @@ use Rattle.sa_spaces.specs.Workload.{WorkloadView}
 use Rattle.sa_instr.specs.declared.operand.Operand.{Operand}
 use Rattle.sa_instr.specs.Operation.{form_of}
 use Rattle.sa_instr.specs.Parts.{parts_of}
-use Rattle.sa_workload_lines.specs.Text.{operand_word}
+use Rattle.sa_workload.specs.Text.{operand_word}
 use Rattle.sa_laws.specs.declared.place.Place.{Place}
 use Rattle.sa_laws.specs.declared.place.Place.TheVariants.{Running, Ready, Blocked, Waiting, Carried, Done}
 use Rattle.sa_sync.specs.Sync.{Sync, mutex_at}

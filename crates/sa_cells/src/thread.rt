@@ -2,7 +2,7 @@
 ghost use Rattle.std.specs.Prelude.{◌≡◌, ◌++◌, ◌<◌, length, OnOk};
 ghost use Rattle.std.specs.List.{flat_map};
 ghost use Rattle.std.specs.Option.{option_map};
-ghost use Rattle.sa_workload_lines.specs.Text.{operand_word};
+ghost use Rattle.sa_workload.specs.Text.{operand_word};
 ghost use Rattle.sa_sync.specs.Sync.{mutex_at};
 ghost use Rattle.sa_check_moment.specs.Seen.{seen};
 ghost use Rattle.sa_cells.specs.Thread.{operand_text, instr_text, place_text, next_text, going_text, standing_text, held_by, mutex_text, awaited_text, waiting_text, waits, made_text, thread_text};

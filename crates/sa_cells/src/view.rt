@@ -3,8 +3,8 @@ ghost use Rattle.std.specs.Prelude.{◌≡◌, IfOk};
 ghost use Rattle.sa_laws.specs.Step.{Needs};
 ghost use Rattle.sa_check_moment.specs.Seen.{seen, opened, at_event, behind_record};
 
-use sa_base::{ProcNo, Record};
-use sa_check_moment::{Moment, Rules};
+use sa_base::{ProcNo, Record, RulesName};
+use sa_check_moment::Moment;
 use sa_replay::Replay;
 use sa_spaces::Workload;
 use std::alloc::{AllocError, Global};
@@ -22,7 +22,7 @@ pub struct View {
 
 impl View {
     /// Before any record of a trace of this workload. Fails only where memory runs out.
-    pub fn start(alloc: Global, rules: Rules, workload: &Workload) -> Result<View, AllocError>
+    pub fn start(alloc: Global, rules: RulesName, workload: &Workload) -> Result<View, AllocError>
         ensures { IfOk result (λ view. seen view.moment ≡ opened rules workload.now) }
     {
         Ok(View {

@@ -11,8 +11,8 @@ use Rattle.sa_laws.specs.Step.{AreSteps}
 use Rattle.sa_laws.specs.Ends.{LastLine}
 use Rattle.sa_laws.specs.Rules.{Law, Holds}
 use Rattle.sa_base.specs.declared.number.ActNo.{ActNo}
-use Rattle.sa_check_moment.specs.declared.rules.Rules.{Rules}
-use Rattle.sa_check_moment.specs.Rules.{rules_of}
+use Rattle.sa_base.specs.declared.package.RulesName.{RulesName}
+use Rattle.sa_ranks.specs.Packages.{rules_named}
 use Rattle.sa_check_moment.specs.Seen.{Seen, at_event}
 use Rattle.sa_check.specs.declared.begin.Beginning.{Beginning}
 use Rattle.sa_check.specs.declared.end.Ending.{Ending}
@@ -55,7 +55,7 @@ module _ (m : Seen) (e : Event) (last : Option LastLine) (b : Beginning) (laws :
     (numbered : IsNumbered m.workload m.readings e) (steps : AreSteps m.workload e.number e.proc (event_begun m.workload e m.readings) e.records)
     (begins : IsBeginning m e b) (read : IsFoundOf (beginning_of m e) e laws) (places : IsDueFound (beginning_of m e) e running due)
     (ends : IsEnding (after m e) e.number last ending) where
-  pub each : (rule : Rule) → IsTrue (found_of (findings_of e.number b laws due ending) rule) ↔ Holds (rules_of m.rules) m.workload rule m.readings e last
+  pub each : (rule : Rule) → IsTrue (found_of (findings_of e.number b laws due ending) rule) ↔ Holds (rules_named m.rules) m.workload rule m.readings e last
   each Numbered = (λ _. numbered, λ _. refl)
   each Stepwise = (λ _. record { steps = steps }, λ _. refl)
   each ToldOnce = (λ yes. record { told = read.told_once.0 yes }, λ holds. read.told_once.1 holds.told)
@@ -111,7 +111,7 @@ something-found xs true is none = absurd (is.0 refl none)
 something-found xs false is none = refl
 
 -- what is decided as an event begins, of the moment before it
-pub at-beginning : (L : Rules → Law) (m next : Seen) (e : Event) (found : Bool) → next ≡ at_event e.number e.proc m
+pub at-beginning : (L : RulesName → Law) (m next : Seen) (e : Event) (found : Bool) → next ≡ at_event e.number e.proc m
     → (next.readings ≡ event_begun next.workload e m.readings → (IsTrue found ↔ L next.rules next.workload m.readings e))
     → IsTrue found ↔ L m.rules m.workload m.readings e
 at-beginning L m next e found begins decided =

@@ -16,8 +16,8 @@ use Rattle.sa_trace.specs.declared.line.Said.{Said}
 use Rattle.sa_trace.specs.declared.line.Said.TheVariants.{Next, Last}
 use Rattle.sa_trace.specs.Reading.{Told, told}
 use Rattle.sa_trace.specs.Reader.{in_front, with_said}
-use Rattle.sa_check_moment.specs.declared.rules.Rules.{Rules}
-use Rattle.sa_check_moment.specs.Rules.{rules_of}
+use Rattle.sa_base.specs.declared.package.RulesName.{RulesName}
+use Rattle.sa_ranks.specs.Packages.{rules_named}
 use Rattle.sa_check_moment.specs.Seen.{Seen, event}
 use Rattle.sa_check.specs.declared.verdict.Verdict.{Verdict}
 use Rattle.sa_check.specs.declared.verdict.Verdict.TheVariants.{Broken}
@@ -28,7 +28,7 @@ use Rattle.sa_check.proofs.EventLemmas.{front-event, some-event, no-line}
 use Rattle.sa_check.proofs.VerdictLemmas.{legal-exact, broken-exact}
 use Rattle.sa_check.proofs.WalkLemmas.{IsVerdictFrom, goes-on, stops-at, verdict-from}
 
-module _ (level : Rules) where
+module _ (level : RulesName) where
   -- what comes of a text, of which the rest from here, before which this was read, is read as this: it is refused, or has this verdict
   abbrev pub Comes : WorkloadView → Readings → Result Told Bad → Result Verdict Bad → Type 0
   Comes w r (Ok t) a = (v : Verdict) × (a ≡ Ok v) × IsVerdictFrom level w r (events_of t.items) (last_line t) v
@@ -72,7 +72,7 @@ module _ (level : Rules) where
   -- the event that was gathered breaks a rule, so where no line after it is bad, this comes of the whole
   at-break : (w : WorkloadView) (m : Seen) (first : Item) (records : List Record) (said : Said) (rest : Result Told Bad) (last : Option LastLine) (rule : Rule)
       → records ≢ [] → IsOther first said → m.rules ≡ level → m.workload ≡ w → last ≡ line_said said
-      → Breaks (rules_of m.rules) m.workload m.readings (event first.event first.proc records) last rule → IsOk (with_said said rest)
+      → Breaks (rules_named m.rules) m.workload m.readings (event first.event first.proc records) last rule → IsOk (with_said said rest)
       → Comes w m.readings (in_front (items_at first.event first.proc records) (with_said said rest)) (Ok (Broken first.event rule))
   at-break w m first records (Last end events) rest last rule some other of same ends breaks ok =
       let items = items_at first.event first.proc records in (
@@ -94,7 +94,7 @@ module _ (level : Rules) where
   pub broken-event : (w : WorkloadView) (m : Seen) (first : Item) (before after : Result Told Bad) (records : List Record) (said : Said)
       (last : Option LastLine) (rule : Rule)
       → HasGathered first before after records said → m.rules ≡ level → m.workload ≡ w → last ≡ line_said said
-      → Breaks (rules_of m.rules) m.workload m.readings (event first.event first.proc records) last rule → IsOk (with_said said after)
+      → Breaks (rules_named m.rules) m.workload m.readings (event first.event first.proc records) last rule → IsOk (with_said said after)
       → Comes w m.readings (with_said (Next first) before) (Ok (Broken first.event rule))
   broken-event w m first before after records said last rule has of same ends breaks ok =
       subst (λ (rest : Result Told Bad). Comes w m.readings rest (Ok (Broken first.event rule))) (sym has.cut)
@@ -115,18 +115,18 @@ module _ (level : Rules) where
   refused w r (Err b) bad comes = cc
 
   pub judged : (w : WorkloadView) (first : Item) (rest : Result Told Bad) (v : Verdict) → Comes w (opening_readings w) (in_front (first ∷ []) rest) (Ok v)
-      → IsExact (rules_of level) w (in_front (first ∷ []) rest) v
+      → IsExact (rules_named level) w (in_front (first ∷ []) rest) v
   judged w first (Ok t) v comes =
       let same : comes.0 ≡ v = let is = comes.1 in cc in
       let items : List Item = first ∷ t.items in
-      let is : IsVerdict (rules_of level) w items (last_line t) v =
-      subst (λ (one : Verdict). IsVerdict (rules_of level) w items (last_line t) one) same
+      let is : IsVerdict (rules_named level) w items (last_line t) v =
+      subst (λ (one : Verdict). IsVerdict (rules_named level) w items (last_line t) one) same
       (verdict-from level w items (last_line t) comes.0 (some-event items first t.items refl) comes.2) in
       record {
         trace = told items t.end t.events;
         read = refl;
-        legal = legal-exact (rules_of level) w items (last_line t) v is;
-        broken = broken-exact (rules_of level) w items (last_line t) v is;
+        legal = legal-exact (rules_named level) w items (last_line t) v is;
+        broken = broken-exact (rules_named level) w items (last_line t) v is;
       }
   judged w first (Err bad) v comes = absurd cc
 
@@ -134,7 +134,7 @@ module _ (level : Rules) where
   pub bad-ahead : (w : WorkloadView) (r : Readings) (first : Item) (before after whole : Result Told Bad) (records : List Record) (e : Unread)
       → Gathers first before after records (Err e)
       → ((a : Result Verdict Bad) → Comes w r (with_said (Next first) before) a → Comes w (opening_readings w) whole a)
-      → IsChecked (rules_of level) w whole (Err e)
+      → IsChecked (rules_named level) w whole (Err e)
   bad-ahead w r first before after whole records (Unread.Bad bad) is rest =
       refused w (opening_readings w) whole bad (rest (Err bad) (bad-comes w r (with_said (Next first) before) bad (front-bad (first ∷ []) before bad is)))
   bad-ahead w r first before after whole records Unread.OutOfMemory is rest = tt
@@ -143,7 +143,7 @@ module _ (level : Rules) where
   pub break-found : (w : WorkloadView) (r : Readings) (here behind : Result Told Bad) (first : Item) (left : Result Told Bad) (v : Verdict)
       → (IsOk behind → Comes w r here (Ok v)) → ((bad : Bad) → behind ≡ Err bad → Comes w r here (Err bad))
       → ((a : Result Verdict Bad) → Comes w r here a → Comes w (opening_readings w) (in_front (first ∷ []) left) a)
-      → IsChecked (rules_of level) w (in_front (first ∷ []) left) (unless_bad behind (Ok v))
+      → IsChecked (rules_named level) w (in_front (first ∷ []) left) (unless_bad behind (Ok v))
   break-found w r here (Ok t) first left v good wrong rest = judged w first left v (rest (Ok v) (good refl))
   break-found w r here (Err bad) first left v good wrong rest = refused w (opening_readings w) (in_front (first ∷ []) left) bad (rest (Err bad) (wrong bad refl))
 
@@ -151,6 +151,6 @@ module _ (level : Rules) where
   pub none-found : (w : WorkloadView) (r : Readings) (here behind whole : Result Told Bad)
       → ((bad : Bad) → behind ≡ Err bad → Comes w r here (Err bad))
       → ((a : Result Verdict Bad) → Comes w r here a → Comes w (opening_readings w) whole a)
-      → IsChecked (rules_of level) w whole (unless_bad behind (Err Unread.OutOfMemory))
+      → IsChecked (rules_named level) w whole (unless_bad behind (Err Unread.OutOfMemory))
   none-found w r here (Ok t) whole wrong rest = tt
   none-found w r here (Err bad) whole wrong rest = refused w (opening_readings w) whole bad (rest (Err bad) (wrong bad refl))

@@ -22,16 +22,16 @@ use Rattle.sa_laws.specs.Shape.{is_own, own_part, closing_part}
 use Rattle.sa_ranks.specs.Pairs.{has_pair}
 use Rattle.sa_ranks.specs.Inside.{is_of_entry, begins_entry, has_entry, settling}
 use Rattle.sa_histories.proofs.Appended.{records-append}
-use Rattle.sa_check_moment.specs.declared.rules.Rules.{Rules}
-use Rattle.sa_check_moment.specs.declared.rules.Rules.TheVariants.{Priorities}
-use Rattle.sa_check_moment.specs.Seen.{Seen, seen, at_event}
+use Rattle.sa_base.specs.declared.package.RulesName.{RulesName}
+use Rattle.sa_base.specs.declared.package.RulesName.TheVariants.{Priorities}
+use Rattle.sa_check_moment.specs.Seen.{Seen, at_event}
 use Rattle.sa_check_moment.specs.Urged.{urged_by, is_closed, asks_last}
 use Rattle.sa_check_moment.specs.Ending.{IsOver}
-use Rattle.sa_check.specs.declared.records.ReadThrough.{ReadThrough}
-use Rattle.sa_check.specs.Records.{IsReadThrough}
+use Rattle.sa_check.specs.Places.{urged_at}
+use Rattle.sa_check.specs.Records.{behind_some}
 use Rattle.sa_check.proofs.QuietLemmas.{life-kept}
 
-abbrev pub space_of : Option Life → Option SpaceNo
+abbrev space_of : Option Life → Option SpaceNo
 space_of life = option_map (λ (x : Life). x.space) life
 
 -- a record of no entry leaves the spaces of lives
@@ -62,18 +62,18 @@ module _ (w : WorkloadView) (e : ℕ) (p : ProcNo) where
   one-space r (GiveBack b) h a = absurd cc
   one-space r _ h a = refl
 
-  pub all-spaces : (r : Readings) (xs : List Record) → list_any is_of_entry xs ≡ false → (a : ActNo)
+  all-spaces : (r : Readings) (xs : List Record) → list_any is_of_entry xs ≡ false → (a : ActNo)
       → space_of (life_of (after_records w e p r xs) a) ≡ space_of (life_of r a)
   all-spaces r [] h a = refl
   all-spaces r (x ∷ xs) h a =
       let each = or_parts (is_of_entry x) (list_any is_of_entry xs) h in
       all-spaces (after_record w e p r x) xs each.1 a ∙ one-space r x each.0 a
 
-pub none-of : (xs : List Record) → has_entry xs ≡ false → list_any is_of_entry xs ≡ false
+none-of : (xs : List Record) → has_entry xs ≡ false → list_any is_of_entry xs ≡ false
 none-of [] h = refl
 none-of (x ∷ xs) h = (or_parts (begins_entry x) (list_any is_of_entry (x ∷ xs)) h).1
 
-pub none-behind : (n : ℕ) (xs : List Record) → list_any is_of_entry xs ≡ false → list_any is_of_entry (drop n xs) ≡ false
+none-behind : (n : ℕ) (xs : List Record) → list_any is_of_entry xs ≡ false → list_any is_of_entry (drop n xs) ≡ false
 none-behind zero xs h = h
 none-behind (suc n) [] h = refl
 none-behind (suc n) (x ∷ xs) h = none-behind n xs (or_parts (is_of_entry x) (list_any is_of_entry xs) h).1
@@ -83,7 +83,7 @@ parts-are [] = refl
 parts-are (x ∷ xs) = ap (λ ys. x ∷ ys) (take_then_drop (prefix_len is_own xs) xs)
 
 -- a pair of the space of a life that is in use
-pub urged-as : (w : WorkloadView) (r : Readings) (o : Option Life) (s : SpaceNo) → space_of o ≡ Some s → urged_by Priorities w r o ≡ has_pair w r s
+urged-as : (w : WorkloadView) (r : Readings) (o : Option Life) (s : SpaceNo) → space_of o ≡ Some s → urged_by Priorities w r o ≡ has_pair w r s
 urged-as w r None s is = absurd cc
 urged-as w r (Some life) s is = ap (has_pair w r) (same_Some life.space s is)
 
@@ -94,23 +94,24 @@ same-truth true false is = sym (is.0 refl)
 same-truth false true is = is.1 refl
 
 -- the life by its number, if one is given
-pub space-if : (r q : Readings) → ((a : ActNo) → space_of (life_of q a) ≡ space_of (life_of r a)) → (a : Option ActNo) → space_of (life_if q a) ≡ space_of (life_if r a)
+space-if : (r q : Readings) → ((a : ActNo) → space_of (life_of q a) ≡ space_of (life_of r a)) → (a : Option ActNo) → space_of (life_if q a) ≡ space_of (life_if r a)
 space-if r q same None = refl
 space-if r q same (Some a) = same a
 
-pub over-is : (m start : Seen) (e : Event) (running : Option ActNo) (through : ReadThrough) → start ≡ at_event e.number e.proc m
-    → running ≡ running_of m.readings e.proc → IsReadThrough start e running through → IsOver m.readings e through.due.urged (seen through.moment)
-over-is m start e running through begins runs read =
-    let read' : IsReadThrough (at_event e.number e.proc m) e running through = subst (λ (s : Seen). IsReadThrough s e running through) begins read in
-    subst (λ (s : Seen). IsOver m.readings e through.due.urged s) (sym read'.moment) (record {
+-- these are all records of an event, and what is known of pairs is what is asked behind its own part, where it is asked for there
+pub over-is : (m start all : Seen) (e : Event) (running : Option ActNo) (urged : Bool) → start ≡ at_event e.number e.proc m
+    → running ≡ running_of m.readings e.proc → all ≡ behind_some start e e.records
+    → (asks_last e.records ≡ false → (IsTrue urged ↔ IsTrue (urged_at (behind_some start e (own_part e.records)) running))) → IsOver m.readings e urged all
+over-is m start all e running urged begins runs reads asked =
+    subst (λ (s : Seen). IsOver m.readings e urged s) (sym (reads ∙ ap (λ (s : Seen). behind_some s e e.records) begins)) (record {
       moment = refl;
-      pairs = record { known = λ ranks early life at. known read' ranks early life at };
+      pairs = record { known = λ ranks early life at. known ranks early life at };
     })
   where
-    known : IsReadThrough (at_event e.number e.proc m) e running through → m.rules ≡ Priorities → asks_last e.records ≡ false → (life : Life)
+    known : m.rules ≡ Priorities → asks_last e.records ≡ false → (life : Life)
         → life_if (behind_all m.workload e m.readings) (running_of m.readings e.proc) ≡ Some life
-        → through.due.urged ≡ has_pair m.workload (settling m.workload m.readings e (behind_all m.workload e m.readings)) life.space
-    known read' ranks early life at =
+        → urged ≡ has_pair m.workload (settling m.workload m.readings e (behind_all m.workload e m.readings)) life.space
+    known ranks early life at =
         let w = m.workload in
         let q = behind w e m.readings (own_part e.records) in
         let after = behind_all w e m.readings in
@@ -123,6 +124,7 @@ over-is m start e running through begins runs read =
         ∙ all-spaces w e.number e.proc q (closing_part e.records) (none-behind (length (own_part e.records)) e.records (none-of e.records none)) a in
         let there : space_of (life_if q running) ≡ Some life.space =
         sym (space-if q after spaces running) ∙ ap (λ (a : Option ActNo). space_of (life_if after a)) runs ∙ ap space_of at in
-        same-truth through.due.urged (urged_by m.rules w q (life_if q running)) (read'.due.urged early)
-        ∙ ap (λ (l : Rules). urged_by l w q (life_if q running)) ranks ∙ urged-as w q (life_if q running) life.space there
+        same-truth urged (urged_at (behind_some start e (own_part e.records)) running) (asked early)
+        ∙ ap (λ (s : Seen). urged_at (behind_some s e (own_part e.records)) running) begins
+        ∙ ap (λ (l : RulesName). urged_by l w q (life_if q running)) ranks ∙ urged-as w q (life_if q running) life.space there
         ∙ sym (ap (λ b. has_pair w (if b then after else q) life.space) none)

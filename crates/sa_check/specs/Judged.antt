@@ -5,7 +5,7 @@ use Rattle.sa_laws.specs.Event.{Event}
 use Rattle.sa_laws.specs.History.{after_event}
 use Rattle.sa_laws.specs.Ends.{LastLine}
 use Rattle.sa_laws.specs.Rules.{HoldEach, Breaks, rules}
-use Rattle.sa_check_moment.specs.Rules.{rules_of}
+use Rattle.sa_ranks.specs.Packages.{rules_named}
 use Rattle.sa_check_moment.specs.Seen.{Seen, seen}
 use Rattle.sa_check.specs.declared.begin.Beginning.{Beginning}
 use Rattle.sa_check.specs.declared.end.Ending.{Ending}
@@ -43,11 +43,11 @@ judged_by (Some rule) now = Broken rule
 
 -- the moment after an event
 abbrev pub after : Seen → Event → Seen
-after m e = record m { readings = after_event (rules_of m.rules).inside m.workload m.readings e }
+after m e = record m { readings = after_event (rules_named m.rules).inside m.workload m.readings e }
 
 -- each rule holds, and this is the moment after it; or this rule is the first that does not hold
 pub record IsRightAt (m : Seen) (e : Event) (last : Option LastLine) (moment : Seen) : Type 0 where
-  pub holds : HoldEach (rules_of m.rules) m.workload rules m.readings e last
+  pub holds : HoldEach (rules_named m.rules) m.workload rules m.readings e last
   pub next : moment ≡ after m e
 
 -- what comes after an event that is right
@@ -57,4 +57,4 @@ pub record IsRightThen (m : Seen) (e : Event) (last : Option LastLine) (now : Be
 
 abbrev pub Judges : Seen → Event → Option LastLine → Judged → Type 0
 Judges m e last (Right now) = IsRightThen m e last now
-Judges m e last (Broken rule) = Breaks (rules_of m.rules) m.workload m.readings e last rule
+Judges m e last (Broken rule) = Breaks (rules_named m.rules) m.workload m.readings e last rule

@@ -2,17 +2,17 @@
 use Rattle.std.specs.Prelude.{ℕ, List, ◌++◌, codes, decimal}
 use Rattle.sa_laws.specs.declared.rule.Rule.{Rule}
 use Rattle.sa_laws.specs.declared.rule.Rule.TheVariants.{Numbered, Stepwise, ToldOnce, ToldInTime, WhereOwned, AllTold, UpcallGiven, InterruptNext, LineCause, WantCause, SharesCovered, DemandAnnounced, TurnsTaken, LocksKept, OrderKept, EndTold}
-use Rattle.sa_check_moment.specs.declared.rules.Rules.{Rules}
-use Rattle.sa_check_moment.specs.declared.rules.Rules.TheVariants.{FastThreads, Priorities}
+use Rattle.sa_base.specs.declared.package.RulesName.{RulesName}
+use Rattle.sa_base.specs.declared.package.RulesName.TheVariants.{Priorities}
 use Rattle.sa_check.specs.declared.verdict.Verdict.{Verdict}
 use Rattle.sa_check.specs.declared.verdict.Verdict.TheVariants.{Legal, Broken}
 
 -- the word of a rule; with thread priorities that of announced demand says too that pairs are served
-abbrev pub demand_word : Rules → List ℕ
-demand_word FastThreads = codes "L2"
+abbrev pub demand_word : RulesName → List ℕ
 demand_word Priorities = codes "L6"
+demand_word _ = codes "L2"
 
-abbrev pub word_of : Rules → Rule → List ℕ
+abbrev pub word_of : RulesName → Rule → List ℕ
 word_of level Numbered = codes "D11"
 word_of level Stepwise = codes "D6"
 word_of level ToldOnce = codes "U1"
@@ -31,6 +31,6 @@ word_of level OrderKept = codes "L5"
 word_of level EndTold = codes "D12"
 
 -- the line of a verdict
-abbrev pub line_of : Rules → Verdict → List ℕ
+abbrev pub line_of : RulesName → Verdict → List ℕ
 line_of level Legal = codes "legal\n"
 line_of level (Broken event rule) = codes "broken " ++ decimal event ++ codes " " ++ word_of level rule ++ codes "\n"

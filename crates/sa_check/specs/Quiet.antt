@@ -11,7 +11,7 @@ use Rattle.sa_laws.specs.Closing.{first_space, must_want, lines_due}
 use Rattle.sa_laws.specs.Upcalls.{IsPrompt}
 use Rattle.sa_laws.specs.Shape.{before_aims, before_wants, front_part}
 use Rattle.sa_check_moment.specs.Seen.{Seen}
-use Rattle.sa_check.specs.Places.{WantsAreDue, AimsAreDue, LinesAreDue, AreCovered}
+use Rattle.sa_check.specs.Places.{WantsAreDue, AimsAreDue, LinesAreDue, AreCovered, HasShares}
 use Rattle.sa_check.specs.Records.{behind_some}
 
 -- a record that changes no demand, no aim, no line, no I/O under way, no owner, nothing untold, and neither which lives
@@ -59,6 +59,21 @@ pub record NothingIsDue (m : Seen) (e : Event) : Type 0 where
   pub wants : WantsAreDue (behind_some m e (before_wants e.records)) e
   pub aims : AimsAreDue (behind_some m e (before_aims e.records)) e
   pub lines : LinesAreDue (behind_some m e (front_part e.records)) e
+
+-- a quiet event that begins with this moment, after an event that left all as it must be
+pub record IsQuietFrom (m : Seen) (e : Event) : Type 0 where
+  pub quiet : list_all is_quiet_record e.records ≡ true
+  pub none : NothingIsDue m e
+
+-- on the moment after a quiet event of this number: all is as it must be, and no line is due
+pub record IsCalm (m : Seen) (number : ℕ) : Type 0 where
+  pub settled : IsSettled m.workload number m.readings
+  pub calm : lines_due m.workload m.readings ≡ []
+
+-- what is known on the moment after an event of this number that is known to be quiet, or after whose records the shares are covered
+pub record IsKnownAfter (quiet covered : Bool) (m : Seen) (number : ℕ) : Type 0 where
+  pub calm : IsTrue quiet → IsCalm m number
+  pub shares : IsTrue covered → HasShares m number
 
 -- an event that is quiet, where no line was due before it
 pub record IsQuietAt (m : Seen) (e : Event) : Type 0 where

@@ -11,7 +11,7 @@ use Rattle.sa_base.specs.declared.number.ProcNo.{ProcNo}
 use Rattle.sa_base.specs.declared.record.Record.{Record}
 use Rattle.sa_laws.specs.Turns.{TurnsAreTaken}
 use Rattle.sa_laws.specs.Ends.{LastLine, EndIsTold}
-use Rattle.sa_check_moment.specs.Rules.{rules_of}
+use Rattle.sa_ranks.specs.Packages.{rules_named}
 use Rattle.sa_check_moment.specs.Seen.{Seen}
 use Rattle.sa_check.specs.declared.begin.Beginning.{Beginning}
 use Rattle.sa_check.specs.declared.end.LastTold.{LastTold}
@@ -26,12 +26,12 @@ pub record LinesAreInPlace (Asked : OwnLines) (w : WorkloadView) (r : Readings) 
 
 -- on the moment before the event
 pub record IsBeginning (m : Seen) (e : Event) (found : Beginning) : Type 0 where
-  pub demand_announced : IsTrue found.demand_announced ↔ (rules_of m.rules).Demand m.workload m.readings e
-  pub order_kept : IsTrue found.order_kept ↔ (rules_of m.rules).Order m.workload m.readings e
+  pub demand_announced : IsTrue found.demand_announced ↔ (rules_named m.rules).Demand m.workload m.readings e
+  pub order_kept : IsTrue found.order_kept ↔ (rules_named m.rules).Order m.workload m.readings e
   pub interrupt_next : IsTrue found.interrupt_next ↔ InterruptIsNext m.workload m.readings e
-  pub turns_taken : IsTrue found.turns_taken ↔ TurnsAreTaken (rules_of m.rules).Steps m.workload m.readings e
-  pub locks_kept : IsTrue found.locks_kept ↔ (rules_of m.rules).Locks m.workload m.readings e
-  pub lines : IsTrue found.lines ↔ LinesAreInPlace (rules_of m.rules).Lines m.workload m.readings e.proc e.records
+  pub turns_taken : IsTrue found.turns_taken ↔ TurnsAreTaken (rules_named m.rules).Steps m.workload m.readings e
+  pub locks_kept : IsTrue found.locks_kept ↔ (rules_named m.rules).Locks m.workload m.readings e
+  pub lines : IsTrue found.lines ↔ LinesAreInPlace (rules_named m.rules).Lines m.workload m.readings e.proc e.records
 
 -- what the last line tells, and if one is given
 abbrev pub told_line : LastTold → LastLine

@@ -4,7 +4,7 @@ use Rattle.sa_assign.specs.Reaim.{proc_no}
 use Rattle.sa_laws.specs.Readings.{opening_readings}
 use Rattle.sa_laws.specs.History.{after_records}
 use Rattle.sa_laws.specs.Opening.{first_wants}
-use Rattle.sa_check_moment.specs.declared.rules.Rules.TheVariants.{FastThreads}
+use Rattle.sa_base.specs.declared.package.RulesName.TheVariants.{FastThreads}
 use Rattle.sa_check_moment.specs.Seen.{Seen}
 
 abbrev pub wanting : WorkloadView → Seen

@@ -1,7 +1,7 @@
 // What is found as an event begins.
 ghost use Rattle.std.specs.Prelude.{◌≡◌, ◌↔◌, true, is_some, IsTrue};
 ghost use Rattle.sa_laws.specs.Readings.{running_of, line_of};
-ghost use Rattle.sa_check_moment.specs.Rules.{rules_of};
+ghost use Rattle.sa_ranks.specs.Packages.{rules_named};
 ghost use Rattle.sa_check_moment.specs.Seen.{seen, at_event, lowers};
 ghost use Rattle.sa_check.specs.Items.{told_event};
 ghost use Rattle.sa_check.specs.Quiet.{is_quiet};
@@ -28,28 +28,22 @@ pub(crate) struct Beginning {
     pub(crate) lines: bool,
 }
 
-/// An event begins.
-pub(crate) fn begin(moment: &mut Moment, event: &TraceEvent) -> Beginning
+/// An event begins. One that is known to be quiet has no line and no aim, and its processor's line is low.
+#[inline(always)]
+pub(crate) fn begin(moment: &mut Moment, event: &TraceEvent, quiet: bool) -> Beginning
+    requires { let m = seen moment.old in
+        IsTrue quiet → is_quiet m.workload m.readings (told_event event.now) ≡ true }
     ensures event_begun { seen moment.new ≡ at_event event.now.number event.now.proc (seen moment.old) }
     ensures running { result.start.running ≡ running_of (seen moment.old).readings event.now.proc }
     ensures lowers { result.start.lowers ≡ lowers (seen moment.old).readings event.now.records.now }
     ensures found { IsBeginning (seen moment.old) (told_event event.now) result }
 {
+    if quiet {
+        return begin_by(moment, event, false, true);
+    }
     let raised = moment.line(event.proc).is_some();
     let lines = lines_are_in_place(moment, event.proc, event.records);
     begin_by(moment, event, raised, lines)
-}
-
-/// A quiet event begins: it has no line and no aim, and its processor's line is low.
-#[inline(always)]
-pub(crate) fn begin_quiet(moment: &mut Moment, event: &TraceEvent) -> Beginning
-    requires { is_quiet (seen moment.old).workload (seen moment.old).readings (told_event event.now) ≡ true }
-    ensures event_begun { seen moment.new ≡ at_event event.now.number event.now.proc (seen moment.old) }
-    ensures running { result.start.running ≡ running_of (seen moment.old).readings event.now.proc }
-    ensures lowers { result.start.lowers ≡ lowers (seen moment.old).readings event.now.records.now }
-    ensures found { IsBeginning (seen moment.old) (told_event event.now) result }
-{
-    begin_by(moment, event, false, true)
 }
 
 // An event begins, of which is known whether the line of its processor is raised, and whether its lines are in place.
@@ -57,7 +51,7 @@ pub(crate) fn begin_quiet(moment: &mut Moment, event: &TraceEvent) -> Beginning
 fn begin_by(moment: &mut Moment, event: &TraceEvent, raised: bool, lines: bool) -> Beginning
     requires raised { raised ≡ is_some (line_of (seen moment.old).readings event.now.proc) }
     requires lines { let m = seen moment.old in
-        IsTrue lines ↔ LinesAreInPlace (rules_of m.rules).Lines m.workload m.readings event.now.proc event.now.records.now }
+        IsTrue lines ↔ LinesAreInPlace (rules_named m.rules).Lines m.workload m.readings event.now.proc event.now.records.now }
     ensures event_begun { seen moment.new ≡ at_event event.now.number event.now.proc (seen moment.old) }
     ensures running { result.start.running ≡ running_of (seen moment.old).readings event.now.proc }
     ensures lowers { result.start.lowers ≡ lowers (seen moment.old).readings event.now.records.now }
@@ -84,7 +78,7 @@ fn begin_by(moment: &mut Moment, event: &TraceEvent, raised: bool, lines: bool) 
 // A line with which the event begins is asked for, and no aim comes after the first of the last lines.
 fn lines_are_in_place(moment: &Moment, p: ProcNo, records: &[Record]) -> bool
     ensures { let m = seen moment.now in
-        IsTrue result ↔ LinesAreInPlace (rules_of m.rules).Lines m.workload m.readings p records.now }
+        IsTrue result ↔ LinesAreInPlace (rules_named m.rules).Lines m.workload m.readings p records.now }
 {
     first_is_asked(moment, p, records) && !has_aims(last_lines(records))
 }

@@ -1,10 +1,8 @@
 // What is found after an event.
-ghost use Rattle.std.specs.Prelude.{◌≡◌, ◌↔◌, [], true, IfOk, IsTrue};
-ghost use Rattle.sa_laws.specs.Closing.{lines_due};
+ghost use Rattle.std.specs.Prelude.{◌↔◌, IfOk, IsTrue};
 ghost use Rattle.sa_laws.specs.Ends.{EndIsTold};
 ghost use Rattle.sa_check_moment.specs.Seen.{seen};
-ghost use Rattle.sa_check.specs.Places.{HasShares};
-ghost use Rattle.sa_check.specs.Quiet.{IsSettled};
+ghost use Rattle.sa_check.specs.Quiet.{IsCalm, IsKnownAfter};
 ghost use Rattle.sa_check.specs.Sides.{IsEnding, line_told};
 
 use crate::{are_lines_due, covers_shares, is_told_in_time, wants_nothing};
@@ -31,12 +29,11 @@ pub(crate) struct Ending {
     pub(crate) calm: bool,
 }
 
-/// What is found on the moment after a quiet event of this number; the last line, if it is the trace's last event.
-/// Owners, shares, wants and what is told in time are as they must be, and no line is due.
+// What is found on the moment after a quiet event of this number; the last line, if it is the trace's last event.
+// Owners, shares, wants and what is told in time are as they must be, and no line is due.
 #[inline(always)]
-pub(crate) fn settled_after(moment: &Moment, number: u64, last: Option<LastTold>) -> Ending
-    requires settled { IsSettled (seen moment.now).workload number (seen moment.now).readings }
-    requires calm { lines_due (seen moment.now).workload (seen moment.now).readings ≡ [] }
+fn settled_after(moment: &Moment, number: u64, last: Option<LastTold>) -> Ending
+    requires { IsCalm (seen moment.now) number }
     ensures { IsEnding (seen moment.now) number (line_told last) result }
 {
     Ending {
@@ -49,18 +46,23 @@ pub(crate) fn settled_after(moment: &Moment, number: u64, last: Option<LastTold>
     }
 }
 
-/// What is found on the moment after an event of this number; the last line, if it is the trace's last event. Where the
-/// shares are covered, they are not looked at.
+/// What is found on the moment after an event of this number; the last line, if it is the trace's last event. After a
+/// quiet event only that is asked for, and where the shares are covered, they are not looked at.
+#[inline(always)]
 pub(crate) fn look_after(
     alloc: Global,
     moment: &Moment,
     number: u64,
     last: Option<LastTold>,
+    quiet: bool,
     covered: bool,
 ) -> Result<Ending, AllocError>
-    requires { covered ≡ true → HasShares (seen moment.now) number }
+    requires { IsKnownAfter quiet covered (seen moment.now) number }
     ensures { IfOk result (IsEnding (seen moment.now) number (line_told last)) }
 {
+    if quiet {
+        return Ok(settled_after(moment, number, last));
+    }
     Ok(Ending {
         told_in_time: is_told_in_time(moment),
         owned: each_runs_for_its_owner(moment),

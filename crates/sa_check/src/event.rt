@@ -9,10 +9,10 @@ use sa_trace::{Reader, Said};
 
 /// An event of a trace: its number, its processor, and its records in order.
 #[derive(Clone, Copy)]
-pub(crate) struct TraceEvent<'a> {
-    pub(crate) number: u64,
-    pub(crate) proc: ProcNo,
-    pub(crate) records: &'a [Record],
+pub struct TraceEvent<'a> {
+    pub number: u64,
+    pub proc: ProcNo,
+    pub records: &'a [Record],
 }
 
 /// Reads on to the first line that tells no record of the event that begins with this item, which it returns; the records
@@ -36,8 +36,8 @@ pub(crate) fn gather(
     }
 }
 
-// The items are of one event.
-fn is_with(first: &Item, item: &Item) -> bool
+/// The items are of one event.
+pub fn is_with(first: &Item, item: &Item) -> bool
     ensures { result ≡ is_with first.now item.now }
 {
     first.event == item.event && first.proc.0 == item.proc.0

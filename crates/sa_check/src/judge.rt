@@ -1,22 +1,24 @@
 // The judge of one event.
-ghost use Rattle.std.specs.Prelude.{◌≡◌, not, find, IfOk};
+ghost use Rattle.std.specs.Prelude.{◌≡◌, not, find, IfOk, IsTrue};
 ghost use Rattle.sa_laws.specs.Opening.{IsNumbered};
 ghost use Rattle.sa_laws.specs.Rules.{rules};
 ghost use Rattle.sa_check_moment.specs.Seen.{seen};
 ghost use Rattle.sa_check.specs.Items.{told_event};
-ghost use Rattle.sa_check.specs.Quiet.{IsCalmIf, IsQuietAt, WasSettled};
+ghost use Rattle.sa_check.specs.Quiet.{IsCalmIf, IsQuietAt, IsQuietFrom, WasSettled};
+ghost use Rattle.sa_check.specs.Records.{ReadsRecords};
 ghost use Rattle.sa_check.specs.Sides.{line_told};
 ghost use Rattle.sa_check.specs.Findings.{found_of};
 ghost use Rattle.sa_check.specs.Judged.{Judges, findings_of, judged_by};
 
-use crate::begin::{Beginning, begin, begin_quiet};
-use crate::end::{Ending, LastTold, look_after, settled_after};
+use crate::begin::{Beginning, begin};
+use crate::end::{Ending, LastTold, look_after};
 use crate::event::TraceEvent;
 use crate::findings::Findings;
 use crate::is_numbered;
 use crate::places::DueFound;
 use crate::quiet::{is_known_quiet, read_quiet};
 use crate::records::{ReadThrough, RecordsFound, read_records};
+use sa_base::ActNo;
 use sa_check_moment::Moment;
 use sa_laws::Rule;
 use std::alloc::{AllocError, Global};
@@ -66,51 +68,13 @@ pub(crate) fn judge(
         return Ok(Judged::Broken(Rule::Numbered));
     }
     if is_known_quiet(&moment, event, calm) {
-        judge_quiet(moment, event, last)
+        judge_event(alloc, moment, event, last, true)
     } else {
         judge_loud(alloc, moment, event, last)
     }
 }
 
-// Judges a quiet event with the number and processor that it should have.
-#[inline]
-fn judge_quiet(
-    moment: Moment,
-    event: &TraceEvent,
-    last: Option<LastTold>,
-) -> Result<Judged, AllocError>
-    requires numbered { IsNumbered (seen moment).workload (seen moment).readings (told_event event.now) }
-    requires settled { WasSettled (seen moment).workload (seen moment).readings }
-    requires quiet { IsQuietAt (seen moment) (told_event event.now) }
-    ensures { IfOk result (Judges (seen moment) (told_event event.now) (line_told last)) }
-{
-    let mut now = moment;
-    let beginning = begin_quiet(&mut now, event);
-    let Some(through) = read_quiet(now, event, beginning.start.running)? else {
-        return Ok(Judged::Broken(Rule::Stepwise));
-    };
-    let ReadThrough {
-        moment: read,
-        laws,
-        due,
-    } = through;
-    let after = read.finish(
-        event.number,
-        event.proc,
-        event.records,
-        beginning.start,
-        due.urged,
-    )?;
-    let ending = settled_after(&after, event.number, last);
-    let findings = findings_of(event.number, beginning, laws, due, ending);
-    let after = Between {
-        moment: after,
-        calm: true,
-    };
-    Ok(judge_by(&findings, after))
-}
-
-// Judges an event with the number and processor that it should have, which is not known to be quiet.
+// Judges an event with the number and processor that it should have, which is not known to be quiet. It stays a call, since it is rare.
 #[inline(never)]
 fn judge_loud(
     alloc: Global,
@@ -121,9 +85,27 @@ fn judge_loud(
     requires numbered { IsNumbered (seen moment).workload (seen moment).readings (told_event event.now) }
     ensures { IfOk result (Judges (seen moment) (told_event event.now) (line_told last)) }
 {
+    judge_event(alloc, moment, event, last, false)
+}
+
+// Judges an event with the number and processor that it should have, which is known to be quiet or not.
+#[inline(always)]
+fn judge_event(
+    alloc: Global,
+    moment: Moment,
+    event: &TraceEvent,
+    last: Option<LastTold>,
+    quiet: bool,
+) -> Result<Judged, AllocError>
+    requires numbered { IsNumbered (seen moment).workload (seen moment).readings (told_event event.now) }
+    requires settled { IsTrue quiet → WasSettled (seen moment).workload (seen moment).readings }
+    requires quiet { IsTrue quiet → IsQuietAt (seen moment) (told_event event.now) }
+    ensures { IfOk result (Judges (seen moment) (told_event event.now) (line_told last)) }
+{
     let mut now = moment;
-    let beginning = begin(&mut now, event);
-    let Some(through) = read_records(alloc, now, event, beginning.start.running)? else {
+    let beginning = begin(&mut now, event, quiet);
+    let start = beginning.start;
+    let Some(through) = read_event(alloc, now, event, start.running, quiet)? else {
         return Ok(Judged::Broken(Rule::Stepwise));
     };
     let ReadThrough {
@@ -131,15 +113,9 @@ fn judge_loud(
         laws,
         due,
     } = through;
-    let after = read.finish(
-        event.number,
-        event.proc,
-        event.records,
-        beginning.start,
-        due.urged,
-    )?;
+    let after = read.finish(event.number, event.proc, event.records, start, due.urged)?;
     let covered = due.covered;
-    let Ok(ending) = look_after(alloc, &after, event.number, last, covered) else {
+    let Ok(ending) = look_after(alloc, &after, event.number, last, quiet, covered) else {
         after.discard();
         return Err(AllocError);
     };
@@ -149,6 +125,26 @@ fn judge_loud(
         calm: ending.calm,
     };
     Ok(judge_by(&findings, after))
+}
+
+// Reads the records of an event that is known to be quiet or not, on the moment as it begins; this life ran before it. `None` exactly
+// where one of them is no step of the abstract machine.
+#[inline(always)]
+fn read_event(
+    alloc: Global,
+    moment: Moment,
+    event: &TraceEvent,
+    running: Option<ActNo>,
+    quiet: bool,
+) -> Result<Option<ReadThrough>, AllocError>
+    requires { IsTrue quiet → IsQuietFrom (seen moment) (told_event event.now) }
+    ensures { IfOk result (ReadsRecords (seen moment) (told_event event.now) running) }
+{
+    if quiet {
+        read_quiet(moment, event, running)
+    } else {
+        read_records(alloc, moment, event, running)
+    }
 }
 
 // Which rules hold, by what was found before the event, at its records, and after it.

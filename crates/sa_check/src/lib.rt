@@ -22,11 +22,11 @@ mod trace;
 mod verdict;
 mod wants;
 
+pub use event::{TraceEvent, is_with};
 pub use line::{verdict_line, word};
 use lines::are_lines_due;
 use opening::is_numbered;
 use prompt::{is_told_in_time, wants_nothing};
-pub use sa_check_moment::Rules;
 use shares::{covers_shares, first_space, shares_at};
 pub use trace::check;
 pub use verdict::Verdict;

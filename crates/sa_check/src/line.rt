@@ -4,13 +4,13 @@ ghost use Rattle.sa_check.specs.declared.verdict.Verdict.TheVariants.{Broken};
 ghost use Rattle.sa_check.specs.Line.{demand_word, word_of, line_of};
 
 use crate::verdict::Verdict;
-use sa_check_moment::Rules;
+use sa_base::RulesName;
 use sa_laws::Rule;
 use sa_text::print_number;
 use std::alloc::{AllocError, Global};
 
 /// The word of a rule by which a trace was judged.
-pub fn word(rules: Rules, rule: Rule) -> &'static [u8]
+pub fn word(rules: RulesName, rule: Rule) -> &'static [u8]
     ensures { result.now ≡ word_of rules rule }
 {
     match rule {
@@ -34,17 +34,21 @@ pub fn word(rules: Rules, rule: Rule) -> &'static [u8]
 }
 
 // The word of the rule that speaks of demand, and with thread priorities of pairs.
-fn demand_word(rules: Rules) -> &'static [u8]
+fn demand_word(rules: RulesName) -> &'static [u8]
     ensures { result.now ≡ demand_word rules }
 {
     match rules {
-        Rules::FastThreads => b"L2",
-        Rules::Priorities => b"L6",
+        RulesName::Priorities => b"L6",
+        _ => b"L2",
     }
 }
 
 /// The line that says the verdict by these rules, with its line feed. Its only error is want of memory.
-pub fn verdict_line(alloc: Global, rules: Rules, verdict: Verdict) -> Result<Vec<u8>, AllocError>
+pub fn verdict_line(
+    alloc: Global,
+    rules: RulesName,
+    verdict: Verdict,
+) -> Result<Vec<u8>, AllocError>
     ensures { IfOk result (λ line. line.items ≡ line_of rules verdict) }
 {
     let mut out = Vec::new(alloc);
@@ -56,7 +60,12 @@ pub fn verdict_line(alloc: Global, rules: Rules, verdict: Verdict) -> Result<Vec
 }
 
 // Appends the line of a first break.
-fn push_broken(out: &mut Vec<u8>, rules: Rules, event: u64, rule: Rule) -> Result<(), AllocError>
+fn push_broken(
+    out: &mut Vec<u8>,
+    rules: RulesName,
+    event: u64,
+    rule: Rule,
+) -> Result<(), AllocError>
     ensures { OnOk result (out.new.items ≡ out.old.items ++ line_of rules (Broken event rule)) }
 {
     out.extend_from_slice(b"broken ")?;

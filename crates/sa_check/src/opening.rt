@@ -9,8 +9,8 @@ ghost use Rattle.sa_check.specs.Wanting.{wanting};
 
 use crate::aims::aims_due;
 use crate::closing_records::{add, are_same};
-use sa_base::{ProcNo, Record, SpaceNo};
-use sa_check_moment::{Moment, Rules};
+use sa_base::{ProcNo, Record, RulesName, SpaceNo};
+use sa_check_moment::Moment;
 use sa_check_shapes::Aimed;
 use sa_spaces::Workload;
 use std::alloc::{AllocError, Global};
@@ -93,7 +93,7 @@ fn first_wants(alloc: Global, workload: &Workload) -> Result<Vec<Record>, AllocE
 fn wanting(alloc: Global, workload: &Workload) -> Result<Moment, AllocError>
     ensures { IfOk result (λ m. seen m ≡ wanting workload.now) }
 {
-    let mut moment = Moment::start(alloc, Rules::FastThreads, workload)?;
+    let mut moment = Moment::start(alloc, RulesName::FastThreads, workload)?;
     for s in 0..workload.spaces().len() {
         moment = moment.read(0, ProcNo(0), &Record::Want(SpaceNo(s as u16), 1))?;
     }

@@ -3,7 +3,7 @@ ghost use Rattle.std.specs.Prelude.{◌≡◌, true, IfOk};
 ghost use Rattle.std.specs.List.{list_all};
 ghost use Rattle.sa_check_moment.specs.Seen.{seen};
 ghost use Rattle.sa_check.specs.Items.{told_event};
-ghost use Rattle.sa_check.specs.Quiet.{is_quiet_record, keeps_first, is_quiet, IsCalmIf, IsQuietAt, NothingIsDue};
+ghost use Rattle.sa_check.specs.Quiet.{is_quiet_record, keeps_first, is_quiet, IsCalmIf, IsQuietAt, IsQuietFrom};
 ghost use Rattle.sa_check.specs.Records.{ReadsRecords};
 
 use crate::event::TraceEvent;
@@ -81,8 +81,7 @@ pub(crate) fn read_quiet(
     event: &TraceEvent,
     running: Option<ActNo>,
 ) -> Result<Option<ReadThrough>, AllocError>
-    requires quiet { list_all is_quiet_record event.now.records.now ≡ true }
-    requires none { NothingIsDue (seen moment) (told_event event.now) }
+    requires { IsQuietFrom (seen moment) (told_event event.now) }
     ensures { IfOk result (ReadsRecords (seen moment) (told_event event.now) running) }
 {
     let records = event.records;

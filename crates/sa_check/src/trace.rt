@@ -2,7 +2,7 @@ ghost use Rattle.std.specs.Prelude.{◌≡◌, [], ◌∷◌, IfOk};
 ghost use Rattle.sa_trace.specs.Reading.{read_of};
 ghost use Rattle.sa_trace.specs.Reader.{left, in_front, with_said};
 ghost use Rattle.sa_check_moment.specs.Seen.{seen, event};
-ghost use Rattle.sa_check_moment.specs.Rules.{rules_of};
+ghost use Rattle.sa_ranks.specs.Packages.{rules_named};
 ghost use Rattle.sa_check.specs.Sides.{line_told};
 ghost use Rattle.sa_check.specs.Gathered.{line_said};
 ghost use Rattle.sa_check.specs.Judged.{Judges};
@@ -13,8 +13,8 @@ use crate::end::LastTold;
 use crate::event::{TraceEvent, gather};
 use crate::judge::{Between, Judged, judge};
 use crate::verdict::Verdict;
-use sa_base::{Item, Record, Unread};
-use sa_check_moment::{Moment, Rules};
+use sa_base::{Item, Record, RulesName, Unread};
+use sa_check_moment::Moment;
 use sa_laws::Rule;
 use sa_spaces::Workload;
 use sa_trace::{Reader, Said};
@@ -27,11 +27,11 @@ use std::alloc::{AllocError, Global};
 /// Each event is judged as its lines are read, so memory does not grow with the number of items.
 pub fn check(
     alloc: Global,
-    rules: Rules,
+    rules: RulesName,
     workload: &Workload,
     text: &[u8],
 ) -> Result<Verdict, Unread>
-    ensures { IsChecked (rules_of rules) workload.now (read_of text.now) result }
+    ensures { IsChecked (rules_named rules) workload.now (read_of text.now) result }
 {
     let mut reader = Reader::new(text);
     match reader.next() {
@@ -48,12 +48,12 @@ pub fn check(
 // read on and no more is judged, since a bad line comes before these.
 fn judge_events(
     alloc: Global,
-    rules: Rules,
+    rules: RulesName,
     workload: &Workload,
     reader: &mut Reader,
     first: Item,
 ) -> Result<Verdict, Unread>
-    ensures { IsChecked (rules_of rules) workload.now (in_front (first ∷ []) (left reader.old)) result }
+    ensures { IsChecked (rules_named rules) workload.now (in_front (first ∷ []) (left reader.old)) result }
 {
     let mut now = Between {
         moment: Moment::start(alloc, rules, workload)?,

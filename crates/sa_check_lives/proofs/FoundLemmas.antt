@@ -2,7 +2,7 @@
 use Rattle.std.proofs.Common.{arith, ◌≡◌, ◌≢◌, ℕ, refl, sym, ◌∙◌, ap, true, false, not, ◌==◌, Bool, List, [], ◌∷◌, Option, Some, None, ◌↔◌}
 use Rattle.std.specs.Prelude.{Contains, ◌&&◌}
 use Rattle.std.specs.List.{list_any}
-use Rattle.std.proofs.lemmas.Bool.{and_parts, and_from, eqb-true, eq-eqb}
+use Rattle.std.proofs.lemmas.Bool.{false≢true, not-true, and_parts, and_from, eqb-true, eq-eqb}
 use Rattle.std.proofs.lemmas.List.Folds.{Any-from_list_any, list_any-from_Any}
 use Rattle.sa_base.specs.declared.number.ProcNo.{ProcNo}
 use Rattle.sa_base.specs.declared.number.SpaceNo.{SpaceNo}
@@ -77,9 +77,6 @@ locked-iff r lives holders s l among same = (
       (list-finds locked.life s l locked.has)),
 )
 
-not-true : (b : Bool) → not b ≡ true → b ≡ true → ⊥
-not-true b fails holds = let bad : false ≡ true = sym (ap not holds) ∙ fails in cc
-
 apart-act : (a b : ActNo) → b ≢ a → not (a.0 == b.0) ≡ true
 apart-act a b apart = go (a.0 == b.0) refl where
   go : (t : Bool) → (a.0 == b.0) ≡ t → not t ≡ true
@@ -95,7 +92,7 @@ other-iff r lives holders a s l among same = (
       let parts = and_parts (f.life.space.0 == s.0) (list_any (is_list l) f.life.locks) other.1 in
       record {
         other = record { 0 = f.act };
-        apart = λ e. not-true (a.0 == f.act) other.0 (eq-eqb a.0 f.act (sym (ap (λ (x : ActNo). x.0) e)));
+        apart = λ e. false≢true (sym (not-true (a.0 == f.act) other.0) ∙ eq-eqb a.0 f.act (sym (ap (λ (x : ActNo). x.0) e)));
         life = f.life;
         is = ap (λ g. g f.act) same ∙ f.is;
         has = list-found f.life s l parts.0 parts.1;

@@ -17,7 +17,7 @@ use Rattle.sa_check_lives.proofs.ReadLemmas.{records-read}
 use Rattle.sa_replay.specs.Replayed.{roused_by}
 use Rattle.sa_check_ios.specs.Ready.{with_ready}
 use Rattle.sa_check_ios.specs.PendingView.{PendingView, pending_of}
-use Rattle.sa_check_moment.specs.declared.rules.Rules.{Rules}
+use Rattle.sa_base.specs.declared.package.RulesName.{RulesName}
 use Rattle.sa_check_moment.specs.Board.{BoardView, board_of, noted}
 use Rattle.sa_check_moment.specs.Seen.{Seen, Kept, joined, seen, behind_record}
 use Rattle.sa_check_moment.specs.Reading.{ReadsPush, ReadsList, begun_by, pending_after, ready_after}
@@ -35,12 +35,12 @@ parts w e p r (Told (Add q)) for_push is = refl
 parts w e p r _ for_push is = refl
 
 -- a moment of these parts
-abbrev whole : Rules → WorkloadView → ℕ → State → BoardView → LivesView → PendingView → List (List Listed) → Option Record → Option SpaceNo → Seen
+abbrev whole : RulesName → WorkloadView → ℕ → State → BoardView → LivesView → PendingView → List (List Listed) → Option Record → Option SpaceNo → Seen
 whole rules w number state board lives pending ready last moved =
     record { rules = rules; workload = w; readings = joined number state board lives pending ready last moved }
 
 -- is seen as another, where it was put together from the same
-pub seen-as : (n : Kept) (rules : Rules) (w : WorkloadView) (number : ℕ) (state : State) (board : BoardView) (lives : LivesView) (pending : PendingView)
+pub seen-as : (n : Kept) (rules : RulesName) (w : WorkloadView) (number : ℕ) (state : State) (board : BoardView) (lives : LivesView) (pending : PendingView)
     (ready : List (List Listed)) (last : Option Record) (moved : Option SpaceNo)
     → n.rules ≡ rules → n.workload ≡ w → n.number ≡ number → n.state ≡ state → n.board ≡ board → lives_of n.lives ≡ lives → n.pending ≡ pending → n.ready ≡ ready → n.last ≡ last
     → n.moved ≡ moved

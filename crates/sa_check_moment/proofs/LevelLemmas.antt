@@ -20,16 +20,18 @@ use Rattle.sa_check_moment.specs.Ranked.{row_at, row_stack, opening_row, newest,
 use Rattle.sa_check_moment.specs.Ranking.{IsRanked, AreRanked}
 use Rattle.sa_check_moment.proofs.Histories.{opening-ranked, ranked-behind}
 use Rattle.sa_check_moment.proofs.Best.{best-row, next-row, no-next}
-use Rattle.sa_check_moment.specs.declared.rules.Rules.TheVariants as rules
+use Rattle.sa_base.specs.declared.package.RulesName.TheVariants as rules
 use Rattle.sa_check_moment.specs.declared.level.Level.{Level}
-use Rattle.sa_check_moment.specs.declared.level.Level.TheVariants.{FastThreads, Priorities}
+use Rattle.sa_check_moment.specs.declared.level.Level.TheVariants.{FastThreads, Any, Priorities}
 use Rattle.sa_check_moment.specs.Level.{rules_in, IsKeptFor, ReadsLevel, IsNext, next_of}
 use Rattle.sa_check_moment.specs.Urged.{is_lower, urged_by}
 
 pub reads-rules : (a : State) (x : Record) (old new : Level) → ReadsLevel a x old new → rules_in new ≡ rules_in old
 reads-rules a x FastThreads new is = ap rules_in is
+reads-rules a x Any new is = ap rules_in is
 reads-rules a x (Priorities old) (Priorities new) is = refl
 reads-rules a x (Priorities old) FastThreads is = absurd is
+reads-rules a x (Priorities old) Any is = absurd is
 
 -- before any record
 pub kept-opened : (w : WorkloadView) (spaces : ℕ) (v : List (List (List ThreadNo))) → length w.spaces ≡ spaces → v ≡ replicate spaces opening_row
@@ -44,8 +46,11 @@ pub kept-behind : (w : WorkloadView) (e : ℕ) (p : ProcNo) (r : Readings) (x : 
     → IsKeptFor old r.state r.ready → IsKeptFor new (after_record w e p r x).state (after_record w e p r x).ready
 kept-behind w e p r x FastThreads new needs is kept =
     subst (λ (level : Level). IsKeptFor level (after_record w e p r x).state (after_record w e p r x).ready) (sym is) tt
+kept-behind w e p r x Any new needs is kept =
+    subst (λ (level : Level). IsKeptFor level (after_record w e p r x).state (after_record w e p r x).ready) (sym is) tt
 kept-behind w e p r x (Priorities old) (Priorities new) needs is kept = ranked-behind w e p r x old new needs is kept
 kept-behind w e p r x (Priorities old) FastThreads needs is kept = absurd is
+kept-behind w e p r x (Priorities old) Any needs is kept = absurd is
 
 -- what the best ready thread tells
 pub best-of : (level : Level) (a : State) (ready : List (List Listed)) (v : List (List (List ThreadNo))) (s : SpaceNo) (o : Option ℕ) → level ≡ Priorities v
@@ -67,6 +72,9 @@ next-is level a ready v s t is kept next =
 
 pub not-fast : (level : Level) → level ≡ FastThreads → rules_in level ≡ rules.Priorities → ⊥
 not-fast level is ranks = let clash : rules.FastThreads ≡ rules.Priorities = sym (ap rules_in is) ∙ ranks in cc
+
+pub not-any : (level : Level) → level ≡ Any → rules_in level ≡ rules.Priorities → ⊥
+not-any level is ranks = let clash : rules.Any ≡ rules.Priorities = sym (ap rules_in is) ∙ ranks in cc
 
 -- a pair of the space of a life that is in use
 pub urged-none : (w : WorkloadView) (r : Readings) (o : Option Life) → None ≡ option_map (λ (x : Life). x.space) o → false ≡ urged_by rules.Priorities w r o

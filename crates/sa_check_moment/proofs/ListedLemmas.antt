@@ -16,7 +16,7 @@ use Rattle.sa_laws.specs.Readings.{Readings, space_of_life}
 use Rattle.sa_laws.specs.Record.{after_record, without_note, is_other_note}
 use Rattle.sa_laws.proofs.Lengths.{with-length, without-length}
 use Rattle.sa_laws.proofs.Spaces.{placed-owners}
-use Rattle.sa_check_moment.specs.declared.rules.Rules.{Rules}
+use Rattle.sa_base.specs.declared.package.RulesName.{RulesName}
 use Rattle.sa_check_moment.specs.Seen.{Seen, opened, behind_record}
 use Rattle.sa_check_moment.specs.Listed.{IsListed}
 use Rattle.sa_check_moment.specs.Reading.{changes_nothing, passing}
@@ -158,7 +158,7 @@ kept w e p r (GiveBack a) = record {
 kept w e p r _ = same (lists_of r)
 
 -- before any record, where an event begins, after a record, and where an event ends
-pub listed-opened : (rules : Rules) (w : WorkloadView) → IsListed (opened rules w)
+pub listed-opened : (rules : RulesName) (w : WorkloadView) → IsListed (opened rules w)
 listed-opened rules w = record {
   owners = length-replicate w.processors None;
   aims = length-replicate w.processors None;

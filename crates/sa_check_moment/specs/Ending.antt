@@ -9,6 +9,7 @@ use Rattle.sa_laws.specs.State.{thread_at}
 use Rattle.sa_laws.specs.Life.{Life}
 use Rattle.sa_laws.specs.Readings.{Readings, life_if, life_on}
 use Rattle.sa_laws.specs.Event.{Event}
+use Rattle.sa_laws.specs.Any.{has_heard_hand}
 use Rattle.sa_laws.specs.History.{is_inside, behind_all, is_step, is_up, is_free, is_running_or_blocked}
 use Rattle.sa_check_lives.specs.declared.change.Scan.{Scan}
 use Rattle.sa_check_lives.specs.declared.change.Scan.TheVariants.{More, Same, Over}
@@ -16,8 +17,8 @@ use Rattle.sa_check_lives.specs.declared.change.Stepped.{Stepped}
 use Rattle.sa_check_lives.specs.Change.{stepped_by, arisen_by}
 use Rattle.sa_check_lives.specs.View.{LivesView, changed, changed_on}
 use Rattle.sa_ranks.specs.Pairs.{has_pair}
-use Rattle.sa_check_moment.specs.declared.rules.Rules.{Rules}
-use Rattle.sa_check_moment.specs.declared.rules.Rules.TheVariants.{FastThreads, Priorities}
+use Rattle.sa_base.specs.declared.package.RulesName.{RulesName}
+use Rattle.sa_base.specs.declared.package.RulesName.TheVariants.{FastThreads, Priorities, Any}
 use Rattle.sa_check_moment.specs.Seen.{Seen, event}
 use Rattle.sa_check_moment.specs.Urged.{asks_last, IsUrged}
 
@@ -25,21 +26,29 @@ use Rattle.sa_check_moment.specs.Urged.{asks_last, IsUrged}
 abbrev pub is_inside_at : Seen → Bool → Life → Bool
 is_inside_at m settled life = is_inside m.workload m.readings (event 0 (record { 0 = 0 }) []) m.readings settled life
 
--- by rules of ranks: a pair of the life's space exists where pairs are asked for, after these records or before their last
-abbrev pub owes_by : Rules → Seen → List Record → Bool → Life → Bool
-owes_by FastThreads m records urged life = false
-owes_by Priorities m records urged life = if asks_last records then has_pair m.workload m.readings life.space else urged
-
+-- a pair of the life's space exists where pairs are asked for, after these records or before their last
 abbrev pub owes_pair : Seen → List Record → Bool → Life → Bool
-owes_pair m records urged life = owes_by m.rules m records urged life
+owes_pair m records urged life = if asks_last records then has_pair m.workload m.readings life.space else urged
 
--- the life is in, at the end of an own event with these records that settled it or did not
-abbrev pub is_in : Seen → Bool → List Record → Bool → Life → Bool
-is_in m settled records urged life = is_inside_at m settled life || (settled && owes_pair m records urged life)
+-- these records begin with an idle record or a lowering hint, if it is known that a want that they begin with lowers the demand
+abbrev pub idles_by : Bool → List Record → Bool
+idles_by low (Idle ∷ others) = true
+idles_by low (Want s n ∷ others) = low
+idles_by low _ = false
 
-abbrev pub is_in_if : Seen → Bool → List Record → Bool → Option Life → Bool
-is_in_if m settled records urged None = false
-is_in_if m settled records urged (Some life) = is_in m settled records urged life
+-- the life is in, at the end of an own event with these records that settled it or did not: by FastThreads' test; or by a pair; or,
+-- whatever the user level, by FastThreads' test until it says that it is idle, and by the threads in its hand
+abbrev pub is_in_by : RulesName → Seen → Bool → Bool → List Record → Bool → Life → Bool
+is_in_by FastThreads m low settled records urged life = is_inside_at m settled life
+is_in_by Priorities m low settled records urged life = is_inside_at m settled life || (settled && owes_pair m records urged life)
+is_in_by Any m low settled records urged life = has_heard_hand m.readings life || (not (idles_by low records) && is_inside_at m settled life)
+
+abbrev pub is_in : Seen → Bool → Bool → List Record → Bool → Life → Bool
+is_in m low settled records urged life = is_in_by m.rules m low settled records urged life
+
+abbrev pub is_in_if : Seen → Bool → Bool → List Record → Bool → Option Life → Bool
+is_in_if m low settled records urged None = false
+is_in_if m low settled records urged (Some life) = is_in m low settled records urged life
 
 -- the moment is that after the records of an event, before which this was read, and what is known of pairs is so
 pub record IsOver (before : Readings) (e : Event) (urged : Bool) (m : Seen) : Type 0 where
@@ -64,7 +73,7 @@ abbrev pub step_with : Seen → Bool → Option ActNo → Bool → List Record �
 step_with m low a urged records first = record {
   freed = is_free first;
   scan = scan_by low first;
-  inside = is_in_if m (settles_by low m.readings first) records urged (life_if m.readings a);
+  inside = is_in_if m low (settles_by low m.readings first) records urged (life_if m.readings a);
 }
 
 abbrev pub step_by : Seen → Bool → Option ActNo → Bool → List Record → Option Stepped
@@ -73,8 +82,8 @@ step_by m low a urged (first ∷ others) =
     if is_step first then Some (step_with m low a urged (first ∷ others) first) else None
 
 -- whether the life of an up is in, if the event has one
-abbrev pub up_by : Seen → ProcNo → Bool → List Record → Option Bool
-up_by m p urged records = if list_any is_up records then Some (is_in_if m true records urged (life_on m.readings p)) else None
+abbrev pub up_by : Seen → Bool → ProcNo → Bool → List Record → Option Bool
+up_by m low p urged records = if list_any is_up records then Some (is_in_if m low true records urged (life_on m.readings p)) else None
 
 abbrev pub stepped_if : Option Stepped → Option ActNo → LivesView → LivesView
 stepped_if None a v = v

@@ -4,7 +4,6 @@ pub mod KeptFields
 pub mod Listed
 pub mod Level
 pub mod Reading
-pub mod Rules
 pub mod Seen
 pub mod Urged
 pub mod Ranked

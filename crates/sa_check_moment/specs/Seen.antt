@@ -12,18 +12,18 @@ use Rattle.sa_laws.specs.Record.{after_record}
 use Rattle.sa_laws.specs.History.{event_begun, ended}
 use Rattle.sa_check_lives.specs.View.{LivesView, Stored, lives_of}
 use Rattle.sa_check_ios.specs.PendingView.{PendingView}
-use Rattle.sa_check_moment.specs.declared.rules.Rules.{Rules}
-use Rattle.sa_check_moment.specs.Rules.{rules_of}
+use Rattle.sa_base.specs.declared.package.RulesName.{RulesName}
+use Rattle.sa_ranks.specs.Packages.{rules_named}
 use Rattle.sa_check_moment.specs.Board.{BoardView}
 
 pub record Seen : Type 0 where
-  pub rules : Rules
+  pub rules : RulesName
   pub workload : WorkloadView
   pub readings : Readings
 
 -- a moment as it is stored: the same, in which the lives in use are in a table
 pub record Kept : Type 0 where
-  pub rules : Rules
+  pub rules : RulesName
   pub workload : WorkloadView
   pub number : ℕ
   pub state : State
@@ -64,7 +64,7 @@ seen m = record {
 }
 
 -- before any record
-abbrev pub opened : Rules → WorkloadView → Seen
+abbrev pub opened : RulesName → WorkloadView → Seen
 opened rules w = record { rules = rules; workload = w; readings = opening_readings w }
 
 -- an event of this number and processor with these records
@@ -80,7 +80,7 @@ behind_record number p what m = record m { readings = after_record m.workload nu
 
 abbrev pub at_end : Readings → ℕ → ProcNo → List Record → Seen → Seen
 at_end before number p records m =
-    record m { readings = ended (rules_of m.rules).inside m.workload before (event number p records) m.readings }
+    record m { readings = ended (rules_named m.rules).inside m.workload before (event number p records) m.readings }
 
 -- the first record is a want of less than the space announced before
 abbrev pub lowers : Readings → List Record → Bool

@@ -9,8 +9,8 @@ use Rattle.sa_laws.specs.Readings.{Readings, running_of, life_if}
 use Rattle.sa_laws.specs.Shape.{closing_part}
 use Rattle.sa_ranks.specs.Pairs.{has_pair}
 use Rattle.sa_ranks.specs.Inside.{has_entry, settling}
-use Rattle.sa_check_moment.specs.declared.rules.Rules.{Rules}
-use Rattle.sa_check_moment.specs.declared.rules.Rules.TheVariants.{FastThreads, Priorities}
+use Rattle.sa_base.specs.declared.package.RulesName.{RulesName}
+use Rattle.sa_base.specs.declared.package.RulesName.TheVariants.{FastThreads, Priorities, Any}
 
 -- a thread on another processor is in a pair, and of a lower rank, or of the same on a lower processor
 abbrev pub is_lower : Option ℕ → ProcNo → ProcNo → ℕ → Bool
@@ -18,8 +18,9 @@ is_lower None other q rank = false
 is_lower (Some n) other q rank = nat_lt n rank || (n == rank && nat_lt other.0 q.0)
 
 -- by rules of ranks: there is a life, and a pair of its space exists
-abbrev pub urged_by : Rules → WorkloadView → Readings → Option Life → Bool
+abbrev pub urged_by : RulesName → WorkloadView → Readings → Option Life → Bool
 urged_by FastThreads w r life = false
+urged_by Any w r life = false
 urged_by Priorities w r None = false
 urged_by Priorities w r (Some life) = has_pair w r life.space
 
@@ -32,6 +33,6 @@ abbrev pub asks_last : List Record → Bool
 asks_last records = has_entry records || is_closed (closing_part records)
 
 -- whether a pair existed is known of the life that ran before the event, where it is not asked after all records
-pub record IsUrged (rules : Rules) (w : WorkloadView) (before : Readings) (e : Event) (after : Readings) (urged : Bool) : Type 0 where
+pub record IsUrged (rules : RulesName) (w : WorkloadView) (before : Readings) (e : Event) (after : Readings) (urged : Bool) : Type 0 where
   pub known : rules ≡ Priorities → asks_last e.records ≡ false → (life : Life) → life_if after (running_of before e.proc) ≡ Some life
       → urged ≡ has_pair w (settling w before e after) life.space

@@ -6,12 +6,11 @@ ghost use Rattle.sa_laws.specs.Readings.{Listed, opening_readings};
 ghost use Rattle.sa_ranks.specs.Pairs.{is_outranked};
 ghost use Rattle.sa_check_moment.specs.Ranked.{row_at, is_below};
 ghost use Rattle.sa_check_moment.specs.Ranking.{ReadsRanked};
-ghost use Rattle.sa_check_moment.specs.declared.rules.Rules.TheVariants as kinds;
+ghost use Rattle.sa_base.specs.declared.package.RulesName.TheVariants as kinds;
 ghost use Rattle.sa_check_moment.specs.Level.{rules_in, IsKeptFor, ReadsLevel, IsNext, next_of};
 
 use crate::RankedReady;
-use crate::rules::Rules;
-use sa_base::{Record, SpaceNo, ThreadNo};
+use sa_base::{Record, RulesName, SpaceNo, ThreadNo};
 use sa_replay::Replay;
 use std::alloc::{AllocError, Global};
 
@@ -19,29 +18,32 @@ use std::alloc::{AllocError, Global};
 #[derive(Drop)]
 pub(crate) enum Level {
     FastThreads,
+    Any,
     // the ready threads by their ranks
     Priorities(RankedReady),
 }
 
 impl Level {
     /// Before any record of a trace of this many spaces. Fails only where memory runs out.
-    pub(crate) fn new(alloc: Global, rules: Rules, spaces: usize) -> Result<Level, AllocError>
+    pub(crate) fn new(alloc: Global, rules: RulesName, spaces: usize) -> Result<Level, AllocError>
         ensures rules { IfOk result (λ level. rules_in level ≡ rules) }
         ensures kept { IfOk result (λ level. (w : WorkloadView) → length w.spaces ≡ spaces
             → IsKeptFor level (opening_readings w).state (opening_readings w).ready) }
     {
         match rules {
-            Rules::FastThreads => Ok(Level::FastThreads),
-            Rules::Priorities => Ok(Level::Priorities(RankedReady::new(alloc, spaces)?)),
+            RulesName::FastThreads => Ok(Level::FastThreads),
+            RulesName::Any => Ok(Level::Any),
+            RulesName::Priorities => Ok(Level::Priorities(RankedReady::new(alloc, spaces)?)),
         }
     }
 
-    pub(crate) fn rules(&self) -> Rules
+    pub(crate) fn rules(&self) -> RulesName
         ensures { result ≡ rules_in self.now }
     {
         match self {
-            Level::FastThreads => Rules::FastThreads,
-            Level::Priorities(_) => Rules::Priorities,
+            Level::FastThreads => RulesName::FastThreads,
+            Level::Any => RulesName::Any,
+            Level::Priorities(_) => RulesName::Priorities,
         }
     }
 
@@ -53,6 +55,7 @@ impl Level {
     {
         match self {
             Level::FastThreads => None,
+            Level::Any => None,
             Level::Priorities(ranked) => ranked.best(s),
         }
     }
@@ -65,6 +68,7 @@ impl Level {
     {
         match self {
             Level::FastThreads => None,
+            Level::Any => None,
             Level::Priorities(ranked) => next(ranked, s),
         }
     }
@@ -75,6 +79,7 @@ impl Level {
     {
         match self {
             Level::FastThreads => Ok(()),
+            Level::Any => Ok(()),
             Level::Priorities(ranked) => read_ranked(ranked, replay, what),
         }
     }

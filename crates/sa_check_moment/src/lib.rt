@@ -8,11 +8,9 @@ mod level;
 mod moment;
 mod ranked;
 mod row;
-mod rules;
 mod start;
 
 use entry::has_entry;
 pub use moment::Moment;
 use ranked::RankedReady;
-pub use rules::Rules;
 pub use start::Start;

@@ -23,14 +23,14 @@ ghost use Rattle.sa_check_moment.specs.Listed.{IsListed};
 ghost use Rattle.sa_check_moment.specs.Seen.{seen, opened};
 
 mod finish;
+mod heard;
 mod ranks;
 mod read;
 mod show;
 
 use crate::board::Board;
 use crate::level::Level;
-use crate::rules::Rules;
-use sa_base::{ActNo, BULK_RETURN, Note, ProcNo, Record, SpaceNo, ThreadNo};
+use sa_base::{ActNo, BULK_RETURN, Note, ProcNo, Record, RulesName, SpaceNo, ThreadNo};
 use sa_check_ios::{ListedThread, Pending, ReadyLists};
 use sa_check_lives::{KeptLife, ListLock, Lives};
 use sa_devices::IoKind;
@@ -82,7 +82,7 @@ impl Model for Moment {
 
 impl Moment {
     /// Before any record of a trace of this workload, which is judged by these rules. Fails only where memory runs out.
-    pub fn start(alloc: Global, rules: Rules, workload: &Workload) -> Result<Moment, AllocError>
+    pub fn start(alloc: Global, rules: RulesName, workload: &Workload) -> Result<Moment, AllocError>
         ensures { IfOk result (λ m. seen m ≡ opened rules workload.now) }
     {
         let parts = first_parts(alloc, rules, workload)?;
@@ -495,7 +495,7 @@ impl Moment {
 }
 
 // The parts before any record. Fails only where memory runs out.
-fn first_parts(alloc: Global, rules: Rules, workload: &Workload) -> Result<Parts, AllocError>
+fn first_parts(alloc: Global, rules: RulesName, workload: &Workload) -> Result<Parts, AllocError>
     ensures seen { IfOk result (λ x. seen (kept_in x) ≡ opened rules workload.now) }
     ensures kept { let r = opening_readings workload.now in IfOk result (λ x. IsKeptFor x.level r.state r.ready) }
 {
@@ -529,7 +529,7 @@ fn first_states(alloc: Global, workload: &Workload) -> Result<(Replay, Lives, Pe
 // memory runs out.
 fn first_lists(
     alloc: Global,
-    rules: Rules,
+    rules: RulesName,
     workload: &Workload,
 ) -> Result<(ReadyLists, Board, Level), AllocError>
     ensures ready { IfOk result (λ x. x.0 ≡ first_ready (length workload.now.spaces)) }

@@ -1,8 +1,9 @@
 //! The rules of legal runs, each decided on what is read of a history at a moment: a file for each rule, but for those of
 //! time and shares. What a user level brings is decided in `user_level`, by FastThreads' parts (`table`, `demand`, `locks`,
-//! `order`) or by those of thread priorities (`ranks`). `life` and `page` have what several rules ask.
+//! `order`) by those of thread priorities (`ranks`), or by those of any user level (`any`). `life` and `page` have what several rules ask.
 #![tactic(auto)]
 
+mod any;
 mod blocks;
 mod demand;
 mod ends;

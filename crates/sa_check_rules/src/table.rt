@@ -137,8 +137,8 @@ fn can_give_back(moment: &Moment, life: &KeptLife, records: &[Record]) -> bool
         && give_back(records, taken)
 }
 
-// The records give back these, in order.
-fn give_back(records: &[Record], taken: &[ActNo]) -> bool
+/// The records give back these, in order.
+pub(crate) fn give_back(records: &[Record], taken: &[ActNo]) -> bool
     ensures { IsTrue result ↔ (records.now ≡ map GiveBack taken.now) }
 {
     let mut left = taken;

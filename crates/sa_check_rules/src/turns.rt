@@ -5,7 +5,7 @@ ghost use Rattle.sa_instr.specs.declared.answer.Local.TheVariants.{Went};
 ghost use Rattle.sa_laws.specs.Readings.{Readings, line_of, owner_of};
 ghost use Rattle.sa_laws.specs.History.{event_begun};
 ghost use Rattle.sa_laws.specs.Turns.{IsTickOrStep, IsLocalIns, IsTurn, TurnsAreTaken};
-ghost use Rattle.sa_check_moment.specs.Rules.{rules_of};
+ghost use Rattle.sa_ranks.specs.Packages.{rules_named};
 ghost use Rattle.sa_check_moment.specs.Seen.{seen, event};
 
 use crate::user_level::is_step;
@@ -26,7 +26,7 @@ pub fn turns_are_taken(
 ) -> bool
     ensures { let m = seen moment.now in let e = event number p records.now in
         (r : Readings) → m.readings ≡ event_begun m.workload e r → raised ≡ is_some (line_of r p)
-        → (IsTrue result ↔ TurnsAreTaken (rules_of m.rules).Steps m.workload r e) }
+        → (IsTrue result ↔ TurnsAreTaken (rules_named m.rules).Steps m.workload r e) }
 {
     number == 0
         || (is_turn(moment, raised, number, p, own_part(records))
@@ -37,7 +37,7 @@ pub fn turns_are_taken(
 #[inline(always)]
 fn is_turn(moment: &Moment, raised: bool, number: u64, p: ProcNo, records: &[Record]) -> bool
     ensures { let m = seen moment.now in
-        IsTrue result ↔ IsTurn (rules_of m.rules).Steps raised number m.workload m.readings p records.now }
+        IsTrue result ↔ IsTurn (rules_named m.rules).Steps raised number m.workload m.readings p records.now }
 {
     if raised {
         return is_interrupt(records);
@@ -54,7 +54,7 @@ fn is_turn(moment: &Moment, raised: bool, number: u64, p: ProcNo, records: &[Rec
 #[inline(always)]
 fn is_tick_or_step(moment: &Moment, p: ProcNo, records: &[Record]) -> bool
     ensures { let m = seen moment.now in
-        IsTrue result ↔ IsTickOrStep (rules_of m.rules).Steps (owner_of m.readings p) m.workload m.readings p records.now }
+        IsTrue result ↔ IsTickOrStep (rules_named m.rules).Steps (owner_of m.readings p) m.workload m.readings p records.now }
 {
     if moment.owner(p).is_some() {
         return is_step(moment, p, records);

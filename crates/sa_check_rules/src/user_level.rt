@@ -4,27 +4,29 @@ ghost use Rattle.std.specs.Prelude.{◌≡◌, ◌≢◌, ◌↔◌, ℕ, Some, 
 ghost use Rattle.sa_laws.specs.Readings.{Readings, owner_of};
 ghost use Rattle.sa_laws.specs.History.{event_begun};
 ghost use Rattle.sa_laws.specs.Upcalls.{IsOwnLine, FirstLineIsAsked};
-ghost use Rattle.sa_check_moment.specs.Rules.{rules_of};
+ghost use Rattle.sa_ranks.specs.Packages.{rules_named};
 ghost use Rattle.sa_check_moment.specs.Seen.{seen, event};
 
+use crate::any::{asks_for_any, is_any_step, names_heard};
 use crate::demand::is_announced;
 use crate::locks::list_locks_are_kept;
 use crate::order::lists_are_in_order;
 use crate::ranks::{asks_for, is_ranked_step, pairs_are_served, rank_is_kept, the_lock_is_kept};
 use crate::table::is_fast_step;
-use sa_base::{ProcNo, Record, SpaceNo};
-use sa_check_moment::{Moment, Rules};
+use sa_base::{ProcNo, Record, RulesName, SpaceNo};
+use sa_check_moment::Moment;
 
 /// Demand is announced, and what else the user level says of it: at an event of this number and processor with these
 /// records, on the moment before it.
 #[inline(always)]
 pub fn demand_is_announced(moment: &Moment, number: u64, p: ProcNo, records: &[Record]) -> bool
     ensures { let m = seen moment.now in
-        IsTrue result ↔ (rules_of m.rules).Demand m.workload m.readings (event number p records.now) }
+        IsTrue result ↔ (rules_named m.rules).Demand m.workload m.readings (event number p records.now) }
 {
     match moment.rules() {
-        Rules::FastThreads => is_announced(moment, number, p, records),
-        Rules::Priorities => pairs_are_served(moment, number, p, records),
+        RulesName::FastThreads => is_announced(moment, number, p, records),
+        RulesName::Priorities => pairs_are_served(moment, number, p, records),
+        RulesName::Any => true,
     }
 }
 
@@ -33,11 +35,12 @@ pub fn demand_is_announced(moment: &Moment, number: u64, p: ProcNo, records: &[R
 pub fn locks_are_kept(moment: &Moment, number: u64, p: ProcNo, records: &[Record]) -> bool
     ensures { let m = seen moment.now in let e = event number p records.now in
         (r : Readings) → m.readings ≡ event_begun m.workload e r
-        → (IsTrue result ↔ (rules_of m.rules).Locks m.workload r e) }
+        → (IsTrue result ↔ (rules_named m.rules).Locks m.workload r e) }
 {
     match moment.rules() {
-        Rules::FastThreads => list_locks_are_kept(moment, number, p, records),
-        Rules::Priorities => the_lock_is_kept(moment, number, p, records),
+        RulesName::FastThreads => list_locks_are_kept(moment, number, p, records),
+        RulesName::Priorities => the_lock_is_kept(moment, number, p, records),
+        RulesName::Any => names_heard(moment, records),
     }
 }
 
@@ -45,18 +48,19 @@ pub fn locks_are_kept(moment: &Moment, number: u64, p: ProcNo, records: &[Record
 #[inline(always)]
 pub fn order_is_kept(moment: &Moment, p: ProcNo, records: &[Record]) -> bool
     ensures { let m = seen moment.now in (number : ℕ)
-        → (IsTrue result ↔ (rules_of m.rules).Order m.workload m.readings (event number p records.now)) }
+        → (IsTrue result ↔ (rules_named m.rules).Order m.workload m.readings (event number p records.now)) }
 {
     match moment.rules() {
-        Rules::FastThreads => lists_are_in_order(moment, p, records),
-        Rules::Priorities => rank_is_kept(moment, records),
+        RulesName::FastThreads => lists_are_in_order(moment, p, records),
+        RulesName::Priorities => rank_is_kept(moment, records),
+        RulesName::Any => true,
     }
 }
 
 /// If an event of the processor begins with a line, the user level asks for it, on the moment before the event.
 pub fn first_is_asked(moment: &Moment, p: ProcNo, records: &[Record]) -> bool
     ensures { let m = seen moment.now in
-        IsTrue result ↔ FirstLineIsAsked (rules_of m.rules).Lines m.workload m.readings p records.now }
+        IsTrue result ↔ FirstLineIsAsked (rules_named m.rules).Lines m.workload m.readings p records.now }
 {
     match records {
         [Record::Line(q), ..] => is_own_line(moment, p, *q),
@@ -67,7 +71,7 @@ pub fn first_is_asked(moment: &Moment, p: ProcNo, records: &[Record]) -> bool
 // The line is that of another processor of the same space, and the user level asks for it.
 fn is_own_line(moment: &Moment, p: ProcNo, q: ProcNo) -> bool
     ensures { let m = seen moment.now in
-        IsTrue result ↔ IsOwnLine (rules_of m.rules).Lines m.workload m.readings p q }
+        IsTrue result ↔ IsOwnLine (rules_named m.rules).Lines m.workload m.readings p q }
 {
     match moment.owner(p) {
         None => false,
@@ -79,7 +83,7 @@ fn is_own_line(moment: &Moment, p: ProcNo, q: ProcNo) -> bool
 fn is_own_line_in(moment: &Moment, p: ProcNo, q: ProcNo, s: SpaceNo) -> bool
     ensures { let m = seen moment.now in
         IsTrue result ↔ ((q ≢ p) × (owner_of m.readings q ≡ Some s)
-        × (rules_of m.rules).Lines m.workload m.readings p q) }
+        × (rules_named m.rules).Lines m.workload m.readings p q) }
 {
     q != p && moment.owner(q) == Some(s) && is_asked(moment, p, q)
 }
@@ -87,11 +91,12 @@ fn is_own_line_in(moment: &Moment, p: ProcNo, q: ProcNo, s: SpaceNo) -> bool
 // The user level asks for the line of the other processor.
 fn is_asked(moment: &Moment, p: ProcNo, q: ProcNo) -> bool
     ensures { let m = seen moment.now in
-        IsTrue result ↔ (rules_of m.rules).Lines m.workload m.readings p q }
+        IsTrue result ↔ (rules_named m.rules).Lines m.workload m.readings p q }
 {
     match moment.rules() {
-        Rules::FastThreads => false,
-        Rules::Priorities => asks_for(moment, p, q),
+        RulesName::FastThreads => false,
+        RulesName::Priorities => asks_for(moment, p, q),
+        RulesName::Any => asks_for_any(moment, p, q),
     }
 }
 
@@ -99,10 +104,11 @@ fn is_asked(moment: &Moment, p: ProcNo, q: ProcNo) -> bool
 #[inline(always)]
 pub(crate) fn is_step(moment: &Moment, p: ProcNo, records: &[Record]) -> bool
     ensures { let m = seen moment.now in
-        IsTrue result ↔ (rules_of m.rules).Steps m.workload m.readings p records.now }
+        IsTrue result ↔ (rules_named m.rules).Steps m.workload m.readings p records.now }
 {
     match moment.rules() {
-        Rules::FastThreads => is_fast_step(moment, p, records),
-        Rules::Priorities => is_ranked_step(moment, p, records),
+        RulesName::FastThreads => is_fast_step(moment, p, records),
+        RulesName::Priorities => is_ranked_step(moment, p, records),
+        RulesName::Any => is_any_step(moment, p, records),
     }
 }

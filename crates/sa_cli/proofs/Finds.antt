@@ -1,28 +1,26 @@
 -- An input of two texts is found to be one thing.
-use Rattle.std.proofs.Common.{◌≡◌, ℕ, ◌≤◌, List, [], ◌++◌, length, Option, Some, None, Ok, Err, refl, sym, ap, ◌∙◌, subst, arith, inl, inr, length-append}
-use Rattle.std.proofs.lemmas.List.{append-nil}
+use Rattle.std.proofs.Common.{◌≡◌, ◌⊎◌, ℕ, ◌≤◌, List, ◌++◌, length, Option, Ok, Err, sym, ap, ◌∙◌, subst, arith, inl, inr}
 use Rattle.std.specs.Prelude.{IfSome}
 use Rattle.sa_base.specs.declared.refusal.Bad.{Bad}
 use Rattle.sa_spaces.specs.Workload.{WorkloadView}
-use Rattle.sa_workload_lines.specs.Bad.{BadAt}
-use Rattle.sa_workload_lines.specs.Text.{IsText}
+use Rattle.sa_workload.specs.Bad.{BadAt}
+use Rattle.sa_workload.specs.Text.{IsText}
 use Rattle.sa_workload.proofs.whole.OneBad.{texts_differ}
 use Rattle.sa_trace.specs.Reading.{Told, read_of}
 use Rattle.sa_check.specs.declared.verdict.Verdict.{Verdict}
 use Rattle.sa_check.specs.Verdict.{IsVerdict}
-use Rattle.sa_check_moment.specs.declared.rules.Rules.{Rules}
-use Rattle.sa_check_moment.specs.Rules.{rules_of}
+use Rattle.sa_base.specs.declared.package.RulesName.{RulesName}
+use Rattle.sa_ranks.specs.Packages.{rules_named}
 use Rattle.sa_check.proofs.VerdictLemmas.{one-verdict}
 use Rattle.sa_cli.specs.declared.found.Found.{Found}
 use Rattle.sa_cli.specs.declared.found.Found.TheVariants.{Judged, BadWorkload, BadTrace}
 use Rattle.sa_input.specs.declared.limits.TheConstants.{TRACE_LIMIT}
 use Rattle.sa_io.specs.Input.{ReadsInput}
-use Rattle.sa_input.specs.Refusals.{too_long}
-use Rattle.sa_workload_lines.specs.Texts.{workload_part, second_part}
+use Rattle.sa_workload.specs.Texts.{workload_part, second_part}
 use Rattle.sa_input.specs.Parts.{HasWorkload, HasBadWorkload, HasBadTrace}
 use Rattle.sa_cli.specs.Texts.{last_told, IsJudged, IsFound}
 use Rattle.sa_cli.proofs.Inputs.{all-parted, refused-once, text-not_refused}
-use Rattle.sa_cli.proofs.Refusals.{long-front}
+use Rattle.sa_cli.proofs.Refusals.{long-on, read-on}
 
 one-workload : (input : List ℕ) (w v : WorkloadView) → HasWorkload input w → HasWorkload input v → w ≡ v
 one-workload input w v x y = texts_differ (workload_part input) w v x.is y.is
@@ -36,19 +34,19 @@ same-told input t u x y = let e = sym x ∙ y in cc
 same-refusal : (input : List ℕ) (a b : Bad) → read_of (second_part input) ≡ Err a → read_of (second_part input) ≡ Err b → a ≡ b
 same-refusal input a b x y = let e : Err a ≡ Err b = sym x ∙ y in cc
 
-one-judged : (rules : Rules) (input : List ℕ) (a b : Verdict) → IsJudged rules input a → IsJudged rules input b → a ≡ b
+one-judged : (rules : RulesName) (input : List ℕ) (a b : Verdict) → IsJudged rules input a → IsJudged rules input b → a ≡ b
 one-judged rules input a b x y =
     let told = same-told input x.told y.told x.read y.read in
-    let there : IsVerdict (rules_of rules) x.workload y.told.items (last_told y.told) a =
-    subst (λ (t : Told). IsVerdict (rules_of rules) x.workload t.items (last_told t) a) told x.holds in
-    let here : IsVerdict (rules_of rules) y.workload y.told.items (last_told y.told) a =
-    subst (λ (w : WorkloadView). IsVerdict (rules_of rules) w y.told.items (last_told y.told) a) (one-workload input x.workload y.workload x.has y.has) there in
-    one-verdict (rules_of rules) y.workload y.told.items (last_told y.told) a b here y.holds
+    let there : IsVerdict (rules_named rules) x.workload y.told.items (last_told y.told) a =
+    subst (λ (t : Told). IsVerdict (rules_named rules) x.workload t.items (last_told t) a) told x.holds in
+    let here : IsVerdict (rules_named rules) y.workload y.told.items (last_told y.told) a =
+    subst (λ (w : WorkloadView). IsVerdict (rules_named rules) w y.told.items (last_told y.told) a) (one-workload input x.workload y.workload x.has y.has) there in
+    one-verdict (rules_named rules) y.workload y.told.items (last_told y.told) a b here y.holds
 
-judged-not_bad : (rules : Rules) (input : List ℕ) (verdict : Verdict) (bad : Bad) → IsJudged rules input verdict → HasBadTrace input bad → ⊥
+judged-not_bad : (rules : RulesName) (input : List ℕ) (verdict : Verdict) (bad : Bad) → IsJudged rules input verdict → HasBadTrace input bad → ⊥
 judged-not_bad rules input verdict bad x y = let e : Ok x.told ≡ Err bad = sym x.read ∙ y.read in cc
 
-one-found : (rules : Rules) (input : List ℕ) (a b : Found) → IsFound rules input a → IsFound rules input b → a ≡ b
+pub one-found : (rules : RulesName) (input : List ℕ) (a b : Found) → IsFound rules input a → IsFound rules input b → a ≡ b
 one-found rules input (Judged a) (Judged b) x y = ap Judged (one-judged rules input a b x y)
 one-found rules input (Judged a) (BadWorkload b) x y = absurd (not-both input x.workload b x.has y)
 one-found rules input (Judged a) (BadTrace b) x (inl long) = let whole = x.has.whole in absurd (omega (arith, long.0))
@@ -66,34 +64,15 @@ one-found rules input (BadTrace a) (BadTrace b) (inl long) (inr wrong) = let who
 one-found rules input (BadTrace a) (BadTrace b) (inr wrong) (inl long) = let whole = wrong.has.whole in absurd (omega (arith, long.0))
 one-found rules input (BadTrace a) (BadTrace b) (inr x) (inr y) = ap BadTrace (same-refusal input a b x.read y.read)
 
--- the same of what a source told
-pub told-found_once : (rules : Rules) (left : Option (List ℕ)) (input : List ℕ) (a b : Found) → left ≡ Some input
-    → IfSome left (λ whole. IsFound rules whole a) → IsFound rules input b → a ≡ b
-told-found_once rules left input a b told found is =
-    let P : Option (List ℕ) → Type 0 = λ o. IfSome o (λ whole. IsFound rules whole a) in one-found rules input a b (subst P told found) is
-
--- what is found of an input that is not too long is not for its length
-whole-of : (rules : Rules) (input : List ℕ) (a : Found) → length input ≤ TRACE_LIMIT → IsFound rules input a
-    → (xs ys : List ℕ) → xs ≡ input ++ ys → ys ≡ [] → IsFound rules xs a
-whole-of rules input a short found xs ys is none =
-    let same : input ≡ xs = sym (is ∙ ap (λ v. input ++ v) none ∙ append-nil input) in
-    let P : List ℕ → Type 0 = λ v. IsFound rules v a in subst P same found
-
 -- what is found of the input as it was read is what it is found to be
-pub read-found : (rules : Rules) (before after : Option (List ℕ)) (bytes : List ℕ) (a : Found) → ReadsInput TRACE_LIMIT before after bytes → IsFound rules bytes a
+found-on : (rules : RulesName) (bytes : List ℕ) (a : Found) → IsFound rules bytes a
+    → (length bytes ≤ TRACE_LIMIT) ⊎ ((more : List ℕ) → IsFound rules (bytes ++ more) a)
+found-on rules bytes (Judged verdict) found = inl found.has.whole
+found-on rules bytes (BadWorkload bad) found = inl found.whole
+found-on rules bytes (BadTrace bad) (inl long) = inr (λ more. inl (long-on TRACE_LIMIT bytes more bad long))
+found-on rules bytes (BadTrace bad) (inr wrong) = inl wrong.has.whole
+
+pub read-found : (rules : RulesName) (before after : Option (List ℕ)) (bytes : List ℕ) (a : Found) → ReadsInput TRACE_LIMIT before after bytes → IsFound rules bytes a
     → IfSome before (λ whole. IsFound rules whole a)
-read-found rules None after bytes a reads found = tt
-read-found rules (Some xs) None bytes a reads found = absurd reads.taken
-read-found rules (Some xs) (Some ys) bytes (Judged verdict) reads found =
-    whole-of rules bytes (Judged verdict) found.has.whole found xs ys reads.taken (reads.end refl found.has.whole)
-read-found rules (Some xs) (Some ys) bytes (BadWorkload bad) reads found =
-    whole-of rules bytes (BadWorkload bad) found.whole found xs ys reads.taken (reads.end refl found.whole)
-read-found rules (Some xs) (Some ys) bytes (BadTrace bad) reads (inl long) =
-    let more = length-append bytes ys in
-    let len = ap length reads.taken in
-    inl (
-      omega (arith, long.0),
-      long.1 ∙ sym (ap (too_long TRACE_LIMIT) reads.taken ∙ long-front TRACE_LIMIT bytes ys (omega (arith, long.0))),
-    )
-read-found rules (Some xs) (Some ys) bytes (BadTrace bad) reads (inr wrong) =
-    whole-of rules bytes (BadTrace bad) wrong.has.whole (inr wrong) xs ys reads.taken (reads.end refl wrong.has.whole)
+read-found rules before after bytes a reads found =
+    read-on TRACE_LIMIT (λ whole. IsFound rules whole a) before after bytes reads found (found-on rules bytes a found)

@@ -1,6 +1,7 @@
 mod TracePieces
 mod Refusals
 mod Inputs
+mod ByStatus
 mod Finds
 mod Scripts
 mod ScriptCommands
@@ -11,6 +12,5 @@ mod SharedResults
 mod VirtualResults
 mod VpPieces
 mod Told
-mod Explorations
 mod Completeness
 mod TopCalls

@@ -14,8 +14,8 @@ use Rattle.sa_fast_laws.proofs.FastLaws.{fast_level}
 use Rattle.sa_prio_laws.proofs.PrioLaws.{prio_level}
 use Rattle.sa_package_runs.specs.Whole.{RunsSoFarAreLegal, WholeRunsAreLegal}
 use Rattle.sa_package_runs.proofs.Whole.{so-far-legal, whole-legal}
-use Rattle.sa_command.specs.declared.command.PackageWord.{PackageWord}
-use Rattle.sa_command.specs.declared.command.PackageWord.TheVariants.{Fast, Prio}
+use Rattle.sa_base.specs.declared.package.PackageName.{PackageName}
+use Rattle.sa_base.specs.declared.package.PackageName.TheVariants.{FastThreads, Priorities}
 use Rattle.sa_cli.specs.Packages.{PackageRuns, fast_runs, runs_of}
 
 -- a run of a user level's calls that came so far without an end has not ended as defined
@@ -38,6 +38,6 @@ pub record AreKept (runs : PackageRuns) : Type 0 where
 pub fast-kept : AreKept fast_runs
 fast-kept = record { came = so-far-legal fast_level; unended = unended-so fast_level; ended = whole-legal fast_level }
 
-pub kept-by : (word : PackageWord) → AreKept (runs_of word)
-kept-by Fast = fast-kept
-kept-by Prio = record { came = so-far-legal prio_level; unended = unended-so prio_level; ended = whole-legal prio_level }
+pub kept-by : (word : PackageName) → AreKept (runs_of word)
+kept-by FastThreads = fast-kept
+kept-by Priorities = record { came = so-far-legal prio_level; unended = unended-so prio_level; ended = whole-legal prio_level }

@@ -5,7 +5,7 @@ use Rattle.sa_base.specs.declared.record.Item.{Item}
 use Rattle.sa_base.specs.declared.record.End.{End}
 use Rattle.sa_base.specs.declared.record.End.TheVariants as end
 use Rattle.sa_spaces.specs.Workload.{WorkloadView, IsWorkload}
-use Rattle.sa_workload_lines.specs.Text.{IsText}
+use Rattle.sa_workload.specs.Text.{IsText}
 use Rattle.sa_run.specs.Run.{RunsTo, RunsUnended}
 use Rattle.sa_command.specs.declared.command.Command.{Command}
 use Rattle.sa_command.specs.declared.command.Command.TheVariants.{Migrate, Check, Explore}
@@ -17,6 +17,7 @@ use Rattle.sa_cli.specs.Outcome.{status_of_end, history}
 use Rattle.sa_cli.specs.Input.{GaveText}
 use Rattle.sa_cli.specs.Answers.{World, Plan, Ended, Came, RunAnswers, TookAll, TookSome, Writes}
 use Rattle.sa_cli.specs.Commands.{AnswersRun, Answers}
+use Rattle.sa_cli.proofs.ByStatus.{by-writes}
 use Rattle.sa_cli.proofs.Packages.{AreKept}
 
 -- what a run answers, `run` answers
@@ -55,12 +56,10 @@ module _ (mine : WorkloadView → Type 0) (plan : Plan) (kept : AreKept plan.run
       → RunsTo plan.runs.calls w (plan.order w) plan.budget items e events
       → Writes old.taken new.taken old.writes new.writes (plan.shown items e events) (status_of_end e) status
       → RunAnswers mine plan old new items status
-  written-answers items w e events status is ok runs (inl whole) =
-      subst (λ (v : Status). RunAnswers mine plan old new items v) (sym whole.0)
-      (ended-written items e (ended-so items w e events (TookAll old new) is ok runs whole.1))
-  written-answers items w e events status is ok runs (inr cut) =
-      subst (λ (v : Status). RunAnswers mine plan old new items v) (sym cut.0)
-      (cut.1, (e, ended-so items w e events (TookSome old new) is ok runs cut.2))
+  written-answers items w e events status is ok runs writes =
+      by-writes (λ (v : Status). RunAnswers mine plan old new items v) old new (plan.shown items e events) (status_of_end e) status writes
+      (λ all. ended-written items e (ended-so items w e events (TookAll old new) is ok runs all))
+      (λ risen some. (risen, (e, ended-so items w e events (TookSome old new) is ok runs some)))
 
   -- what is answered of a run that ended, where the machine that ran has this trace
   pub ended-answers : (ran : Ran) (trace : Recorded) (w : WorkloadView) (e : End) (events : ℕ) (status : Status) → ran ≡ Plain trace → mine w → IsWorkload w
@@ -85,6 +84,6 @@ module _ (mine : WorkloadView → Type 0) (plan : Plan) (kept : AreKept plan.run
 -- no command is answered as words that are none
 pub not-usage : (command : Command) (old new : World) (ran : Ran) → Answers command old new ran Usage → ⊥
 not-usage (Migrate slice) old new ran answers = answers.1
-not-usage (Check user_level) old new ran answers = answers.1
+not-usage (Check rules) old new ran answers = answers.1
 not-usage (Explore states user_level give) old new ran answers = answers.1
 not-usage _ old new ran answers = answers

@@ -1,11 +1,9 @@
 -- An input of a workload and a script is found to be one thing.
-use Rattle.std.proofs.Common.{◌≡◌, ℕ, List, [], ◌++◌, length, Option, Some, None, Ok, Err, refl, sym, ap, ◌∙◌, subst, arith, inl, inr, length-append}
-use Rattle.std.proofs.lemmas.List.{append-nil}
-use Rattle.std.specs.Prelude.{IfSome}
+use Rattle.std.proofs.Common.{◌≡◌, ◌⊎◌, ℕ, ◌≤◌, List, ◌++◌, length, Option, Ok, Err, refl, sym, ap, ◌∙◌, arith, inl, inr}
 use Rattle.sa_base.specs.declared.refusal.Bad.{Bad}
 use Rattle.sa_spaces.specs.Workload.{WorkloadView}
-use Rattle.sa_workload_lines.specs.Bad.{BadAt}
-use Rattle.sa_workload_lines.specs.Text.{IsText}
+use Rattle.sa_workload.specs.Bad.{BadAt}
+use Rattle.sa_workload.specs.Text.{IsText}
 use Rattle.sa_workload.proofs.whole.OneBad.{texts_differ}
 use Rattle.sa_debug.specs.declared.script.command.DebugCommand.{DebugCommand}
 use Rattle.sa_debug.specs.script.Reading.{script_of}
@@ -18,10 +16,10 @@ use Rattle.sa_cli.specs.Complete.{Debugs}
 use Rattle.sa_cli.specs.Debugging.{BeginsWith, IsScriptOf, RefusesWorkload, RefusesScript, Scripted, IsScripted, status_of_scripted, GaveScripted, AnswersDebug}
 use Rattle.sa_cli.specs.Debugging.Scripted.{Accepted, BadWorkload, BadScript}
 use Rattle.sa_io.specs.Input.{ReadsInput}
-use Rattle.sa_input.specs.Refusals.{too_long}
-use Rattle.sa_workload_lines.specs.Texts.{workload_part, second_part}
+use Rattle.sa_workload.specs.Texts.{workload_part, second_part}
 use Rattle.sa_cli.proofs.Inputs.{all-parted, refused-once, text-not_refused}
-use Rattle.sa_cli.proofs.Refusals.{long-front}
+use Rattle.sa_cli.proofs.Refusals.{long-on, read-on}
+use Rattle.sa_cli.proofs.ByStatus.{SaysFound, found-complete}
 
 one-workload : (input : List ℕ) (w v : WorkloadView) → BeginsWith input w → BeginsWith input v → w ≡ v
 one-workload input w v x y = texts_differ (workload_part input) w v x.is y.is
@@ -62,49 +60,29 @@ one-scripted input (BadScript a) (BadScript b) (inl long) (inr wrong) = let whol
 one-scripted input (BadScript a) (BadScript b) (inr wrong) (inl long) = let whole = wrong.has.whole in absurd (omega (arith, long.0))
 one-scripted input (BadScript a) (BadScript b) (inr x) (inr y) = ap BadScript (one-refusal input a b x y)
 
--- the same of what a source told
-told-once : (left : Option (List ℕ)) (input : List ℕ) (a b : Scripted) → left ≡ Some input
-    → IfSome left (λ whole. IsScripted whole a) → IsScripted input b → a ≡ b
-told-once left input a b told found is =
-    let P : Option (List ℕ) → Type 0 = λ o. IfSome o (λ whole. IsScripted whole a) in one-scripted input a b (subst P told found) is
-
-whole-of : (input : List ℕ) (a : Scripted) → IsScripted input a → (xs ys : List ℕ) → xs ≡ input ++ ys → ys ≡ [] → IsScripted xs a
-whole-of input a found xs ys is none =
-    let same : input ≡ xs = sym (is ∙ ap (λ v. input ++ v) none ∙ append-nil input) in
-    let P : List ℕ → Type 0 = λ v. IsScripted v a in subst P same found
-
 -- what is found of the input as it was read is what it is found to be
-read-scripted : (before after : Option (List ℕ)) (bytes : List ℕ) (a : Scripted) → ReadsInput SCRIPT_LIMIT before after bytes → IsScripted bytes a
-    → IfSome before (λ whole. IsScripted whole a)
-read-scripted None after bytes a reads found = tt
-read-scripted (Some xs) None bytes a reads found = absurd reads.taken
-read-scripted (Some xs) (Some ys) bytes (Accepted w cs) reads found =
-    whole-of bytes (Accepted w cs) found xs ys reads.taken (reads.end refl found.has.whole)
-read-scripted (Some xs) (Some ys) bytes (BadWorkload bad) reads found =
-    whole-of bytes (BadWorkload bad) found xs ys reads.taken (reads.end refl found.whole)
-read-scripted (Some xs) (Some ys) bytes (BadScript bad) reads (inl long) =
-    let more = length-append bytes ys in
-    let len = ap length reads.taken in
-    inl (
-      omega (arith, long.0),
-      long.1 ∙ sym (ap (too_long SCRIPT_LIMIT) reads.taken ∙ long-front SCRIPT_LIMIT bytes ys (omega (arith, long.0))),
-    )
-read-scripted (Some xs) (Some ys) bytes (BadScript bad) reads (inr wrong) =
-    whole-of bytes (BadScript bad) (inr wrong) xs ys reads.taken (reads.end refl wrong.has.whole)
+scripted-on : (bytes : List ℕ) (a : Scripted) → IsScripted bytes a → (length bytes ≤ SCRIPT_LIMIT) ⊎ ((more : List ℕ) → IsScripted (bytes ++ more) a)
+scripted-on bytes (Accepted w cs) found = inl found.has.whole
+scripted-on bytes (BadWorkload bad) found = inl found.whole
+scripted-on bytes (BadScript bad) (inl long) = inr (λ more. inl (long-on SCRIPT_LIMIT bytes more bad long))
+scripted-on bytes (BadScript bad) (inr wrong) = inl wrong.has.whole
 
 pub gave-scripted : (before after : Option (List ℕ)) (bytes : List ℕ) (a : Scripted) → ReadsInput SCRIPT_LIMIT before after bytes → IsScripted bytes a
     → GaveScripted before after a
-gave-scripted before after bytes a reads is = record { input = bytes; reads = reads; is = is; told = read-scripted before after bytes a reads is }
+gave-scripted before after bytes a reads is =
+    let told = read-on SCRIPT_LIMIT (λ whole. IsScripted whole a) before after bytes reads is (scripted-on bytes a is) in
+    record { input = bytes; reads = reads; is = is; told = told }
 
 -- `debug` is complete
+debug-says : (budget : ℕ) (old new : World) (ran : Ran) (s : Status) → AnswersDebug budget old new ran s → SaysFound IsScripted status_of_scripted old new s
+debug-says budget old new ran status.Quit answers = (Accepted answers.workload answers.commands, refl, answers.gave.told)
+debug-says budget old new ran (status.BadWorkload bad) answers = (BadWorkload bad, refl, answers.0.told)
+debug-says budget old new ran (status.BadScript bad) answers = (BadScript bad, refl, answers.0.told)
+debug-says budget old new ran status.OutOfMemory answers = tt
+debug-says budget old new ran status.ReadFault answers = answers.0
+debug-says budget old new ran status.WriteFault answers = answers.0
+debug-says budget old new ran _ answers = absurd answers
+
 pub debug-debugs : (budget : ℕ) (old new : World) (ran : Ran) (s : Status) → AnswersDebug budget old new ran s → Debugs old new s
-debug-debugs budget old new ran status.Quit answers = λ input found told is reads writes.
-    inl (ap status_of_scripted (told-once old.left input (Accepted answers.workload answers.commands) found told answers.gave.told is))
-debug-debugs budget old new ran (status.BadWorkload bad) answers = λ input found told is reads writes.
-    inl (ap status_of_scripted (told-once old.left input (BadWorkload bad) found told answers.0.told is))
-debug-debugs budget old new ran (status.BadScript bad) answers = λ input found told is reads writes.
-    inl (ap status_of_scripted (told-once old.left input (BadScript bad) found told answers.0.told is))
-debug-debugs budget old new ran status.OutOfMemory answers = λ input found told is reads writes. inr refl
-debug-debugs budget old new ran status.ReadFault answers = λ input found told is reads writes. absurd (reads answers.0)
-debug-debugs budget old new ran status.WriteFault answers = λ input found told is reads writes. absurd (writes answers.0)
-debug-debugs budget old new ran _ answers = absurd answers
+debug-debugs budget old new ran s answers =
+    found-complete IsScripted status_of_scripted one-scripted old new s (debug-says budget old new ran s answers)

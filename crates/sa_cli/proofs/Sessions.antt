@@ -1,16 +1,14 @@
 -- What the parts of `debug` say together.
-use Rattle.std.proofs.Common.{◌≡◌, ℕ, List, [], ◌++◌, Option, refl, sym, ap, subst, inl, inr, append-nil}
+use Rattle.std.proofs.Common.{◌≡◌, ℕ, List, [], ◌++◌, Option, sym, subst, append-nil}
 use Rattle.sa_base.specs.Recorded.{Recorded}
 use Rattle.sa_base.specs.declared.record.End.{End}
 use Rattle.sa_base.specs.declared.refusal.Bad.{Bad}
-use Rattle.sa_io.specs.Faults.{HasRisen, AppendsPrefix}
+use Rattle.sa_io.specs.Faults.{AppendsPrefix}
 use Rattle.sa_io.specs.Pieces.{GoesOut}
 use Rattle.sa_io.proofs.PieceLemmas.{out-none, out-cut}
 use Rattle.sa_trace.specs.TraceText.{trace_text}
-use Rattle.sa_cli.specs.declared.debug.Stopped.TheVariants as stopped
+use Rattle.sa_cli.specs.declared.debug.NoSession.TheVariants as stopped
 use Rattle.sa_input.specs.declared.limits.TheConstants.{SCRIPT_LIMIT}
-use Rattle.sa_io.specs.declared.input.ReadError.{ReadError}
-use Rattle.sa_io.specs.declared.input.ReadError.TheVariants as read
 use Rattle.sa_cli.specs.declared.outcome.Ran.{Ran}
 use Rattle.sa_cli.specs.declared.outcome.Ran.TheVariants.{Nothing, Plain}
 use Rattle.sa_cli.specs.declared.outcome.Status.{Status}
@@ -19,8 +17,9 @@ use Rattle.sa_cli.specs.Answers.{World, TookAll, TookSome, Writes}
 use Rattle.sa_cli.specs.Debugging.{Debugged, AnswersDebug}
 use Rattle.sa_cli.specs.Debugging.Scripted.{Accepted, BadScript}
 use Rattle.sa_io.specs.Input.{ReadsInput}
-use Rattle.sa_cli.specs.Outcome.{history, status_of}
+use Rattle.sa_cli.specs.Outcome.{history}
 use Rattle.sa_cli.specs.Scripted.{IsDone, IsStopped}
+use Rattle.sa_cli.proofs.ByStatus.{by-writes}
 use Rattle.sa_cli.proofs.Scripts.{gave-scripted}
 
 -- the first text is cut, or the second one after it
@@ -51,10 +50,8 @@ module _ (budget : ℕ) (old new : World) where
         over = done.over;
         went = went;
       }) in
-      elim wrote [
-        | inl all ↦ subst (λ (x : Status). AnswersDebug budget old new ran x) (sym all.0) (debugged (TookAll old new) all.1)
-        | inr some ↦ subst (λ (x : Status). AnswersDebug budget old new ran x) (sym some.0) (some.1, debugged (TookSome old new) some.2)
-      ]
+      by-writes (λ (x : Status). AnswersDebug budget old new ran x) old new (replies ++ trace_text trace.items end events) status.Quit s wrote
+      (debugged (TookAll old new)) (λ risen some. (risen, debugged (TookSome old new) some))
 
   -- a refusal
   pub script-answers : (bytes : List ℕ) (bad : Bad) (ran : Ran) (s : Status) → ReadsInput SCRIPT_LIMIT old.left new.left bytes

@@ -1,15 +1,20 @@
 -- What is promised of a command, from what its parts say.
-use Rattle.std.proofs.Common.{◌≡◌, Option, Some, None, refl, subst, arith}
+use Rattle.std.proofs.Common.{◌≡◌, ℕ, List, Option, Some, None, Result, Ok, Err, refl, sym, subst, arith}
+use Rattle.std.specs.declared.string.String.{String}
+use Rattle.std.specs.declared.vec.IntoIter.{IntoIter}
+use Rattle.std.specs.declared.io.Error.{Error}
+use Rattle.sa_io.specs.Words.{AreWords}
 use Rattle.sa_io.proofs.InputLemmas.{loses-nothing}
+use Rattle.sa_command.specs.Commands.{command_of}
 use Rattle.sa_command.specs.declared.command.Command.{Command}
 use Rattle.sa_cli.specs.declared.outcome.Outcome.{Outcome}
 use Rattle.sa_cli.specs.declared.outcome.Ran.TheVariants.{Nothing}
 use Rattle.sa_cli.specs.declared.outcome.Status.{Status}
 use Rattle.sa_cli.specs.declared.outcome.Status.TheVariants.{Usage}
 use Rattle.sa_cli.specs.Answers.{World}
-use Rattle.sa_cli.specs.Commands.{Answers, CanHaveRun, ReadsNothing, most_read}
+use Rattle.sa_cli.specs.Commands.{Answers, CanHaveRun, ReadsNothing, SearchesNothing, most_read}
 use Rattle.sa_cli.specs.Streams.{Streams, UsesStreams}
-use Rattle.sa_cli.specs.TopCall.{DoesTheCommand}
+use Rattle.sa_cli.specs.TopCall.{DoesTheCommand, AsksForNoSearch}
 use Rattle.sa_cli.proofs.Results.{not-usage}
 use Rattle.sa_cli.proofs.Completeness.{answers-complete}
 
@@ -55,3 +60,9 @@ does-nothing {world_of = world_of} {both = both} usage ran = record {
   answers = tt;
   complete = tt;
 }
+
+-- the words of arguments that ask for nothing that searches ask for nothing that does
+pub no-search : {Z A : Type 0} (args : Result (IntoIter (String Z) A) Error) (words : List (List ℕ)) → AreWords args (Ok words) → AsksForNoSearch args
+    → SearchesNothing (command_of words)
+no-search (Ok it) words are none = subst (λ (ws : List (List ℕ)). SearchesNothing (command_of ws)) (sym are) none
+no-search (Err error) words are none = absurd are

@@ -5,10 +5,10 @@ use Rattle.sa_io.specs.Faults.{HasRisen}
 use Rattle.sa_sched.specs.Order.{RoundRobin}
 use Rattle.sa_gen.specs.Generated.{generated}
 use Rattle.sa_trace.specs.TraceText.{trace_text, last_line_of}
-use Rattle.sa_workload_lines.specs.Text.{IsText}
-use Rattle.sa_workload_lines.specs.Bad.{BadAt, BadAt1}
+use Rattle.sa_workload.specs.Text.{IsText}
+use Rattle.sa_workload.specs.Bad.{BadAt, BadAt1}
 use Rattle.sa_command.specs.declared.command.ScheduleWord.{ScheduleWord}
-use Rattle.sa_command.specs.declared.command.PackageWord.{PackageWord}
+use Rattle.sa_base.specs.declared.package.PackageName.{PackageName}
 use Rattle.sa_command.specs.declared.command.Command.{Command}
 use Rattle.sa_command.specs.declared.command.Command.TheVariants.{Run, Threads, Load, Migrate, Check, Vp, Debug, Explore}
 use Rattle.sa_cli.specs.declared.outcome.Ran.{Ran}
@@ -19,7 +19,7 @@ use Rattle.sa_input.specs.declared.limits.TheConstants.{WORKLOAD_LIMIT, TRACE_LI
 use Rattle.sa_cli.specs.Outcome.{history, RanHere, RanShared}
 use Rattle.sa_cli.specs.Input.{GaveText, GaveSliced}
 use Rattle.sa_cli.specs.Refusals.{IsRefused}
-use Rattle.sa_check_moment.specs.declared.rules.Rules.{Rules}
+use Rattle.sa_base.specs.declared.package.RulesName.{RulesName}
 use Rattle.sa_check.specs.declared.verdict.Verdict.{Verdict}
 use Rattle.sa_check.specs.declared.verdict.Verdict.TheVariants.{Legal}
 use Rattle.sa_check.specs.declared.verdict.Verdict.TheVariants as check
@@ -28,7 +28,7 @@ use Rattle.sa_cli.specs.declared.found.Found.TheVariants.{Judged}
 use Rattle.sa_cli.specs.declared.found.Found.TheVariants as found
 use Rattle.sa_cli.specs.Texts.{GaveFound}
 use Rattle.sa_cli.specs.Schedules.{order_by}
-use Rattle.sa_cli.specs.Packages.{fast_runs, runs_of, rules_by}
+use Rattle.sa_cli.specs.Packages.{fast_runs, runs_of}
 use Rattle.sa_cli.specs.Answers.{World, Plan, RunAnswers, TookAll, TookSome}
 use Rattle.sa_cli.specs.Shared.{AnswersThreads}
 use Rattle.sa_cli.specs.Virtual.{AnswersVp}
@@ -37,7 +37,7 @@ use Rattle.sa_cli.specs.Exploring.{ExploreAnswers}
 
 -- `run`: the workload is that of which the source gave the text, the user level that of the word, and the whole trace text
 -- is written
-abbrev pub run_plan : ScheduleWord → ℕ → PackageWord → Plan
+abbrev pub run_plan : ScheduleWord → ℕ → PackageName → Plan
 run_plan schedule budget user_level = record { runs = runs_of user_level; order = order_by schedule; budget = budget; shown = trace_text }
 
 abbrev pub AnswersRun : Plan → World → World → List Item → Status → Type 0
@@ -67,11 +67,11 @@ MigrateAnswers slice old new OutOfMemory = ⊤
 MigrateAnswers slice old new other = ⊥
 
 -- `check`: the source gave two texts, and the line of the verdict by these rules is written; or one of them is refused
-pub record Judges (rules : Rules) (old new : World) (verdict : Verdict) (goes : List ℕ → Type 0) : Type 0 where
+pub record Judges (rules : RulesName) (old new : World) (verdict : Verdict) (goes : List ℕ → Type 0) : Type 0 where
   pub gave : GaveFound rules old.left new.left (Judged verdict)
   pub went : goes (line_of rules verdict)
 
-abbrev pub CheckAnswers : Rules → World → World → Status → Type 0
+abbrev pub CheckAnswers : RulesName → World → World → Status → Type 0
 CheckAnswers rules old new ReadFault = HasRisen old.reads new.reads
 CheckAnswers rules old new (BadWorkload bad) = GaveFound rules old.left new.left (found.BadWorkload bad)
 CheckAnswers rules old new (BadTrace bad) = GaveFound rules old.left new.left (found.BadTrace bad)
@@ -87,7 +87,7 @@ Answers (Run schedule budget user_level) old new ran status = AnswersRun (run_pl
 Answers (Threads budget burst) old new ran status = AnswersThreads budget old new ran status
 Answers (Load number budget) old new ran status = AnswersLoad number budget old new (history ran) status
 Answers (Migrate slice) old new ran status = (ran ≡ Nothing) × MigrateAnswers slice old new status
-Answers (Check user_level) old new ran status = (ran ≡ Nothing) × CheckAnswers (rules_by user_level) old new status
+Answers (Check rules) old new ran status = (ran ≡ Nothing) × CheckAnswers rules old new status
 Answers (Vp schedule budget) old new ran status = AnswersVp schedule budget old new (history ran) status
 Answers (Debug budget) old new ran status = AnswersDebug budget old new ran status
 Answers (Explore states user_level give) old new ran status = (ran ≡ Nothing) × ExploreAnswers states user_level give old new status
@@ -109,10 +109,15 @@ abbrev pub ReadsNothing : Option Command → Type 0
 ReadsNothing (Some (Load number budget)) = ⊤
 ReadsNothing other = ⊥
 
+-- the commands that search nothing, so that there is nothing to tell of how far a search has come
+abbrev pub SearchesNothing : Option Command → Type 0
+SearchesNothing (Some (Explore states user_level give)) = ⊥
+SearchesNothing other = ⊤
+
 -- the most bytes that a command takes of its source: one more than the limit of its input
 abbrev pub most_read : Option Command → ℕ
 most_read None = 0
 most_read (Some (Load number budget)) = 0
-most_read (Some (Check user_level)) = TRACE_LIMIT + 1
+most_read (Some (Check rules)) = TRACE_LIMIT + 1
 most_read (Some (Debug budget)) = SCRIPT_LIMIT + 1
 most_read (Some other) = WORKLOAD_LIMIT + 1

@@ -3,8 +3,8 @@ use Rattle.std.specs.Prelude.{◌≡◌, ◌⊎◌, ⊤, ℕ, ◌≤◌, List, l
 use Rattle.sa_base.specs.declared.refusal.Bad.{Bad}
 use Rattle.sa_spaces.specs.Workload.{WorkloadView}
 use Rattle.sa_io.specs.Faults.{HasRisen}
-use Rattle.sa_workload_lines.specs.Text.{IsText, IsText1}
-use Rattle.sa_workload_lines.specs.Bad.{BadAt, BadAt1}
+use Rattle.sa_workload.specs.Text.{IsText, IsText1}
+use Rattle.sa_workload.specs.Bad.{BadAt, BadAt1}
 use Rattle.sa_command.specs.declared.command.Command.{Command}
 use Rattle.sa_command.specs.declared.command.Command.TheVariants.{Run, Threads, Load, Migrate, Check, Vp, Debug, Explore}
 use Rattle.sa_cli.specs.declared.outcome.Status.{Status}
@@ -12,8 +12,7 @@ use Rattle.sa_cli.specs.declared.outcome.Status.TheVariants.{BadWorkload, OutOfM
 use Rattle.sa_input.specs.declared.limits.TheConstants.{WORKLOAD_LIMIT}
 use Rattle.sa_cli.specs.Input.{Texts}
 use Rattle.sa_input.specs.Refusals.{Badness, IsInputRefused}
-use Rattle.sa_check_moment.specs.declared.rules.Rules.{Rules}
-use Rattle.sa_cli.specs.Packages.{rules_by}
+use Rattle.sa_base.specs.declared.package.RulesName.{RulesName}
 use Rattle.sa_cli.specs.declared.found.Found.{Found}
 use Rattle.sa_cli.specs.Texts.{IsFound}
 use Rattle.sa_cli.specs.Outcome.{HasEnded, HasExplored, status_of_found}
@@ -39,7 +38,7 @@ Refuses is_bad old new status =
     → NoReadFailed old new → (status ≡ BadWorkload bad) ⊎ (status ≡ OutOfMemory)
 
 -- two texts are answered with what they are found to be by these rules, unless memory runs out
-abbrev pub Finds : Rules → World → World → Status → Type 0
+abbrev pub Finds : RulesName → World → World → Status → Type 0
 Finds rules old new status =
     (input : List ℕ) (found : Found) → old.left ≡ Some input → IsFound rules input found
     → NoReadFailed old new → NoWriteFailed old new → (status ≡ status_of_found found) ⊎ (status ≡ OutOfMemory)
@@ -55,7 +54,7 @@ IsComplete (Run schedule budget user_level) old new status = Takes IsText old ne
 IsComplete (Threads budget burst) old new status = Takes IsText old new status (HasEnded status) × Refuses BadAt old new status
 IsComplete (Load number budget) old new status = NoWriteFailed old new → HasEnded status ⊎ (status ≡ OutOfMemory)
 IsComplete (Migrate slice) old new status = Takes IsText1 old new status (status ≡ Migrated) × Refuses BadAt1 old new status
-IsComplete (Check user_level) old new status = Finds (rules_by user_level) old new status
+IsComplete (Check rules) old new status = Finds rules old new status
 IsComplete (Vp schedule budget) old new status = Takes IsText old new status (HasEnded status) × Refuses BadAt old new status
 IsComplete (Debug budget) old new status = Debugs old new status
 IsComplete (Explore states user_level give) old new status = Takes IsText old new status (HasExplored status) × Refuses BadAt old new status

@@ -5,8 +5,8 @@ use Rattle.sa_base.specs.declared.record.Item.{Item}
 use Rattle.sa_base.specs.declared.refusal.Bad.{Bad}
 use Rattle.sa_io.specs.Faults.{HasRisen}
 use Rattle.sa_spaces.specs.Workload.{WorkloadView}
-use Rattle.sa_workload_lines.specs.Text.{IsText}
-use Rattle.sa_workload_lines.specs.Bad.{BadAt}
+use Rattle.sa_workload.specs.Text.{IsText}
+use Rattle.sa_workload.specs.Bad.{BadAt}
 use Rattle.sa_trace.specs.TraceText.{trace_text}
 use Rattle.sa_debug.specs.declared.script.command.DebugCommand.{DebugCommand}
 use Rattle.sa_debug.specs.script.Reading.{script_of}
@@ -20,7 +20,7 @@ use Rattle.sa_cli.specs.declared.outcome.Status.TheVariants as status
 use Rattle.sa_io.specs.Input.{ReadsInput}
 use Rattle.sa_cli.specs.Outcome.{history}
 use Rattle.sa_input.specs.Refusals.{IsInputRefused, too_long}
-use Rattle.sa_workload_lines.specs.Texts.{workload_part, second_part}
+use Rattle.sa_workload.specs.Texts.{workload_part, second_part}
 use Rattle.sa_cli.specs.Answers.{World, TookAll, TookSome}
 
 -- the first part is the text of this workload, and the whole is not too long

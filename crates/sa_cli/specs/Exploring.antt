@@ -1,8 +1,8 @@
 -- What `explore` answers: the workload is that of which the source gave the text, and every order of its turns was gone through.
 use Rattle.std.specs.Prelude.{◌≡◌, ⊤, ℕ, ◌||◌, Bool, true, false, if◌then◌else◌, List, Option, Some, None, is_some}
 use Rattle.sa_spaces.specs.Workload.{WorkloadView}
-use Rattle.sa_workload_lines.specs.Text.{IsText}
-use Rattle.sa_workload_lines.specs.Bad.{BadAt}
+use Rattle.sa_workload.specs.Text.{IsText}
+use Rattle.sa_workload.specs.Bad.{BadAt}
 use Rattle.sa_io.specs.Faults.{HasRisen}
 use Rattle.sa_package_model.specs.Step.{fast_calls}
 use Rattle.sa_prio_model.specs.Step.{prio_calls}
@@ -15,8 +15,8 @@ use Rattle.sa_explore_run.specs.declared.answer.Wait.{Wait}
 use Rattle.sa_explore_run.specs.Text.{explored_text}
 use Rattle.sa_explore_run.specs.GivenText.{workload_text, IsReady}
 use Rattle.sa_explore_run.specs.Answer.{IsAnswer}
-use Rattle.sa_command.specs.declared.command.PackageWord.{PackageWord}
-use Rattle.sa_command.specs.declared.command.PackageWord.TheVariants.{Fast, Prio}
+use Rattle.sa_base.specs.declared.package.PackageName.{PackageName}
+use Rattle.sa_base.specs.declared.package.PackageName.TheVariants.{FastThreads, Priorities}
 use Rattle.sa_command.specs.declared.command.GiveWord.{GiveWord}
 use Rattle.sa_command.specs.declared.command.GiveWord.TheVariants.{AllDone, Stuck, Endless}
 use Rattle.sa_cli.specs.declared.outcome.Finding.{Finding}
@@ -28,9 +28,9 @@ use Rattle.sa_cli.specs.Refusals.{IsRefused}
 use Rattle.sa_cli.specs.Answers.{World, TookAll, TookSome}
 
 -- the search of a workload with the user level of a word found this, and these threads wait at the end of the schedule to a stuck end
-abbrev pub Finds : PackageWord → WorkloadView → ℕ → Explored → List Wait → Type 0
-Finds Fast w states x waits = IsAnswer fast_calls plain w states x waits
-Finds Prio w states x waits = IsAnswer prio_calls plain_prio w states x waits
+abbrev pub Finds : PackageName → WorkloadView → ℕ → Explored → List Wait → Type 0
+Finds FastThreads w states x waits = IsAnswer fast_calls plain w states x waits
+Finds Priorities w states x waits = IsAnswer prio_calls plain_prio w states x waits
 
 -- what was found of what a word asks for
 abbrev pub found_by : GiveWord → Explored → Option Found
@@ -57,7 +57,7 @@ abbrev pub finding_of : Explored → Finding
 finding_of x = if is_some x.stuck then say.Stuck else (if is_part x.extent || is_some x.endless then say.Open else say.Clear)
 
 -- the source gave the text of a workload; of its search this is to be written, and this is what is said of it
-pub record GaveExplored (states : ℕ) (user_level : PackageWord) (give : Option GiveWord) (before after : Option (List ℕ)) (bytes : List ℕ) (said : Finding)
+pub record GaveExplored (states : ℕ) (user_level : PackageName) (give : Option GiveWord) (before after : Option (List ℕ)) (bytes : List ℕ) (said : Finding)
     : Type 0 where
   pub workload : WorkloadView
   pub gave : GaveText IsText before after workload
@@ -69,13 +69,13 @@ pub record GaveExplored (states : ℕ) (user_level : PackageWord) (give : Option
   pub finding : said ≡ finding_of explored
 
 -- the text went to the sink in this way
-pub record Explores (states : ℕ) (user_level : PackageWord) (give : Option GiveWord) (old new : World) (goes : List ℕ → Type 0) (said : Finding)
+pub record Explores (states : ℕ) (user_level : PackageName) (give : Option GiveWord) (old new : World) (goes : List ℕ → Type 0) (said : Finding)
     : Type 0 where
   pub text : List ℕ
   pub gave : GaveExplored states user_level give old.left new.left text said
   pub went : goes text
 
-abbrev pub ExploreAnswers : ℕ → PackageWord → Option GiveWord → World → World → Status → Type 0
+abbrev pub ExploreAnswers : ℕ → PackageName → Option GiveWord → World → World → Status → Type 0
 ExploreAnswers states user_level give old new status.ReadFault = HasRisen old.reads new.reads
 ExploreAnswers states user_level give old new (status.BadWorkload bad) = IsRefused BadAt old.left bad
 ExploreAnswers states user_level give old new (status.Explored said) = Explores states user_level give old new (TookAll old new) said

@@ -2,7 +2,7 @@
 use Rattle.std.specs.Prelude.{◌≡◌, ℕ, ◌≤◌, List, length, Option, IsSome, IfSome}
 use Rattle.std.specs.Io.KnownBytes.{Consumes, IsAtEnd}
 use Rattle.sa_spaces.specs.Workload.{WorkloadView}
-use Rattle.sa_workload_lines.specs.Text.{IsText1, text_of}
+use Rattle.sa_workload.specs.Text.{IsText1, text_of}
 use Rattle.sa_input.specs.declared.limits.TheConstants.{WORKLOAD_LIMIT}
 
 -- which bytes are the text of which workload

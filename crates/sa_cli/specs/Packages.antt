@@ -8,10 +8,8 @@ use Rattle.sa_package_model.specs.Step.{fast_calls}
 use Rattle.sa_prio_model.specs.Prio.{Prio}
 use Rattle.sa_prio_model.specs.declared.context.PrioContext.{PrioContext}
 use Rattle.sa_prio_model.specs.Step.{prio_calls}
-use Rattle.sa_check_moment.specs.declared.rules.Rules.{Rules}
-use Rattle.sa_check_moment.specs.declared.rules.Rules.TheVariants.{FastThreads, Priorities}
-use Rattle.sa_command.specs.declared.command.PackageWord.{PackageWord}
-use Rattle.sa_command.specs.declared.command.PackageWord.TheVariants as word
+use Rattle.sa_base.specs.declared.package.PackageName.{PackageName}
+use Rattle.sa_base.specs.declared.package.PackageName.TheVariants.{FastThreads, Priorities}
 
 -- a user level by its calls, and its rules
 pub record PackageRuns : Type 1 where
@@ -28,12 +26,7 @@ fast_runs = record { Value = Package; Held = Context; calls = fast_calls; rules 
 abbrev pub prio_runs : PackageRuns
 prio_runs = record { Value = Prio; Held = PrioContext; calls = prio_calls; rules = prio_threads }
 
--- the user level of a word
-abbrev pub runs_of : PackageWord → PackageRuns
-runs_of word.Fast = fast_runs
-runs_of word.Prio = prio_runs
-
--- the rules by which the checker judges a run of it
-abbrev pub rules_by : PackageWord → Rules
-rules_by word.Fast = FastThreads
-rules_by word.Prio = Priorities
+-- the user level of a name
+abbrev pub runs_of : PackageName → PackageRuns
+runs_of FastThreads = fast_runs
+runs_of Priorities = prio_runs

@@ -5,8 +5,8 @@ use Rattle.sa_base.specs.declared.record.Item.{Item}
 use Rattle.sa_spaces.specs.Workload.{WorkloadView}
 use Rattle.sa_debug.specs.declared.script.command.DebugCommand.{DebugCommand}
 use Rattle.sa_cli.specs.Debugged.{IsOver, RanSoFar}
-use Rattle.sa_cli.specs.declared.debug.Stopped.{Stopped}
-use Rattle.sa_cli.specs.declared.debug.Stopped.TheVariants.{BadWorkload, BadScript, OutOfMemory}
+use Rattle.sa_cli.specs.declared.debug.NoSession.{NoSession}
+use Rattle.sa_cli.specs.declared.debug.NoSession.TheVariants.{BadWorkload, BadScript, OutOfMemory}
 use Rattle.sa_cli.specs.Debugging.{IsScripted}
 use Rattle.sa_cli.specs.Debugging.Scripted.{Accepted, BadWorkload as NoWorkload, BadScript as NoScript}
 
@@ -24,7 +24,7 @@ pub record IsHalfDone (budget : ℕ) (input : List ℕ) (items : List Item) : Ty
   pub is : IsScripted input (Accepted workload commands)
   pub came : RanSoFar workload budget commands items
 
-abbrev pub IsStopped : ℕ → List ℕ → Stopped → Type 0
+abbrev pub IsStopped : ℕ → List ℕ → NoSession → Type 0
 IsStopped budget input (BadWorkload bad) = IsScripted input (NoWorkload bad)
 IsStopped budget input (BadScript bad) = IsScripted input (NoScript bad)
 IsStopped budget input (OutOfMemory trace) = (trace.items ≡ []) ⊎ IsHalfDone budget input trace.items

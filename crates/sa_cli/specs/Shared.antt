@@ -6,8 +6,8 @@ use Rattle.sa_base.specs.declared.record.End.TheVariants as end
 use Rattle.sa_io.specs.Faults.{HasRisen}
 use Rattle.sa_trace.specs.TraceText.{trace_text}
 use Rattle.sa_spaces.specs.Workload.{WorkloadView}
-use Rattle.sa_workload_lines.specs.Text.{IsText}
-use Rattle.sa_workload_lines.specs.Bad.{BadAt}
+use Rattle.sa_workload.specs.Text.{IsText}
+use Rattle.sa_workload.specs.Bad.{BadAt}
 use Rattle.sa_package_model.specs.Step.{fast_calls}
 use Rattle.sa_seat.specs.Closed.{ClosedView}
 use Rattle.sa_workers.specs.Run.{HasRun}

@@ -1,5 +1,5 @@
 -- What `run_one` and `run_threads` promise of a command, and the program of its arguments.
-use Rattle.std.specs.Prelude.{◌≡◌, ◌⊎◌, ◌↔◌, ◌≤◌, Option, None, Result, Ok, Err}
+use Rattle.std.specs.Prelude.{◌≡◌, ◌⊎◌, ◌↔◌, ◌≤◌, ⊤, Option, None, Result, Ok, Err}
 use Rattle.std.specs.declared.string.String.{String}
 use Rattle.std.specs.declared.vec.IntoIter.{IntoIter}
 use Rattle.std.specs.declared.io.Error.{Error}
@@ -16,7 +16,7 @@ use Rattle.sa_cli.specs.declared.outcome.Status.TheVariants.{Usage, OutOfMemory}
 use Rattle.sa_cli.specs.Outcome.{WritesNothing, status_of_no_words}
 use Rattle.sa_cli.specs.Answers.{World}
 use Rattle.sa_cli.specs.Streams.{Streams}
-use Rattle.sa_cli.specs.Commands.{AnswersTo, CanHaveRun, ReadsNothing, most_read}
+use Rattle.sa_cli.specs.Commands.{AnswersTo, CanHaveRun, ReadsNothing, SearchesNothing, most_read}
 use Rattle.sa_cli.specs.Complete.{IsCompleteTo}
 
 -- The outcome is an answer to the command, where the source and the sink were `before` and have become `after`.
@@ -55,3 +55,8 @@ abbrev pub DoesTheProgram : {S K Z A : Type 0} → (Streams S K → World) → R
 DoesTheProgram world_of (Ok args) before after outcome =
     DoesNothing OutOfMemory before after outcome ⊎ DoesTheCommand world_of (command_of (words_after_name (into_iter_items args))) before after outcome
 DoesTheProgram world_of (Err error) before after outcome = DoesNothing (status_of_no_words (without_words (error_kind error))) before after outcome
+
+-- The arguments ask for nothing that searches.
+abbrev pub AsksForNoSearch : {Z A : Type 0} → Result (IntoIter (String Z) A) Error → Type 0
+AsksForNoSearch (Ok args) = SearchesNothing (command_of (words_after_name (into_iter_items args)))
+AsksForNoSearch (Err error) = ⊤

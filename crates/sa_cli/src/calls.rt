@@ -3,9 +3,10 @@ ghost use Rattle.std.specs.Option.{ForSome};
 ghost use Rattle.sa_command.specs.declared.command.Command.TheVariants.{Threads};
 ghost use Rattle.sa_command.specs.Commands.{command_of};
 ghost use Rattle.sa_command.specs.Ranges.{IsInRange};
+ghost use Rattle.sa_cli.specs.Commands.{SearchesNothing};
 ghost use Rattle.sa_cli.specs.Shared.{limits_of};
 ghost use Rattle.sa_cli.specs.Streams.{streams, world_by};
-ghost use Rattle.sa_cli.specs.TopCall.{DoesTheCommand, DoesTheProgram};
+ghost use Rattle.sa_cli.specs.TopCall.{DoesTheCommand, DoesTheProgram, AsksForNoSearch};
 
 use crate::commands::{check_texts, migrate, run_generated, run_text};
 use crate::debug::debug_texts;
@@ -24,8 +25,8 @@ use std::io;
 use std::sync::Wait;
 use std::thread::Threads;
 
-/// The program: does what its arguments ask for, the first of which is its name. Under `explore` it is told how far the search has
-/// come. Under `threads` host threads wait for locks, so what is promised there holds if the call returns.
+/// The program: does what its arguments ask for, the first of which is its name. Under `explore` alone it is told how far the search
+/// has come. Under `threads` host threads wait for locks, so what is promised there holds if the call returns.
 pub fn run_program<S: Source, K: Sink, P: Progress, R: Threads + Wait + Sync>(
     rt: &R,
     alloc: Global,
@@ -34,8 +35,9 @@ pub fn run_program<S: Source, K: Sink, P: Progress, R: Threads + Wait + Sync>(
     sink: &mut K,
     progress: &mut P,
 ) -> Outcome
-    ensures { DoesTheProgram (world_by S.left K.taken S.faults K.faults) args
+    ensures does { DoesTheProgram (world_by S.left K.taken S.faults K.faults) args
         (streams source.old sink.old) (streams source.new sink.new) result }
+    ensures untold { AsksForNoSearch args → progress.new ≡ progress.old }
 {
     match Words::read(alloc, args) {
         Ok(words) => run_words(rt, alloc, &words, source, sink, progress, &FreeGate),
@@ -43,7 +45,7 @@ pub fn run_program<S: Source, K: Sink, P: Progress, R: Threads + Wait + Sync>(
     }
 }
 
-/// Does the command of the words: `threads` with this gate, or another, which is told how far its search has come.
+/// Does the command of the words: `threads` with this gate, or another. Under `explore` alone it is told how far the search has come.
 pub fn run_words<S: Source, K: Sink, P: Progress, G: Gate, R: Threads + Wait + Sync>(
     rt: &R,
     alloc: Global,
@@ -53,8 +55,9 @@ pub fn run_words<S: Source, K: Sink, P: Progress, G: Gate, R: Threads + Wait + S
     progress: &mut P,
     gate: &G,
 ) -> Outcome
-    ensures { DoesTheCommand (world_by S.left K.taken S.faults K.faults) (command_of words.now)
+    ensures does { DoesTheCommand (world_by S.left K.taken S.faults K.faults) (command_of words.now)
         (streams source.old sink.old) (streams source.new sink.new) result }
+    ensures untold { SearchesNothing (command_of words.now) → progress.new ≡ progress.old }
 {
     commands_are_in_range();
     match read_words(words) {
@@ -85,7 +88,7 @@ pub fn run_threads<S: Source, K: Sink, G: Gate, R: Threads + Wait + Sync>(
 
 /// Does the command, which is not `threads`: it runs a workload of the source or a generated one and writes its trace to the
 /// sink, writes a workload of the source anew, judges a trace of the source, debugs a workload of the source by a script, or goes
-/// through every order of turns of a workload of the source, and is told how far that has come. It always returns.
+/// through every order of turns of a workload of the source, and is told then alone how far that has come. It always returns.
 pub fn run_one<S: Source, K: Sink, P: Progress>(
     alloc: Global,
     command: Option<Command>,
@@ -95,8 +98,9 @@ pub fn run_one<S: Source, K: Sink, P: Progress>(
 ) -> Outcome
     requires range { ForSome command IsInRange }
     requires here { limits_of command ≡ None }
-    ensures { DoesTheCommand (world_by S.left K.taken S.faults K.faults) command
+    ensures does { DoesTheCommand (world_by S.left K.taken S.faults K.faults) command
         (streams source.old sink.old) (streams source.new sink.new) result }
+    ensures untold { SearchesNothing command → progress.new ≡ progress.old }
 {
     match command {
         None => Outcome::nothing(Status::Usage),
@@ -110,8 +114,8 @@ pub fn run_one<S: Source, K: Sink, P: Progress>(
         Some(Command::Threads { .. }) => unreachable!(),
         Some(Command::Load { number, budget }) => run_generated(alloc, number, budget, sink),
         Some(Command::Migrate { slice }) => Outcome::nothing(migrate(alloc, slice, source, sink)),
-        Some(Command::Check { user_level }) => {
-            Outcome::nothing(check_texts(alloc, user_level, source, sink))
+        Some(Command::Check { rules }) => {
+            Outcome::nothing(check_texts(alloc, rules, source, sink))
         }
         Some(Command::Vp { schedule, budget }) => {
             run_virtual(alloc, schedule, budget, source, sink)

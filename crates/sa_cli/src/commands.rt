@@ -5,7 +5,7 @@ ghost use Rattle.sa_cli.specs.Outcome.{history, RanHere, WritesNothing};
 ghost use Rattle.sa_run.specs.Run.{RunsTo, RunsUnended};
 ghost use Rattle.sa_input.specs.declared.limits.TheConstants.{WORKLOAD_LIMIT, TRACE_LIMIT};
 ghost use Rattle.sa_cli.specs.Schedules.{order_by};
-ghost use Rattle.sa_cli.specs.Packages.{runs_of, rules_by};
+ghost use Rattle.sa_cli.specs.Packages.{runs_of};
 ghost use Rattle.sa_cli.specs.Answers.{world};
 ghost use Rattle.sa_cli.specs.Streams.{UsesStreams, streams, world_by};
 ghost use Rattle.sa_cli.specs.Commands.{run_plan, AnswersRun, AnswersLoad, MigrateAnswers, CheckAnswers};
@@ -14,9 +14,8 @@ use crate::found::{Found, read_found};
 use crate::outcome::{Outcome, Status};
 use crate::reading::{migrated_text, read_workload};
 use crate::writing::{write_last_line, write_trace, write_verdict, written};
-use sa_base::{MAX_EVENTS, Trace};
-use sa_check::Rules;
-use sa_command::{PackageWord, ScheduleWord};
+use sa_base::{MAX_EVENTS, PackageName, RulesName, Trace};
+use sa_command::ScheduleWord;
 use sa_instr::MAX_SLICE;
 use sa_io::{Sink, Source};
 use sa_package::FastThreads;
@@ -32,7 +31,7 @@ pub(crate) fn run_text<S: Source, K: Sink>(
     alloc: Global,
     schedule: ScheduleWord,
     budget: u64,
-    user_level: PackageWord,
+    user_level: PackageName,
     source: &mut S,
     sink: &mut K,
 ) -> Outcome
@@ -62,7 +61,7 @@ pub(crate) fn run_text<S: Source, K: Sink>(
 // Runs the workload with the user level of the word.
 fn run_with(
     alloc: Global,
-    user_level: PackageWord,
+    user_level: PackageName,
     workload: Workload,
     kind: Kind,
     budget: u64,
@@ -76,8 +75,8 @@ fn run_with(
         ⊎ RunsUnended (runs_of user_level).calls workload (order_of kind) budget trace.items) }
 {
     match user_level {
-        PackageWord::Fast => run::<FastThreads>(alloc, workload, kind, budget),
-        PackageWord::Prio => run::<PrioThreads>(alloc, workload, kind, budget),
+        PackageName::FastThreads => run::<FastThreads>(alloc, workload, kind, budget),
+        PackageName::Priorities => run::<PrioThreads>(alloc, workload, kind, budget),
     }
 }
 
@@ -127,36 +126,25 @@ pub(crate) fn migrate<S: Source, K: Sink>(
     }
 }
 
-/// `check`: judges the trace of the source, which comes after its workload, by the rules of this user level, and writes the
+/// `check`: judges the trace of the source, which comes after its workload, by these rules, and writes the
 /// verdict.
 pub(crate) fn check_texts<S: Source, K: Sink>(
     alloc: Global,
-    user_level: PackageWord,
+    rules: RulesName,
     source: &mut S,
     sink: &mut K,
 ) -> Status
     ensures uses { UsesStreams (world_by S.left K.taken S.faults K.faults) (TRACE_LIMIT + 1)
         (streams source.old sink.old) (streams source.new sink.new) result }
     ensures answers { let told = world_by S.left K.taken S.faults K.faults in
-        CheckAnswers (rules_by user_level) (told (streams source.old sink.old))
+        CheckAnswers rules (told (streams source.old sink.old))
         (told (streams source.new sink.new)) result }
 {
-    let rules = rules_by(user_level);
     match read_found(alloc, rules, source) {
         Ok(Found::Judged(verdict)) => write_verdict(alloc, rules, verdict, sink),
         Ok(Found::BadWorkload(bad)) => Status::BadWorkload(bad),
         Ok(Found::BadTrace(bad)) => Status::BadTrace(bad),
         Err(error) => Status::from(error),
-    }
-}
-
-// The rules of a user level.
-fn rules_by(user_level: PackageWord) -> Rules
-    ensures { result ≡ rules_by user_level }
-{
-    match user_level {
-        PackageWord::Fast => Rules::FastThreads,
-        PackageWord::Prio => Rules::Priorities,
     }
 }
 

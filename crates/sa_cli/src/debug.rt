@@ -17,12 +17,12 @@ use crate::session::{Debugged, Undebugged, debug};
 use crate::writing::status_of;
 use sa_base::{Bad, End, Item, MAX_EVENTS, Trace, Unread};
 use sa_input::{SCRIPT_LIMIT, parts_of, refusal_of_long};
-use sa_io::{Failed, Pieces, Sink, Source, read_input};
+use sa_io::{Failed, PieceWriter, Sink, Source, read_input};
 use std::alloc::Global;
 
 // Why no session is over.
 #[derive(Drop)]
-enum Stopped {
+enum NoSession {
     // The first part of the input is no workload text.
     BadWorkload(Bad),
     // The input is too long, or the rest is no script.
@@ -54,30 +54,30 @@ pub(crate) fn debug_texts<S: Source, K: Sink>(
     };
     match debugged(alloc, &input, budget) {
         Ok(debugged) => write_session(debugged, sink),
-        Err(Stopped::BadWorkload(bad)) => Outcome::nothing(Status::BadWorkload(bad)),
-        Err(Stopped::BadScript(bad)) => Outcome::nothing(Status::BadScript(bad)),
-        Err(Stopped::OutOfMemory(trace)) => Outcome::plain(Status::OutOfMemory, trace),
+        Err(NoSession::BadWorkload(bad)) => Outcome::nothing(Status::BadWorkload(bad)),
+        Err(NoSession::BadScript(bad)) => Outcome::nothing(Status::BadScript(bad)),
+        Err(NoSession::OutOfMemory(trace)) => Outcome::plain(Status::OutOfMemory, trace),
     }
 }
 
 // The session of the input, once it is over.
-fn debugged(alloc: Global, input: &[u8], budget: u64) -> Result<Debugged, Stopped>
+fn debugged(alloc: Global, input: &[u8], budget: u64) -> Result<Debugged, NoSession>
     requires some { 1 ≤ budget }
     requires few { budget ≤ MAX_EVENTS }
     ensures ok { IfOk result (λ x. IsDone budget input.now x.replies.items x.trace.items x.end x.events) }
     ensures err { IfErr result (IsStopped budget input.now) }
 {
     if input.len() > SCRIPT_LIMIT {
-        return Err(Stopped::BadScript(refusal_of_long(SCRIPT_LIMIT, input)));
+        return Err(NoSession::BadScript(refusal_of_long(SCRIPT_LIMIT, input)));
     }
     match parts_of(alloc, input) {
         Ok((workload, second)) => match debug(alloc, workload, second, budget) {
             Ok(debugged) => Ok(debugged),
-            Err(Undebugged::BadScript(bad)) => Err(Stopped::BadScript(bad)),
-            Err(Undebugged::OutOfMemory(trace)) => Err(Stopped::OutOfMemory(trace)),
+            Err(Undebugged::BadScript(bad)) => Err(NoSession::BadScript(bad)),
+            Err(Undebugged::OutOfMemory(trace)) => Err(NoSession::OutOfMemory(trace)),
         },
-        Err(Unread::Bad(bad)) => Err(Stopped::BadWorkload(bad)),
-        Err(Unread::OutOfMemory) => Err(Stopped::OutOfMemory(Trace::new(alloc))),
+        Err(Unread::Bad(bad)) => Err(NoSession::BadWorkload(bad)),
+        Err(Unread::OutOfMemory) => Err(NoSession::OutOfMemory(Trace::new(alloc))),
     }
 }
 
@@ -132,7 +132,7 @@ fn put_session<K: Sink>(
     ensures fault { OnErr result (HasRisen (K.faults sink.old) (K.faults sink.new)) }
     ensures counted { K.faults sink.old ≤ K.faults sink.new }
 {
-    let mut pieces = Pieces::new();
+    let mut pieces = PieceWriter::new();
     pieces.put(sink, replies)?;
     put_run(&mut pieces, sink, items, end, events)?;
     pieces.end(sink)

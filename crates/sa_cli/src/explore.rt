@@ -2,7 +2,7 @@
 ghost use Rattle.std.specs.Prelude.{◌≡◌, ◌+◌, ◌≤◌, IfOk, IfErr};
 ghost use Rattle.std.specs.Option.{option_copied};
 ghost use Rattle.sa_states.specs.declared.TheConstants.{MAX_STATES};
-ghost use Rattle.sa_workload_lines.specs.Bad.{BadAt};
+ghost use Rattle.sa_workload.specs.Bad.{BadAt};
 ghost use Rattle.sa_io.specs.Input.{LosesAtMost};
 ghost use Rattle.sa_explore_run.specs.Answer.{AreWithin};
 ghost use Rattle.sa_input.specs.declared.limits.TheConstants.{WORKLOAD_LIMIT};
@@ -13,7 +13,8 @@ ghost use Rattle.sa_cli.specs.Exploring.{Finds, found_by, told_text, IsReadyText
 use crate::outcome::{Finding, Status};
 use crate::reading::read_workload;
 use crate::writing::written;
-use sa_command::{GiveWord, PackageWord};
+use sa_base::PackageName;
+use sa_command::GiveWord;
 use sa_explore::Progress;
 use sa_explore_model::{Explored, Extent, Found};
 use sa_explore_run::{Answer, explored_text, search, workload_text};
@@ -37,7 +38,7 @@ struct Told {
 pub(crate) fn explore_text<S: Source, K: Sink, P: Progress>(
     alloc: Global,
     states: u32,
-    user_level: PackageWord,
+    user_level: PackageName,
     give: Option<GiveWord>,
     source: &mut S,
     sink: &mut K,
@@ -61,7 +62,7 @@ pub(crate) fn explore_text<S: Source, K: Sink, P: Progress>(
 fn gone_through<S: Source, P: Progress>(
     alloc: Global,
     states: u32,
-    user_level: PackageWord,
+    user_level: PackageName,
     give: Option<GiveWord>,
     source: &mut S,
     progress: &mut P,
@@ -86,7 +87,7 @@ fn gone_through<S: Source, P: Progress>(
 fn search_by<P: Progress>(
     alloc: Global,
     states: u32,
-    user_level: PackageWord,
+    user_level: PackageName,
     workload: &Workload,
     progress: &mut P,
 ) -> Result<Answer, AllocError>
@@ -101,8 +102,8 @@ fn search_by<P: Progress>(
     left_threads_wait();
     workload.ranges();
     match user_level {
-        PackageWord::Fast => search::<FastThreads, P>(alloc, workload, states, progress),
-        PackageWord::Prio => search::<PrioThreads, P>(alloc, workload, states, progress),
+        PackageName::FastThreads => search::<FastThreads, P>(alloc, workload, states, progress),
+        PackageName::Priorities => search::<PrioThreads, P>(alloc, workload, states, progress),
     }
 }
 

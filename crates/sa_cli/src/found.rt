@@ -6,8 +6,8 @@ ghost use Rattle.sa_io.specs.Input.{LosesAtMost};
 ghost use Rattle.sa_input.specs.declared.limits.TheConstants.{TRACE_LIMIT};
 ghost use Rattle.sa_cli.specs.Texts.{IsFound, GaveFound};
 
-use sa_base::{Bad, Unread};
-use sa_check::{Rules, Verdict, check};
+use sa_base::{Bad, RulesName, Unread};
+use sa_check::{Verdict, check};
 use sa_input::{TRACE_LIMIT, parts_of, refusal_of_long};
 use sa_io::{ReadError, Source, read_input};
 use std::alloc::{AllocError, Global};
@@ -26,7 +26,7 @@ pub enum Found {
 /// What the input of the source is found to be by these rules.
 pub(crate) fn read_found<S: Source>(
     alloc: Global,
-    rules: Rules,
+    rules: RulesName,
     source: &mut S,
 ) -> Result<Found, ReadError>
     ensures found { IfOk result (GaveFound rules (S.left source.old) (S.left source.new)) }
@@ -41,7 +41,7 @@ pub(crate) fn read_found<S: Source>(
 }
 
 // What the input is found to be.
-fn found_in(alloc: Global, rules: Rules, input: &[u8]) -> Result<Found, AllocError>
+fn found_in(alloc: Global, rules: RulesName, input: &[u8]) -> Result<Found, AllocError>
     ensures { IfOk result (IsFound rules input.now) }
 {
     if input.len() > TRACE_LIMIT {

@@ -1,7 +1,7 @@
 // Workloads of the source.
 ghost use Rattle.std.specs.Prelude.{◌+◌, ◌≤◌, IfOk, IfErr};
-ghost use Rattle.sa_workload_lines.specs.Text.{IsText};
-ghost use Rattle.sa_workload_lines.specs.Bad.{BadAt, BadAt1};
+ghost use Rattle.sa_workload.specs.Text.{IsText};
+ghost use Rattle.sa_workload.specs.Bad.{BadAt, BadAt1};
 ghost use Rattle.sa_io.specs.Input.{LosesAtMost};
 ghost use Rattle.sa_cli.specs.Input.{GaveText, GaveSliced};
 ghost use Rattle.sa_cli.specs.Refusals.{NothingRead};

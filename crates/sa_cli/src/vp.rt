@@ -17,8 +17,8 @@ use crate::reading::read_workload;
 use crate::writing::status_of;
 use sa_base::MAX_EVENTS;
 use sa_command::ScheduleWord;
-use sa_io::{Failed, Pieces, Sink, Source};
-use sa_trace::{Lines, print_losses};
+use sa_io::{Failed, PieceWriter, Sink, Source};
+use sa_trace::{LineBuffer, print_losses};
 use sa_vp::{Ended, run};
 use std::alloc::Global;
 
@@ -79,9 +79,9 @@ fn write_text<K: Sink>(sink: &mut K, ended: &Ended) -> Result<(), Failed>
     ensures fault { OnErr result (HasRisen (K.faults sink.old) (K.faults sink.new)) }
     ensures counted { K.faults sink.old ≤ K.faults sink.new }
 {
-    let mut losses = Lines::new();
+    let mut losses = LineBuffer::new();
     print_losses(&ended.lost, &mut losses);
-    let mut pieces = Pieces::new();
+    let mut pieces = PieceWriter::new();
     put_run(
         &mut pieces,
         sink,

@@ -9,8 +9,8 @@ ghost use Rattle.sa_cli.specs.declared.outcome.Status.TheVariants.{WriteFault};
 
 use crate::outcome::{Outcome, Status};
 use crate::output::{write_end, write_run};
-use sa_base::{End, Trace};
-use sa_check::{Rules, Verdict, verdict_line};
+use sa_base::{End, RulesName, Trace};
+use sa_check::{Verdict, verdict_line};
 use sa_io::{Failed, Sink, write_text};
 use sa_run::Ended;
 use std::alloc::Global;
@@ -47,7 +47,7 @@ pub(crate) fn write_last_line<K: Sink>(ended: Ended, sink: &mut K) -> Outcome
 /// Writes the line of a verdict by these rules.
 pub(crate) fn write_verdict<K: Sink>(
     alloc: Global,
-    rules: Rules,
+    rules: RulesName,
     verdict: Verdict,
     sink: &mut K,
 ) -> Status

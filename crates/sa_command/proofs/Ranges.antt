@@ -6,7 +6,7 @@ use Rattle.std.specs.Option.{option_map}
 use Rattle.std.specs.Str.{bytes_eq}
 use Rattle.sa_base.specs.declared.limits.TheConstants.{MAX_BURST, MAX_EVENTS, DEFAULT_BUDGET, DEFAULT_BURST}
 use Rattle.sa_command.specs.declared.command.ScheduleWord.TheVariants.{RoundRobin}
-use Rattle.sa_command.specs.declared.command.PackageWord.TheVariants.{Fast}
+use Rattle.sa_base.specs.declared.package.PackageName.TheVariants.{FastThreads}
 use Rattle.sa_command.specs.declared.command.Command.{Command}
 use Rattle.sa_command.specs.declared.command.Command.TheVariants.{Run, Threads, Load, Migrate, Check, Vp, Debug, Explore}
 use Rattle.sa_command.specs.declared.options.Options.{Options}
@@ -14,8 +14,9 @@ use Rattle.sa_command.specs.declared.explore.TheConstants.{DEFAULT_STATES}
 use Rattle.sa_states.specs.declared.TheConstants.{MAX_STATES}
 use Rattle.sa_command.specs.declared.options.Settings.{Settings}
 use Rattle.sa_text.specs.Number.{number_of}
-use Rattle.sa_command.specs.Values.{within, number_within, schedule_of, package_of, give_of}
-use Rattle.sa_command.specs.Commands.{with_schedule, with_budget, with_burst, with_package, with_states, with_give, with_option, settings_of, nothing_set, set_by, run_options, threads_options, turn_options, budget_option, package_option, explore_options, run_of, threads_of, load_of, migrate_of, check_of, vp_of, debug_of, explore_of, named, command_of}
+use Rattle.sa_base.specs.Package.{package_of, rules_word}
+use Rattle.sa_command.specs.Values.{within, number_within, schedule_of, give_of}
+use Rattle.sa_command.specs.Commands.{with_schedule, with_budget, with_burst, with_package, with_states, with_give, with_option, settings_of, nothing_set, set_by, run_options, threads_options, turn_options, budget_option, explore_options, run_of, threads_of, load_of, migrate_of, check_of, vp_of, debug_of, explore_of, named, command_of}
 use Rattle.sa_command.specs.Ranges.{IsFrom, IsInRange, CommandsAreInRange}
 
 -- what holds of the value, if there is one, holds after a step that keeps it
@@ -110,7 +111,7 @@ states-range (Some n) h = h
 
 run-range : (words : List (List ℕ)) → IfSome (run_of words) IsInRange
 run-range words =
-    mapped AreFine IsInRange (λ s. Run (unwrap_or s.schedule RoundRobin) (unwrap_or s.budget DEFAULT_BUDGET) (unwrap_or s.user_level Fast))
+    mapped AreFine IsInRange (λ s. Run (unwrap_or s.schedule RoundRobin) (unwrap_or s.budget DEFAULT_BUDGET) (unwrap_or s.user_level FastThreads))
     (set_by run_options words) (set-range run_options words)
     (λ s h. budget-range s.budget h.budget)
 
@@ -135,8 +136,12 @@ migrate-range (number ∷ []) =
 migrate-range (number ∷ word ∷ words) = tt
 
 check-range : (words : List (List ℕ)) → IfSome (check_of words) IsInRange
-check-range words =
-    mapped AreFine IsInRange (λ s. Check (unwrap_or s.user_level Fast)) (set_by package_option words) (set-range package_option words) (λ s h. tt)
+check-range [] = tt
+check-range (name ∷ []) = tt
+check-range (name ∷ word ∷ []) =
+    chosen IsInRange (bytes_eq name (codes "--package")) (option_map (λ named. Check named) (rules_word word)) None
+    (mapped (λ x. ⊤) IsInRange (λ named. Check named) (rules_word word) (any (rules_word word)) (λ x k. tt)) tt
+check-range (name ∷ word ∷ more ∷ words) = tt
 
 vp-range : (words : List (List ℕ)) → IfSome (vp_of words) IsInRange
 vp-range words =
@@ -151,7 +156,7 @@ debug-range words =
 
 explore-range : (words : List (List ℕ)) → IfSome (explore_of words) IsInRange
 explore-range words =
-    mapped AreFine IsInRange (λ s. Explore (unwrap_or s.states DEFAULT_STATES) (unwrap_or s.user_level Fast) s.give) (set_by explore_options words)
+    mapped AreFine IsInRange (λ s. Explore (unwrap_or s.states DEFAULT_STATES) (unwrap_or s.user_level FastThreads) s.give) (set_by explore_options words)
     (set-range explore_options words) (λ s h. states-range s.states h.states)
 
 named-range : (name : List ℕ) (words : List (List ℕ)) → IfSome (named name words) IsInRange

@@ -5,7 +5,7 @@ use Rattle.std.specs.Option.{option_map}
 use Rattle.std.specs.Str.{bytes_eq}
 use Rattle.sa_base.specs.declared.limits.TheConstants.{MAX_BURST, MAX_EVENTS, DEFAULT_BUDGET, DEFAULT_BURST}
 use Rattle.sa_command.specs.declared.command.ScheduleWord.TheVariants.{RoundRobin}
-use Rattle.sa_command.specs.declared.command.PackageWord.TheVariants.{Fast}
+use Rattle.sa_base.specs.declared.package.PackageName.TheVariants.{FastThreads}
 use Rattle.sa_command.specs.declared.command.Command.{Command}
 use Rattle.sa_command.specs.declared.command.Command.TheVariants.{Run, Threads, Load, Migrate, Check, Vp, Debug, Explore}
 use Rattle.sa_command.specs.declared.options.Options.{Options}
@@ -14,13 +14,15 @@ use Rattle.sa_command.specs.declared.options.TheConstants.{NO_OPTIONS}
 use Rattle.sa_command.specs.declared.explore.TheConstants.{DEFAULT_STATES}
 use Rattle.sa_states.specs.declared.TheConstants.{MAX_STATES}
 use Rattle.sa_text.specs.Number.{number_of}
-use Rattle.sa_command.specs.Values.{number_within, schedule_of, package_of, give_of}
+use Rattle.sa_base.specs.declared.package.RulesName.TheVariants as rules
+use Rattle.sa_base.specs.Package.{package_of, rules_word}
+use Rattle.sa_command.specs.Values.{number_within, schedule_of, give_of}
 
 -- the options: a name, and what its value may be
 --   --schedule   an order of turns; `rr` where it is left out
 --   --budget     1 to the greatest number of events; the default budget where it is left out
 --   --burst      1 to the greatest number of instructions of a burst; the default burst where it is left out
---   --package    a user level; `fast` where it is left out
+--   --package    a user level, and for `check` rules; `fast` if it is left out
 --   --states     1 to the greatest number of states; the default number where it is left out
 --   --give       a schedule that is asked for; none where it is left out
 abbrev pub with_schedule : Options → Settings → List ℕ → Option Settings
@@ -89,15 +91,12 @@ turn_options = record NO_OPTIONS { schedule = true; budget = true }
 abbrev pub budget_option : Options
 budget_option = record NO_OPTIONS { budget = true }
 
-abbrev pub package_option : Options
-package_option = record NO_OPTIONS { user_level = true }
-
 abbrev pub explore_options : Options
 explore_options = record NO_OPTIONS { states = true; user_level = true; give = true }
 
 abbrev pub run_of : List (List ℕ) → Option Command
 run_of words =
-    option_map (λ s. Run (unwrap_or s.schedule RoundRobin) (unwrap_or s.budget DEFAULT_BUDGET) (unwrap_or s.user_level Fast)) (set_by run_options words)
+    option_map (λ s. Run (unwrap_or s.schedule RoundRobin) (unwrap_or s.budget DEFAULT_BUDGET) (unwrap_or s.user_level FastThreads)) (set_by run_options words)
 
 abbrev pub threads_of : List (List ℕ) → Option Command
 threads_of words =
@@ -114,7 +113,11 @@ migrate_of (number ∷ []) = option_map (λ n. Migrate n) (number_within 1 MAX_E
 migrate_of (number ∷ word ∷ words) = None
 
 abbrev pub check_of : List (List ℕ) → Option Command
-check_of words = option_map (λ s. Check (unwrap_or s.user_level Fast)) (set_by package_option words)
+check_of [] = Some (Check rules.FastThreads)
+check_of (name ∷ []) = None
+check_of (name ∷ word ∷ []) =
+    if bytes_eq name (codes "--package") then option_map (λ named. Check named) (rules_word word) else None
+check_of (name ∷ word ∷ more ∷ words) = None
 
 abbrev pub vp_of : List (List ℕ) → Option Command
 vp_of words =
@@ -126,7 +129,7 @@ debug_of words =
 
 abbrev pub explore_of : List (List ℕ) → Option Command
 explore_of words =
-    option_map (λ s. Explore (unwrap_or s.states DEFAULT_STATES) (unwrap_or s.user_level Fast) s.give) (set_by explore_options words)
+    option_map (λ s. Explore (unwrap_or s.states DEFAULT_STATES) (unwrap_or s.user_level FastThreads) s.give) (set_by explore_options words)
 
 abbrev pub named : List ℕ → List (List ℕ) → Option Command
 named name words =

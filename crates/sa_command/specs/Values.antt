@@ -6,8 +6,6 @@ use Rattle.sa_text.specs.Number.{number_of}
 use Rattle.sa_base.specs.declared.limits.TheConstants.{MAX_EVENTS, MAX_PROCESSORS}
 use Rattle.sa_command.specs.declared.command.ScheduleWord.{ScheduleWord}
 use Rattle.sa_command.specs.declared.command.ScheduleWord.TheVariants.{RoundRobin, Seed, Given, Hold}
-use Rattle.sa_command.specs.declared.command.PackageWord.{PackageWord}
-use Rattle.sa_command.specs.declared.command.PackageWord.TheVariants.{Fast, Prio}
 use Rattle.sa_command.specs.declared.command.GiveWord.{GiveWord}
 use Rattle.sa_command.specs.declared.command.GiveWord.TheVariants.{AllDone, Stuck, Endless}
 
@@ -51,11 +49,6 @@ abbrev pub schedule_of : List ℕ → Option ScheduleWord
 schedule_of word =
     if bytes_eq word (codes "rr") then Some RoundRobin
     else (if bytes_eq word (codes "given") then Some Given else seeded_or_held word (behind (codes "seed:") word))
-
--- a word of a user level: `fast` or `prio`
-abbrev pub package_of : List ℕ → Option PackageWord
-package_of word =
-    if bytes_eq word (codes "fast") then Some Fast else (if bytes_eq word (codes "prio") then Some Prio else None)
 
 -- a word of a schedule that is asked for: `alldone`, `stuck` or `endless`
 abbrev pub give_of : List ℕ → Option GiveWord

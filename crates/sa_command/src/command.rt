@@ -1,4 +1,4 @@
-use sa_base::ProcNo;
+use sa_base::{PackageName, ProcNo, RulesName};
 
 /// The order of turns that a run is asked for.
 #[derive(Clone, Copy)]
@@ -11,15 +11,6 @@ pub enum ScheduleWord {
     Given,
     /// `hold:P:N`: the processor, 0 to 15, is held from this event on, 1 to 1,000,000.
     Hold(ProcNo, u64),
-}
-
-/// The user level that a run has in each space.
-#[derive(Clone, Copy)]
-pub enum PackageWord {
-    /// `fast`: FastThreads.
-    Fast,
-    /// `prio`: FastThreads with thread priorities.
-    Prio,
 }
 
 /// The schedule that an exploration is asked for.
@@ -40,7 +31,7 @@ pub enum Command {
     Run {
         schedule: ScheduleWord,
         budget: u64,
-        user_level: PackageWord,
+        user_level: PackageName,
     },
     /// Runs the workload of standard input with a host thread for each processor, for at most that many events, 1 to
     /// 1,000,000, in bursts of at most that many instructions, 1 to 64.
@@ -62,10 +53,9 @@ pub enum Command {
         schedule: ScheduleWord,
         budget: u64,
     },
-    /// Judges the trace text of standard input beside the workload text that comes before it, by the rules of this user
-    /// level.
+    /// Judges the trace text of standard input beside the workload text that comes before it, by these rules.
     Check {
-        user_level: PackageWord,
+        rules: RulesName,
     },
     /// Debugs the workload of standard input by the script that follows it, for at most that many events, 1 to 1,000,000.
     Debug {
@@ -75,7 +65,7 @@ pub enum Command {
     /// states, 1 to 10,000,000. Where a schedule is asked for, the answer is the workload with that schedule as its turn lines.
     Explore {
         states: u32,
-        user_level: PackageWord,
+        user_level: PackageName,
         give: Option<GiveWord>,
     },
 }

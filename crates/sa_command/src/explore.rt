@@ -2,8 +2,9 @@
 ghost use Rattle.std.specs.Prelude.{◌≡◌, map, string_bytes};
 ghost use Rattle.sa_command.specs.Commands.{explore_of};
 
-use crate::command::{Command, PackageWord};
+use crate::command::Command;
 use crate::options::{NO_OPTIONS, Options, read_options};
+use sa_base::PackageName;
 
 /// The number of states that an exploration keeps where none is given.
 pub const DEFAULT_STATES: u32 = 1_000_000;
@@ -20,7 +21,7 @@ pub(crate) fn read_explore(words: &[String]) -> Option<Command>
     let settings = read_options(taken, words)?;
     Some(Command::Explore {
         states: settings.states.unwrap_or(DEFAULT_STATES),
-        user_level: settings.user_level.unwrap_or(PackageWord::Fast),
+        user_level: settings.user_level.unwrap_or(PackageName::FastThreads),
         give: settings.give,
     })
 }

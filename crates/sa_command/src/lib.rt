@@ -12,6 +12,6 @@ mod threads;
 mod value;
 mod vp;
 
-pub use command::{Command, GiveWord, PackageWord, ScheduleWord};
+pub use command::{Command, GiveWord, ScheduleWord};
 pub use explore::{DEFAULT_STATES, default_states_are_these};
 pub use read::read_words;

@@ -1,9 +1,9 @@
 ghost use Rattle.std.specs.Prelude.{◌≡◌, false, map, string_bytes};
 ghost use Rattle.sa_command.specs.Commands.{with_schedule, with_budget, with_burst, with_package, with_states, with_give, with_option, settings_of, set_by};
 
-use crate::command::{GiveWord, PackageWord, ScheduleWord};
-use crate::value::{read_give, read_package, read_schedule, read_within};
-use sa_base::{MAX_BURST, MAX_EVENTS};
+use crate::command::{GiveWord, ScheduleWord};
+use crate::value::{read_give, read_schedule, read_within};
+use sa_base::{MAX_BURST, MAX_EVENTS, PackageName, read_package};
 use sa_states::MAX_STATES;
 
 /// Which options a command takes.
@@ -45,7 +45,7 @@ pub(crate) struct Settings {
     pub(crate) schedule: Option<ScheduleWord>,
     pub(crate) budget: Option<u64>,
     pub(crate) burst: Option<u16>,
-    pub(crate) user_level: Option<PackageWord>,
+    pub(crate) user_level: Option<PackageName>,
     pub(crate) states: Option<u32>,
     pub(crate) give: Option<GiveWord>,
 }

@@ -2,14 +2,14 @@ ghost use Rattle.std.specs.Prelude.{◌≡◌, map, string_bytes};
 ghost use Rattle.sa_command.specs.Commands.{command_of, named, run_of, load_of, migrate_of};
 
 use crate::check::read_check;
-use crate::command::{Command, PackageWord, ScheduleWord};
+use crate::command::{Command, ScheduleWord};
 use crate::debug::read_debug;
 use crate::explore::read_explore;
 use crate::options::{NO_OPTIONS, Options, read_options};
 use crate::threads::read_threads;
 use crate::value::read_within;
 use crate::vp::read_vp;
-use sa_base::{DEFAULT_BUDGET, MAX_EVENTS};
+use sa_base::{DEFAULT_BUDGET, MAX_EVENTS, PackageName};
 use sa_io::Words;
 use sa_text::read_number;
 
@@ -73,7 +73,7 @@ fn read_run(words: &[String]) -> Option<Command>
     Some(Command::Run {
         schedule: settings.schedule.unwrap_or(ScheduleWord::RoundRobin),
         budget: settings.budget.unwrap_or(DEFAULT_BUDGET),
-        user_level: settings.user_level.unwrap_or(PackageWord::Fast),
+        user_level: settings.user_level.unwrap_or(PackageName::FastThreads),
     })
 }
 

@@ -1,7 +1,7 @@
 ghost use Rattle.std.specs.Prelude.{◌≡◌, ◌<◌, ◌==◌, length, position, IfSome};
-ghost use Rattle.sa_command.specs.Values.{number_within, hold_by_parts, hold_of, schedule_of, package_of, give_of};
+ghost use Rattle.sa_command.specs.Values.{number_within, hold_by_parts, hold_of, schedule_of, give_of};
 
-use crate::command::{GiveWord, PackageWord, ScheduleWord};
+use crate::command::{GiveWord, ScheduleWord};
 use sa_base::{MAX_EVENTS, MAX_PROCESSORS, ProcNo};
 use sa_text::read_number;
 
@@ -54,19 +54,6 @@ fn read_parts(proc: &[u8], from: &[u8]) -> Option<ScheduleWord>
     let proc = read_within(0, u64::from(MAX_PROCESSORS - 1), proc)?;
     let from = read_within(1, MAX_EVENTS, from)?;
     Some(ScheduleWord::Hold(ProcNo(proc as u16), from))
-}
-
-/// The user level that the word is.
-pub(crate) fn read_package(word: &[u8]) -> Option<PackageWord>
-    ensures { result ≡ package_of word.now }
-{
-    if word == b"fast".as_slice() {
-        return Some(PackageWord::Fast);
-    }
-    if word == b"prio".as_slice() {
-        return Some(PackageWord::Prio);
-    }
-    None
 }
 
 /// The schedule that the word asks for.

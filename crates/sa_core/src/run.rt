@@ -9,12 +9,12 @@ ghost use Rattle.sa_core_model.specs.Standing.{IsBetween};
 ghost use Rattle.sa_kernel.specs.Kept.{kernel_of};
 ghost use Rattle.sa_core.specs.View.{machine, IsSame};
 
+use crate::event::turn;
 use sa_abstract::{SeatState, UserLevel};
 use sa_base::{End, ProcNo, SpaceNo, Trace};
 use sa_kernel::Kernel;
 use sa_machine::MachineParts;
 use sa_spaces::Workload;
-use sa_turn::turn;
 use std::alloc::{AllocError, Global};
 use std::marker::Model;
 

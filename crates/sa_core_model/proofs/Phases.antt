@@ -9,6 +9,7 @@ use Rattle.sa_base.specs.declared.context.Seen.{Seen}
 use Rattle.sa_base.specs.declared.context.Stopped.{Stopped}
 use Rattle.sa_base.specs.declared.record.Item.{Item}
 use Rattle.sa_lemmas.specs.Function.{put}
+use Rattle.sa_lemmas.proofs.Options.{some-is, not_some-is}
 use Rattle.sa_lemmas.proofs.ListUpdates.{slice_get-set_cases}
 use Rattle.sa_spaces.specs.Space.{SpaceView}
 use Rattle.sa_spaces.specs.Workload.{WorkloadView, IsWorkload}
@@ -50,14 +51,6 @@ there-put (a ∷ xs) (b ∷ ys) zero x size here each (suc q) = each (suc q)
 there-put (a ∷ xs) (b ∷ ys) (suc p) x size here each zero = each zero
 there-put (a ∷ xs) (b ∷ ys) (suc p) x size here each (suc q) = there-put xs ys p x (omega (arith, size)) here (λ r. each (suc r)) q
 there-put _ _ p x size here each q = absurd (omega (arith, size))
-
-pub some-is : {A : Type 0} (o : Option A) → is_some o ≡ true → (x : A) × (o ≡ Some x)
-some-is None e = absurd cc
-some-is (Some x) e = (x, refl)
-
-pub none-is : {A : Type 0} (o : Option A) → is_some o ≡ false → o ≡ None
-none-is None e = refl
-none-is (Some x) e = absurd cc
 
 module _ {C : Type 0} where
   pub contexts-same : (ls ms : List (Option ActNo)) (f g : ℕ → Option (Act C)) (cs : List (Option C)) → ms ≡ ls → g ≡ f → (t b : ℕ)
@@ -213,7 +206,7 @@ module _ {U C : Type 0} (f : Calls U C) (stands : Standing U C) (keep : Keeps f 
   paused-off e m p st within off =
       let k = m.kernel in
       let free : life_of k p ≡ None = no-life (life_of k p) refl in
-      let gone : context_on m p ≡ None = none-is (context_on m p) (st.there p.0 ∙ ap (λ (o : Option ActNo). is_some o) free) in
+      let gone : context_on m p ≡ None = not_some-is (context_on m p) (st.there p.0 ∙ ap (λ (o : Option ActNo). is_some o) free) in
       let same : slice_set m.contexts p.0 None ≡ m.contexts = ap (slice_set m.contexts p.0) (sym gone) ∙ set-get_or m.contexts p.0 None in
       subst (λ (cs : List (Option C)). Paused stands e p k.lives k.acts (record m { contexts = cs })) (sym same) (record {
         workload = st.workload;

@@ -4,6 +4,7 @@ use Rattle.std.specs.Option.{option_map}
 use Rattle.std.proofs.lemmas.List.{length-set}
 use Rattle.std.proofs.lemmas.Option.{same_Some}
 use Rattle.std.specs.Int.{bit_at}
+use Rattle.sa_lemmas.proofs.Options.{some-is}
 use Rattle.sa_lemmas.proofs.ListReads.{read-at}
 use Rattle.sa_base.specs.declared.number.ProcNo.{ProcNo}
 use Rattle.sa_base.specs.declared.number.SpaceNo.{SpaceNo}
@@ -43,7 +44,7 @@ use Rattle.sa_core_model.specs.Run.{setting}
 use Rattle.sa_core_model.specs.Standing.{contexts_in, contexts_of, context_in, running, Stands, IsBetween}
 use Rattle.sa_core_model.proofs.Running.{running-none, rests, contexts-back}
 use Rattle.sa_core_model.proofs.Effects.{SameRuns, same-again, same-closed, same-over, same-more, same-idled, same-own, Starts, starts-same, aims-at, SetsAside, stopped-aside, stopped-off, blocked-aside, told-or-left}
-use Rattle.sa_core_model.proofs.Phases.{some-is, Paused, IsAt, at-owned, stands-later, stands-kernel, stands-runs, stands-emptied, paused-stop, paused-off, stands-left, stands-begun}
+use Rattle.sa_core_model.proofs.Phases.{Paused, IsAt, at-owned, stands-later, stands-kernel, stands-runs, stands-emptied, paused-stop, paused-off, stands-left, stands-begun}
 use Rattle.sa_core_model.proofs.Calls.{value-at, mine, sees-at, stands-put, stands-answered, Tells, tells-all}
 
 module _ {U C : Type 0} (f : Calls U C) (stands : Standing U C) (keep : Keeps f stands) where

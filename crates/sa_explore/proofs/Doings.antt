@@ -16,14 +16,15 @@ use Rattle.sa_explore_model.specs.declared.answer.State.{State}
 use Rattle.sa_explore_model.specs.Search.{way_on, way_by, way_to, IsSearch}
 use Rattle.sa_explore_model.proofs.Steps.{search-over, search-next}
 use Rattle.sa_states.specs.Store.{StoreView, store_of, arrived_by, arrived}
-use Rattle.sa_explore_runs.specs.Runs.{end, IsOpenTurn, LeadTo, IsWay, CanLead}
-use Rattle.sa_explore_runs.specs.Searching.{KeysTell, key_at, IsOpen, IsTried, IsSearching}
+use Rattle.sa_explore_runs.specs.Runs.{end, IsOpenTurn, LeadTo, IsWay, CanLead, IsOpen}
+use Rattle.sa_explore_runs.specs.Searching.{KeysTell, key_at, IsTried, IsSearching}
+use Rattle.sa_explore_runs.proofs.Schedules.{few-turns}
 use Rattle.sa_explore_runs.proofs.Searched.{searching-first, IsStepped, stepped-some, stepped-none}
 use Rattle.sa_explore.specs.Explored.{IsBeyond}
 use Rattle.sa_explore.specs.Doing.{states_of, turns_to, HasDone, IsSpent, HasMade}
 use Rattle.sa_explore.specs.declared.search.Scope.{Scope}
 use Rattle.sa_explore.specs.declared.search.Search.{Search}
-use Rattle.sa_explore.proofs.Replays.{one-more, open-all, few-turns}
+use Rattle.sa_explore.proofs.Replays.{one-more, open-all}
 
 -- a way is no longer than the number of its state
 on-short : (n : ℕ) (way : ℕ → List ProcNo) (o : Option State) → ((j : ℕ) → length (way j) ≤ n) → length (way_on way o) ≤ suc n

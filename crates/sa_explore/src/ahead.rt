@@ -5,11 +5,11 @@ ghost use Rattle.sa_base.specs.declared.limits.TheConstants.{MAX_EVENTS};
 ghost use Rattle.sa_core_model.specs.Run.{CanTurn};
 ghost use Rattle.sa_core.specs.View.{machine};
 ghost use Rattle.sa_keys.specs.Key.{key_of};
-ghost use Rattle.sa_explore_runs.specs.Runs.{end, CanLead};
-ghost use Rattle.sa_explore_runs.specs.Searching.{IsOpen, IsTried};
+ghost use Rattle.sa_explore_runs.specs.Runs.{end, CanLead, IsOpen};
+ghost use Rattle.sa_explore_runs.specs.Searching.{IsTried};
 ghost use Rattle.sa_explore.specs.Ahead.{IsRun, IsMadeBy, IsMadeFrom, AreFrom, IsLater, IsMore};
 
-use crate::replay::{end_at, replay};
+use crate::runs::{end_at, replay};
 use sa_abstract::UserLevel;
 use sa_base::ProcNo;
 use sa_core::Core;

@@ -5,7 +5,7 @@ ghost use Rattle.sa_explore_runs.specs.Runs.{IsBegun};
 ghost use Rattle.sa_explore.specs.Doing.{HasStopped, IsEndlessBy};
 ghost use Rattle.sa_explore.specs.Explored.{IsExplored};
 
-use crate::expand::Stopped;
+use crate::expand::StoppedSearch;
 use crate::search::{Scope, Search};
 use sa_explore_model::{Explored, Extent, Found};
 use sa_keys::Keyed;
@@ -18,7 +18,7 @@ impl Search {
         &self,
         alloc: Global,
         scope: &Scope,
-        stopped: &Stopped,
+        stopped: &StoppedSearch,
     ) -> Result<Option<Found>, AllocError>
         requires stopped { HasStopped U.calls U.plain (key_of U.value_key U.context_key)
             scope.now stopped.now.extent self.now stopped.now.at }
@@ -42,7 +42,7 @@ impl Search {
         &self,
         alloc: Global,
         scope: &Scope,
-        stopped: &Stopped,
+        stopped: &StoppedSearch,
     ) -> Result<Explored, AllocError>
         requires begins { IsBegun U.calls scope.now.workload scope.now.begun.items }
         requires stopped { HasStopped U.calls U.plain (key_of U.value_key U.context_key)

@@ -20,7 +20,7 @@ const STATES_AT_ONCE: u32 = 1_000;
 
 /// Where a search stopped: behind the last state, or at one where it could not go on.
 #[derive(Clone, Copy)]
-pub(crate) struct Stopped {
+pub(crate) struct StoppedSearch {
     pub(crate) extent: Extent,
     pub(crate) at: u32,
 }
@@ -118,7 +118,7 @@ impl Search {
         alloc: Global,
         scope: &Scope,
         progress: &mut P,
-    ) -> Result<Stopped, AllocError>
+    ) -> Result<StoppedSearch, AllocError>
         requires done { HasDone U.calls U.plain (key_of U.value_key U.context_key) scope.now self.old 0 0 }
         requires ahead { AreAhead U.calls U.plain (key_of U.value_key U.context_key) scope.now self.old }
         requires few { scope.now.most ≤ MAX_STATES }
@@ -129,14 +129,14 @@ impl Search {
         while (at as usize) < self.store.states().len() {
             self.tell(alloc, at, progress)?;
             if !self.expand::<U>(alloc, scope, at)? {
-                return Ok(Stopped {
+                return Ok(StoppedSearch {
                     extent: Extent::Part,
                     at,
                 });
             }
             at += 1;
         }
-        Ok(Stopped {
+        Ok(StoppedSearch {
             extent: Extent::All,
             at,
         })

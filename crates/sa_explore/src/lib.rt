@@ -7,8 +7,9 @@ mod begin;
 mod expand;
 mod orders;
 mod progress;
-mod replay;
+mod runs;
 mod search;
 
 pub use orders::explore;
 pub use progress::{NoProgress, Progress};
+pub use runs::replay;

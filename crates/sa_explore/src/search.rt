@@ -9,7 +9,7 @@ ghost use Rattle.sa_explore.specs.Ahead.{IsRun, AreAhead};
 ghost use Rattle.sa_explore.specs.Doing.{turns_to, RunsGoOn, HasDone, IsMade};
 
 use crate::ahead::{Tried, Turned, discard, keep_ahead, turn_from};
-use crate::replay::end_at;
+use crate::runs::end_at;
 use sa_base::ProcNo;
 use sa_core::Core;
 use sa_explore_model::State;

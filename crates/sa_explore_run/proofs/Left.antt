@@ -9,7 +9,8 @@ use Rattle.sa_debug.specs.Stuck.{StuckThreadsWait}
 use Rattle.sa_debug.specs.Views.{state_behind}
 use Rattle.sa_explore_run.specs.declared.answer.Wait.{Wait}
 use Rattle.sa_explore_run.specs.Behind.{HaveEach, LeadToStuck, AreWaits, AreLeft}
-use Rattle.sa_explore_run.proofs.Running.{lead-reaches, stuck-ended}
+use Rattle.sa_explore_runs.proofs.Ends.{stuck-ended}
+use Rattle.sa_explore_run.proofs.Reaching.{lead-reaches}
 use Rattle.sa_explore_run.proofs.Holders.{all-held}
 use Rattle.sa_explore_run.proofs.EachWaits.{have-each}
 

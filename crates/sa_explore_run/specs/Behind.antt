@@ -1,6 +1,5 @@
 -- What a schedule leads to.
-use Rattle.std.specs.Prelude.{◌≡◌, ℕ, ◌<◌, ◌≤◌, List, Some, length, take, All, Contains}
-use Rattle.sa_base.specs.declared.limits.TheConstants.{MAX_EVENTS}
+use Rattle.std.specs.Prelude.{◌≡◌, List, Some, Contains}
 use Rattle.sa_base.specs.declared.number.ProcNo.{ProcNo}
 use Rattle.sa_base.specs.declared.number.SpaceNo.{SpaceNo}
 use Rattle.sa_base.specs.declared.number.ThreadNo.{ThreadNo}
@@ -13,7 +12,6 @@ use Rattle.sa_laws.specs.State.{State, opening_state}
 use Rattle.sa_debug.specs.Stuck.{IsLeft}
 use Rattle.sa_debug.specs.Views.{state_behind}
 use Rattle.sa_explore_runs.specs.Runs.{end, LeadTo}
-use Rattle.sa_explore_runs.specs.Searching.{IsOpen}
 use Rattle.sa_explore_run.specs.declared.answer.Wait.{Wait}
 use Rattle.sa_explore_run.specs.Waits.{waits_of}
 
@@ -22,12 +20,6 @@ abbrev pub HaveEach : State → List Wait → Type 0
 HaveEach a waits = (s : SpaceNo) (t : ThreadNo) → IsLeft a s t → (wait : Wait) × Contains waits wait × (wait.space ≡ s) × (wait.thread ≡ t)
 
 module _ {U C : Type 0} (f : Calls U C) (w : WorkloadView) where
-  -- the turns are of the workload's processors, as many as a run may have, and no run ends before the last of them
-  pub record CanBeRun (turns : List ProcNo) : Type 0 where
-    pub few : length turns ≤ MAX_EVENTS
-    pub within : All (λ p. p.0 < w.processors) turns
-    pub open_before : (n : ℕ) → n < length turns → IsOpen f w (take n turns)
-
   -- the items are the history of a machine to which the turns lead
   pub record IsHistory (turns : List ProcNo) (items : List Item) : Type 0 where
     pub machine : Machine U C

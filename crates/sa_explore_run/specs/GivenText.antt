@@ -4,7 +4,7 @@ use Rattle.sa_base.specs.declared.number.ProcNo.{ProcNo}
 use Rattle.sa_instr.specs.declared.limits.TheConstants.{MAX_TURNS}
 use Rattle.sa_spaces.specs.Workload.{WorkloadView}
 use Rattle.sa_input.specs.declared.limits.TheConstants.{WORKLOAD_LIMIT}
-use Rattle.sa_workload_lines.specs.Text.{IsText, text_of}
+use Rattle.sa_workload.specs.Text.{IsText, text_of}
 use Rattle.sa_explore_model.specs.declared.answer.Found.{Found}
 
 abbrev pub with_turns : WorkloadView → List ProcNo → WorkloadView

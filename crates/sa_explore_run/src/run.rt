@@ -4,7 +4,8 @@ ghost use Rattle.std.specs.Option.{option_copied};
 ghost use Rattle.sa_base.specs.declared.limits.TheConstants.{MAX_EVENTS};
 ghost use Rattle.sa_debug.specs.Reached.{IsPlayable};
 ghost use Rattle.sa_debug.specs.Stuck.{StuckThreadsWait};
-ghost use Rattle.sa_explore_run.specs.Behind.{CanBeRun, LeadToStuck};
+ghost use Rattle.sa_explore_runs.specs.Runs.{CanBeRun};
+ghost use Rattle.sa_explore_run.specs.Behind.{LeadToStuck};
 ghost use Rattle.sa_explore_run.specs.Answer.{AreStuckWaits, IsAnswer};
 
 use crate::Wait;

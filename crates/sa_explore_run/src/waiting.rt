@@ -3,7 +3,8 @@ ghost use Rattle.std.specs.Prelude.{IfOk};
 ghost use Rattle.sa_base.specs.declared.limits.TheConstants.{MAX_EVENTS};
 ghost use Rattle.sa_debug.specs.Reached.{IsPlayable};
 ghost use Rattle.sa_debug.specs.Stuck.{StuckThreadsWait};
-ghost use Rattle.sa_explore_run.specs.Behind.{CanBeRun, LeadToStuck, AreWaits, AreLeft};
+ghost use Rattle.sa_explore_runs.specs.Runs.{CanBeRun};
+ghost use Rattle.sa_explore_run.specs.Behind.{LeadToStuck, AreWaits, AreLeft};
 
 use crate::history::history;
 use crate::replayed::replayed;

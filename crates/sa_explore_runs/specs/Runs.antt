@@ -1,5 +1,6 @@
 -- The runs of a workload that are gone through: first its turn lines are done, in order, and then turns in any order, up to an end.
-use Rattle.std.specs.Prelude.{◌≡◌, if◌then◌else◌, List, [], ◌++◌, Option, Some, None}
+use Rattle.std.specs.Prelude.{◌≡◌, ℕ, ◌<◌, ◌≤◌, if◌then◌else◌, List, [], ◌++◌, length, take, All, Option, Some, None}
+use Rattle.sa_base.specs.declared.limits.TheConstants.{MAX_EVENTS}
 use Rattle.sa_base.specs.declared.number.ProcNo.{ProcNo}
 use Rattle.sa_base.specs.declared.record.End.{End}
 use Rattle.sa_base.specs.declared.record.End.TheVariants.{AllDone, Stuck}
@@ -40,3 +41,13 @@ module _ {U C : Type 0} (f : Calls U C) where
   -- some machine is led to by these turns
   abbrev pub CanLead : WorkloadView → List ProcNo → Type 0
   CanLead w turns = (m : Machine U C) × LeadTo w turns m
+
+  -- runs go on at each machine to which these turns lead
+  abbrev pub IsOpen : WorkloadView → List ProcNo → Type 0
+  IsOpen w turns = (m : Machine U C) → LeadTo w turns m → end m ≡ None
+
+  -- the turns are of the workload's processors, as many as a run may have, and no run ends before the last of them
+  pub record CanBeRun (w : WorkloadView) (turns : List ProcNo) : Type 0 where
+    pub few : length turns ≤ MAX_EVENTS
+    pub within : All (λ p. p.0 < w.processors) turns
+    pub open_before : (n : ℕ) → n < length turns → IsOpen w (take n turns)

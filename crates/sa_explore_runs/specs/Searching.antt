@@ -1,5 +1,5 @@
 -- What a search has done, with the store in which it keeps the states.
-use Rattle.std.specs.Prelude.{◌≡◌, ℕ, List, Option, Some, None, slice_get}
+use Rattle.std.specs.Prelude.{◌≡◌, ℕ, List, Option, Some, slice_get}
 use Rattle.sa_base.specs.declared.number.ProcNo.{ProcNo}
 use Rattle.sa_spaces.specs.Space.{SpaceView}
 use Rattle.sa_spaces.specs.Workload.{WorkloadView}
@@ -17,10 +17,6 @@ abbrev pub KeysTell : {U C D : Type 0} → Calls U C → (Option SpaceView → C
 KeysTell {U} {C} f plain code =
     (m n : Machine U C) → IsOfRun f m → IsOfRun f n → m.workload ≡ n.workload → code (outlook plain m) ≡ code (outlook plain n)
     → outlook plain m ≡ outlook plain n
-
--- runs go on at each machine to which these turns lead
-abbrev pub IsOpen : {U C : Type 0} → Calls U C → WorkloadView → List ProcNo → Type 0
-IsOpen {U} {C} f w turns = (m : Machine U C) → LeadTo f w turns m → end f m ≡ None
 
 -- `code` is the key of an outlook
 module _ {U C D : Type 0} (f : Calls U C) (plain : Option SpaceView → C → D) (code : Outlook U D → List ℕ) (w : WorkloadView) where

@@ -2,9 +2,9 @@
 use Rattle.std.specs.Prelude.{◌≡◌, ℕ, ◌≤◌, List, length, Err}
 use Rattle.sa_base.specs.declared.refusal.Bad.{Bad}
 use Rattle.sa_spaces.specs.Workload.{WorkloadView}
-use Rattle.sa_workload_lines.specs.Text.{IsText}
-use Rattle.sa_workload_lines.specs.Bad.{BadAt}
-use Rattle.sa_workload_lines.specs.Texts.{workload_part, second_part}
+use Rattle.sa_workload.specs.Text.{IsText}
+use Rattle.sa_workload.specs.Bad.{BadAt}
+use Rattle.sa_workload.specs.Texts.{workload_part, second_part}
 use Rattle.sa_trace.specs.Reading.{read_of}
 use Rattle.sa_input.specs.declared.limits.TheConstants.{WORKLOAD_LIMIT, TRACE_LIMIT}
 use Rattle.sa_input.specs.Refusals.{IsInputRefused}

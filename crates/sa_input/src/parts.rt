@@ -1,9 +1,9 @@
 // The two texts of an input: a workload text up to its first line that is `close`, and directly after it another text.
 ghost use Rattle.std.specs.Prelude.{◌≡◌, ◌≤◌, length, IfOk, IfErr};
-ghost use Rattle.sa_workload_lines.specs.Text.{IsText};
-ghost use Rattle.sa_workload_lines.specs.Bad.{BadAt};
+ghost use Rattle.sa_workload.specs.Text.{IsText};
+ghost use Rattle.sa_workload.specs.Bad.{BadAt};
 ghost use Rattle.sa_workload.specs.Answer.{IfBad};
-ghost use Rattle.sa_workload_lines.specs.Texts.{workload_part, second_part};
+ghost use Rattle.sa_workload.specs.Texts.{workload_part, second_part};
 ghost use Rattle.sa_input.specs.Refusals.{IsInputRefused};
 
 use crate::limits::WORKLOAD_LIMIT;

@@ -11,6 +11,6 @@ mod words;
 pub use adapters::{StdSink, StdSource};
 pub use input::{ReadError, read_input};
 pub use memory::{MemSink, MemSource};
-pub use pieces::{PIECE, Pieces, write_text};
+pub use pieces::{PIECE, PieceWriter, write_text};
 pub use traits::{Failed, Sink, Source};
 pub use words::{NoWords, Words};

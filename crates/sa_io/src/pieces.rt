@@ -15,11 +15,11 @@ pub const PIECE: usize = 4_096;
 /// A text on its way to a sink: what was put goes out in pieces of exactly `PIECE` bytes, and the rest at the end. It takes
 /// no memory. Contracts see the bytes that still wait.
 #[derive(Drop)]
-pub struct Pieces {
+pub struct PieceWriter {
     waiting: ArrayVec<u8, PIECE>,
 }
 
-impl Model for Pieces {
+impl Model for PieceWriter {
     ghost use Rattle.std.specs.Prelude.{ℕ, List};
 
     ghost Value = { List ℕ };
@@ -27,12 +27,12 @@ impl Model for Pieces {
     ghost view = { λ x. x.waiting.items };
 }
 
-impl Pieces {
+impl PieceWriter {
     /// Before any text.
     pub fn new() -> Self
         ensures { result ≡ [] }
     {
-        Pieces {
+        PieceWriter {
             waiting: ArrayVec::new(),
         }
     }
@@ -78,7 +78,7 @@ pub fn write_text<K: Sink>(sink: &mut K, text: &[u8]) -> Result<(), Failed>
     ensures fault { OnErr result (HasRisen (K.faults sink.old) (K.faults sink.new)) }
     ensures counted { K.faults sink.old ≤ K.faults sink.new }
 {
-    let mut pieces = Pieces::new();
+    let mut pieces = PieceWriter::new();
     pieces.put(sink, text)?;
     pieces.end(sink)
 }

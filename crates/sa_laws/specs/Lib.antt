@@ -16,4 +16,5 @@ pub mod Turns
 pub mod Locks
 pub mod Ends
 pub mod Rules
+pub mod Any
 pub mod Legal

@@ -22,7 +22,7 @@ use Rattle.sa_devices.specs.declared.kind.IoKind.TheVariants.{Plain, Page, Upcal
 use Rattle.sa_laws.specs.State.{instr_of, next_instr}
 use Rattle.sa_laws.specs.Machine.{changed, next_effect}
 use Rattle.sa_laws.specs.Life.{Life, Lock, new_life, has_lock, first_lock, with_lock, without_lock, with_first, readied, ran, with_hand, without_thread, with_cont, held_with, inherits, bereft}
-use Rattle.sa_laws.specs.Readings.{Readings, Listed, space_of_life, running_of, life_of, life_on, demand_of, ready_of, has_hand}
+use Rattle.sa_laws.specs.Readings.{Readings, Listed, space_of_life, running_of, life_of, life_on, demand_of, ready_of, has_hand, is_resident}
 
 -- The aim of a processor is that of its last aim record; the demand of a space that of its last want record.
 abbrev pub aims_after : List (Option SpaceNo) → Record → List (Option SpaceNo)
@@ -134,8 +134,8 @@ abbrev pub locks_one : Option Life → Bool
 locks_one None = false
 locks_one (Some life) = has_lock life
 
--- What a block is for: directly after an `io` its length, and no page; where its life has a lock, the package's page;
--- else the page that its thread touches
+-- What a block is for: directly after an `io` its length, and no page; if its life has a lock and the package's page is absent, that
+-- page; else the page that its thread touches
 pub record Blocking : Type 0 where
   pub kind : IoKind
   pub length : ℕ
@@ -143,7 +143,7 @@ pub record Blocking : Type 0 where
 abbrev pub blocking_for : WorkloadView → Readings → SpaceNo → Option ThreadNo → ActNo → Option ℕ → Blocking
 blocking_for w r s t a (Some length) = record { kind = Plain s a; length = length }
 blocking_for w r s t a None = record {
-  kind = Page s a (if locks_one (life_of r a) then PACKAGE_PAGE else page_touched w r s t);
+  kind = Page s a (if locks_one (life_of r a) && not (is_resident r s PACKAGE_PAGE) then PACKAGE_PAGE else page_touched w r s t);
   length = w.fetch;
 }
 

@@ -1,5 +1,6 @@
 -- What entries and steps need, and what holds after them.
 use Rattle.std.proofs.Common.{◌≡◌, ℕ, ◌+◌, ◌<◌, ◌≤◌, true, Option, Some, None, IsSome, length, refl, sym, ap, subst, ◌∙◌, arith}
+use Rattle.sa_lemmas.proofs.Options.{some-is}
 use Rattle.sa_base.specs.declared.number.ProcNo.{ProcNo}
 use Rattle.sa_base.specs.declared.number.SpaceNo.{SpaceNo}
 use Rattle.sa_base.specs.declared.number.ActNo.{ActNo}
@@ -20,7 +21,7 @@ use Rattle.sa_core_model.specs.Turn.{kernel_entered, asked, turned_owned, next_e
 use Rattle.sa_core_model.specs.Run.{CanGo}
 use Rattle.sa_core_model.specs.Standing.{Stands, IsBetween}
 use Rattle.sa_core_model.proofs.Effects.{same-more, same-idled, same-own}
-use Rattle.sa_core_model.proofs.Phases.{some-is, at-owned, stands-later}
+use Rattle.sa_core_model.proofs.Phases.{at-owned, stands-later}
 use Rattle.sa_core_model.proofs.Turns.{Rests, begun-is, rests-next, Welcomed, CanEnter, can-interrupt, can-block, welcomed-upcall, rests-between, rests-entered, rests-given, stepped-is, rests-stepped, step-law, between-rests, own-page}
 use Rattle.sa_machine.specs.Needs.{ByFresh, Welcomes, IsNext, Asks}
 

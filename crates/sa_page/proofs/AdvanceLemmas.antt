@@ -18,8 +18,7 @@ use Rattle.sa_check.specs.Records.{behind_some}
 use Rattle.sa_check.proofs.JudgeLemmas.{ended-is}
 use Rattle.sa_cells.specs.declared.view.View.{View}
 use Rattle.sa_page.specs.Advance.{IsBehind, ReadsSome, IsAdvanced}
-use Rattle.sa_check.proofs.UrgedLemmas.{parts-are}
-use Rattle.sa_page.proofs.UrgedLemmas.{over-is}
+use Rattle.sa_check.proofs.UrgedLemmas.{parts-are, over-is}
 
 -- steps of records one after another are those of the first ones, and of those after them
 steps-front : (w : WorkloadView) (e : ℕ) (p : ProcNo) (r : Readings) (xs ys : List Record) → AreSteps w e p r (xs ++ ys) → AreSteps w e p r xs
@@ -92,7 +91,8 @@ over : (m start own all : Seen) (e : Event) (running : Option ActNo) (urged : Bo
     → running ≡ running_of m.readings e.proc → IsBehind start (own_event e) own → IsBehind own (closing_event e) all → urged ≡ urged_at own running
     → IsOver m.readings e urged all
 over m start own all e running urged begins runs first rest is =
-    over-is m start all e running urged begins runs (whole start own all e first rest) (is ∙ ap (λ (x : Seen). urged_at x running) first.moment)
+    let same : urged ≡ urged_at (behind_some start e (own_part e.records)) running = is ∙ ap (λ (x : Seen). urged_at x running) first.moment in
+    over-is m start all e running urged begins runs (whole start own all e first rest) (λ early. (λ yes. sym same ∙ yes, λ yes. same ∙ yes))
 
 pub advanced : (m start own all next : Seen) (e : Event) → start ≡ at_event e.number e.proc m → IsBehind start (own_event e) own
     → IsBehind own (closing_event e) all → next ≡ at_end m.readings e.number e.proc e.records all → IsAdvanced m e next

@@ -1,4 +1,3 @@
-mod UrgedLemmas
 mod AdvanceLemmas
 mod ShownLemmas
 mod PageLemmas

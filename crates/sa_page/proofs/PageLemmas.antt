@@ -3,8 +3,8 @@ use Rattle.std.proofs.Common.{◌≡◌, ℕ, List, [], ◌++◌, sym, ap, ◌�
 use Rattle.sa_spaces.specs.Workload.{WorkloadView}
 use Rattle.sa_trace.specs.Reading.{Told}
 use Rattle.sa_laws.specs.Event.{events_of}
-use Rattle.sa_check_moment.specs.declared.rules.Rules.{Rules}
-use Rattle.sa_check_moment.specs.Rules.{rules_of}
+use Rattle.sa_base.specs.declared.package.RulesName.{RulesName}
+use Rattle.sa_ranks.specs.Packages.{rules_named}
 use Rattle.sa_check.specs.declared.verdict.Verdict.{Verdict}
 use Rattle.sa_check.specs.Verdict.{IsVerdict, last_line}
 use Rattle.sa_check.specs.Line.{line_of as verdict_text}
@@ -23,18 +23,18 @@ pub begins-with : (before after piece : List ℕ) → after ≡ before ++ piece 
 begins-with before after piece e none = e ∙ ap (λ xs. xs ++ piece) none
 
 -- only one text is printed of a verdict and a trace, and only one is the page
-printed-one : (rules : Rules) (w : WorkloadView) (v : Verdict) (t : Told) (a b : List ℕ) → IsPrinted rules w v t a → IsPrinted rules w v t b → a ≡ b
+printed-one : (rules : RulesName) (w : WorkloadView) (v : Verdict) (t : Told) (a b : List ℕ) → IsPrinted rules w v t a → IsPrinted rules w v t b → a ≡ b
 printed-one rules w v t a b p q =
     p.is
     ∙ ap (page_text (verdict_text rules v) (end_text t.end t.events) (said w t.items) (opening_lines (opened rules w)))
     (shown-one (opened rules w) [] (events_of t.items) p.shown q.shown p.shows q.shows)
     ∙ sym q.is
 
-pub page-one : (rules : Rules) (w : WorkloadView) (trace a b : List ℕ) → IsPage rules w trace a → IsPage rules w trace b → a ≡ b
+pub page-one : (rules : RulesName) (w : WorkloadView) (trace a b : List ℕ) → IsPage rules w trace a → IsPage rules w trace b → a ≡ b
 page-one rules w trace a b p q =
     let told : p.told ≡ q.told = cc (p.read, q.read) in
-    let holds : IsVerdict (rules_of rules) w q.told.items (last_line q.told) p.verdict =
-    subst (λ (t : Told). IsVerdict (rules_of rules) w t.items (last_line t) p.verdict) told p.holds in
-    let verdict = one-verdict (rules_of rules) w q.told.items (last_line q.told) p.verdict q.verdict holds q.holds in
+    let holds : IsVerdict (rules_named rules) w q.told.items (last_line q.told) p.verdict =
+    subst (λ (t : Told). IsVerdict (rules_named rules) w t.items (last_line t) p.verdict) told p.holds in
+    let verdict = one-verdict (rules_named rules) w q.told.items (last_line q.told) p.verdict q.verdict holds q.holds in
     let printed : IsPrinted rules w p.verdict q.told a = subst (λ (t : Told). IsPrinted rules w p.verdict t a) told p.printed in
     printed-one rules w q.verdict q.told a b (subst (λ (v : Verdict). IsPrinted rules w v q.told a) verdict printed) q.printed

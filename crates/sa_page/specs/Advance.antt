@@ -2,15 +2,10 @@
 use Rattle.std.specs.Prelude.{◌≡◌, Option, Some, None}
 use Rattle.sa_laws.specs.Event.{Event}
 use Rattle.sa_laws.specs.Step.{AreSteps, IsStepwise}
-use Rattle.sa_check_moment.specs.Seen.{Seen, seen, event}
+use Rattle.sa_check_moment.specs.Seen.{Seen, seen}
 use Rattle.sa_check.specs.Judged.{after}
 use Rattle.sa_check.specs.Records.{behind_some}
 use Rattle.sa_cells.specs.declared.view.View.{View}
-use Rattle.sa_page.specs.declared.event.TraceEvent.{TraceEvent}
-
--- an event of a trace as the definitions see it
-abbrev pub told : TraceEvent → Event
-told e = event e.number e.proc e.records.now
 
 -- some records of an event, from the moment before them on
 pub record IsBehind (m : Seen) (e : Event) (next : Seen) : Type 0 where

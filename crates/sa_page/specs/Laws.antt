@@ -2,7 +2,7 @@
 use Rattle.std.specs.Prelude.{◌≡◌, ℕ, List}
 use Rattle.sa_base.specs.declared.number.ActNo.{ActNo}
 use Rattle.sa_laws.specs.Event.{Event}
-use Rattle.sa_check_moment.specs.declared.rules.Rules.{Rules}
+use Rattle.sa_base.specs.declared.package.RulesName.{RulesName}
 use Rattle.sa_check_moment.specs.Seen.{Seen}
 use Rattle.sa_spaces.specs.Workload.{WorkloadView}
 use Rattle.sa_page.specs.Shown.{Shows}
@@ -14,4 +14,4 @@ ShownIsOne = (m : Seen) (ups : List ActNo) (events : List Event) (a b : List ℕ
 
 -- only one text is the page of a workload and a trace text, by some rules
 abbrev pub PageIsOne : Type 0
-PageIsOne = (rules : Rules) (w : WorkloadView) (trace a b : List ℕ) → IsPage rules w trace a → IsPage rules w trace b → a ≡ b
+PageIsOne = (rules : RulesName) (w : WorkloadView) (trace a b : List ℕ) → IsPage rules w trace a → IsPage rules w trace b → a ≡ b

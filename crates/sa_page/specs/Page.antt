@@ -8,8 +8,8 @@ use Rattle.sa_trace.specs.Reading.{Told, read_of}
 use Rattle.sa_trace.specs.TraceText.{line_of, end_word}
 use Rattle.sa_laws.specs.Event.{events_of}
 use Rattle.sa_laws.specs.Life.{Life}
-use Rattle.sa_check_moment.specs.declared.rules.Rules.{Rules}
-use Rattle.sa_check_moment.specs.Rules.{rules_of}
+use Rattle.sa_base.specs.declared.package.RulesName.{RulesName}
+use Rattle.sa_ranks.specs.Packages.{rules_named}
 use Rattle.sa_check.specs.declared.verdict.Verdict.{Verdict}
 use Rattle.sa_check.specs.Verdict.{IsVerdict, last_line}
 use Rattle.sa_check.specs.Line.{line_of as verdict_text}
@@ -56,7 +56,7 @@ unfoldable pub page_text : List ℕ → List ℕ → List ℕ → List ℕ → L
 page_text verdict end trace opening shown = HEAD.now ++ verdict ++ end ++ TRACE.now ++ trace ++ CELLS.now ++ opening ++ shown ++ TAIL.now
 
 -- the text is that of the page with this verdict
-pub record IsPrinted (rules : Rules) (w : WorkloadView) (verdict : Verdict) (told : Told) (text : List ℕ) : Type 0 where
+pub record IsPrinted (rules : RulesName) (w : WorkloadView) (verdict : Verdict) (told : Told) (text : List ℕ) : Type 0 where
   pub shown : List ℕ
   pub shows : Shows (opened rules w) [] (events_of told.items) shown
   pub is :
@@ -64,12 +64,12 @@ pub record IsPrinted (rules : Rules) (w : WorkloadView) (verdict : Verdict) (tol
       ≡ page_text (verdict_text rules verdict) (end_text told.end told.events) (said w told.items) (opening_lines (opened rules w)) shown
 
 -- the text is the page of this workload and trace text, by these rules
-pub record IsPage (rules : Rules) (w : WorkloadView) (trace text : List ℕ) : Type 0 where
+pub record IsPage (rules : RulesName) (w : WorkloadView) (trace text : List ℕ) : Type 0 where
   pub told : Told
   pub read : read_of trace ≡ Ok told
   pub few : told.events ≤ MAX_EVENTS
   pub verdict : Verdict
-  pub holds : IsVerdict (rules_of rules) w told.items (last_line told) verdict
+  pub holds : IsVerdict (rules_named rules) w told.items (last_line told) verdict
   pub printed : IsPrinted rules w verdict told text
 
 -- a trace of more events than a page may have

@@ -1,17 +1,18 @@
 // A moment goes along an event, which is not judged.
 ghost use Rattle.std.specs.Prelude.{IfOk};
 ghost use Rattle.sa_check_moment.specs.Seen.{seen, event};
-ghost use Rattle.sa_page.specs.Advance.{told, ReadsSome, Advances};
+ghost use Rattle.sa_check.specs.Items.{told_event};
+ghost use Rattle.sa_page.specs.Advance.{ReadsSome, Advances};
 
-use crate::event::TraceEvent;
 use sa_base::{ProcNo, Record};
 use sa_cells::View;
+use sa_check::TraceEvent;
 use sa_check_shapes::{closing_part, own_part};
 use std::alloc::AllocError;
 
 /// What is seen behind the event. `None` exactly where one of its records is no step of the abstract machine.
 pub(crate) fn advance(view: View, event: &TraceEvent) -> Result<Option<View>, AllocError>
-    ensures { IfOk result (Advances (seen view.moment) (told event.now)) }
+    ensures { IfOk result (Advances (seen view.moment) (told_event event.now)) }
 {
     let number = event.number;
     let p = event.proc;

@@ -4,17 +4,10 @@ ghost use Rattle.std.specs.List.{prefix_len};
 ghost use Rattle.sa_check.specs.Items.{is_with, what_of};
 ghost use Rattle.sa_page.specs.Gathered.{IsGathered, Gathers};
 
-use sa_base::{Item, ProcNo, Record};
+use sa_base::{Item, Record};
+use sa_check::is_with;
 use sa_check_shapes::parted;
 use std::alloc::{AllocError, Global};
-
-/// An event of a trace: its number, its processor, and its records in order.
-#[derive(Clone, Copy)]
-pub(crate) struct TraceEvent<'a> {
-    pub(crate) number: u64,
-    pub(crate) proc: ProcNo,
-    pub(crate) records: &'a [Record],
-}
 
 /// The event with which some items begin, and the items after it.
 #[derive(Drop)]
@@ -61,13 +54,6 @@ fn with_first(first: &Item, items: &[Item]) -> usize
         }
     }
     items.len()
-}
-
-// The items are of one event.
-fn is_with(first: &Item, item: &Item) -> bool
-    ensures { result ≡ is_with first.now item.now }
-{
-    first.event == item.event && first.proc.0 == item.proc.0
 }
 
 // The records of an event that begins with this item, and has these.

@@ -10,4 +10,3 @@ mod shell;
 mod shown;
 
 pub use page::{MAX_EVENTS, PageError, page_limits_are_these, page_of};
-pub use sa_check_moment::Rules;

@@ -7,9 +7,8 @@ use sa_base::{End, Item, ProcNo};
 use sa_cells::push_words;
 use sa_check_lives::Lives;
 use sa_spaces::Workload;
-use sa_svg::push_line;
 use sa_text::print_number;
-use sa_trace::end_word;
+use sa_trace::{append_line, end_word};
 use std::alloc::{AllocError, Global};
 
 /// Appends the line of each item of a trace of this workload, and after it what its record says in words.
@@ -52,7 +51,7 @@ fn in_copy_on(lives: &Lives, p: ProcNo) -> bool
 fn push_item(out: &mut Vec<u8>, in_copy: bool, item: &Item) -> Result<(), AllocError>
     ensures { OnOk result (out.new.items ≡ out.old.items ++ item_text in_copy item.now) }
 {
-    push_line(out, item)?;
+    append_line(out, item)?;
     push_words(out, in_copy, &item.what)?;
     out.extend_from_slice(b"\n")
 }

@@ -6,9 +6,9 @@ ghost use Rattle.sa_page.specs.Page.{IsPage, IsPrinted, HasNoPage};
 use crate::lines::{push_end, push_items};
 use crate::shell::{CELLS, HEAD, TAIL, TRACE};
 use crate::shown::{Pair, push_shown};
-use sa_base::{Bad, Unread};
+use sa_base::{Bad, RulesName, Unread};
 use sa_cells::push_opening;
-use sa_check::{Rules, Verdict, check, verdict_line};
+use sa_check::{Verdict, check, verdict_line};
 use sa_spaces::Workload;
 use sa_trace::{TraceText, read};
 use std::alloc::{AllocError, Global};
@@ -35,7 +35,7 @@ pub enum PageError {
 /// The text of the page of the trace of this text, beside its workload, by these rules.
 pub fn page_of(
     alloc: Global,
-    rules: Rules,
+    rules: RulesName,
     workload: &Workload,
     text: &[u8],
 ) -> Result<Vec<u8>, PageError>
@@ -52,7 +52,7 @@ pub fn page_of(
 // The same, where the trace was read.
 fn page_with(
     alloc: Global,
-    rules: Rules,
+    rules: RulesName,
     workload: &Workload,
     text: &[u8],
     trace: &TraceText,
@@ -77,7 +77,7 @@ fn page_with(
 // The text of the page with this verdict.
 fn print(
     alloc: Global,
-    rules: Rules,
+    rules: RulesName,
     workload: &Workload,
     verdict: Verdict,
     trace: &TraceText,

@@ -4,9 +4,8 @@ ghost use Rattle.sa_check_moment.specs.Seen.{seen};
 
 mod walk;
 
-use sa_base::ActNo;
+use sa_base::{ActNo, RulesName};
 use sa_cells::View;
-use sa_check_moment::Rules;
 use sa_spaces::Workload;
 use std::alloc::{AllocError, Global};
 pub(crate) use walk::push_shown;
@@ -27,7 +26,7 @@ impl Pair {
     /// Before any record of a trace of this workload.
     pub(crate) fn start(
         alloc: Global,
-        rules: Rules,
+        rules: RulesName,
         workload: &Workload,
     ) -> Result<Pair, AllocError>
         ensures moment { IfOk result (λ pair. seen pair.now.moment ≡ opened rules workload.now) }

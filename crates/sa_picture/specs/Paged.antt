@@ -1,7 +1,7 @@
 -- What comes of an input: what is drawn of its trace, or the page of its workload and trace, or why there is none.
 use Rattle.std.specs.Prelude.{◌≡◌, ◌⊎◌, ⊤, ℕ, ◌<◌, List, length}
 use Rattle.sa_spaces.specs.Workload.{WorkloadView}
-use Rattle.sa_check_moment.specs.declared.rules.Rules.{Rules}
+use Rattle.sa_base.specs.declared.package.RulesName.{RulesName}
 use Rattle.sa_page.specs.Page.{IsPage, HasManyEvents}
 use Rattle.sa_input.specs.declared.limits.TheConstants.{TRACE_LIMIT}
 use Rattle.sa_input.specs.Refusals.{too_long}
@@ -11,11 +11,11 @@ use Rattle.sa_picture.specs.declared.request.Form.TheVariants.{Drawn, Page}
 use Rattle.sa_picture.specs.declared.request.Request.{Request}
 use Rattle.sa_picture.specs.declared.status.Status.{Status}
 use Rattle.sa_picture.specs.declared.status.Status.TheVariants.{BadWorkload, BadTrace, TooMuch, OutOfMemory}
-use Rattle.sa_workload_lines.specs.Texts.{second_part}
+use Rattle.sa_workload.specs.Texts.{second_part}
 use Rattle.sa_picture.specs.Drawn.{IsDrawn, IsNotDrawn}
 
 -- these bytes are the page of the workload and trace of the input
-pub record IsPaged (rules : Rules) (input text : List ℕ) : Type 0 where
+pub record IsPaged (rules : RulesName) (input text : List ℕ) : Type 0 where
   pub workload : WorkloadView
   pub has : HasWorkload input workload
   pub page : IsPage rules workload (second_part input) text

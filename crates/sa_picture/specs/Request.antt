@@ -4,8 +4,9 @@ use Rattle.std.specs.Prelude.{ℕ, ◌^◌, ◌-◌, Bool, true, not, is_none, �
 use Rattle.std.specs.Str.{bytes_eq}
 use Rattle.sa_text.specs.Number.{number_of}
 use Rattle.sa_svg.specs.declared.layout.TheConstants.{DEFAULT_WIDTH, MAX_WIDTH, MIN_WIDTH}
-use Rattle.sa_check_moment.specs.declared.rules.Rules.{Rules}
-use Rattle.sa_check_moment.specs.declared.rules.Rules.TheVariants.{FastThreads, Priorities}
+use Rattle.sa_base.specs.declared.package.RulesName.{RulesName}
+use Rattle.sa_base.specs.declared.package.RulesName.TheVariants.{FastThreads}
+use Rattle.sa_base.specs.Package.{rules_word}
 use Rattle.sa_picture.specs.declared.request.Form.{Form}
 use Rattle.sa_picture.specs.declared.request.Form.TheVariants as form
 use Rattle.sa_picture.specs.declared.request.FormWord.{FormWord}
@@ -21,18 +22,15 @@ within low high n = if nat_le low n && nat_le n high then Some n else None
 abbrev pub set_once : Option ℕ → ℕ → ℕ → List ℕ → Option ℕ
 set_once old low high word = if is_some old then None else option_and_then (within low high) (number_of word)
 
--- the words of forms and of packages
+-- the words of forms
 abbrev pub form_in : List ℕ → Option FormWord
 form_in word = if bytes_eq word (codes "svg") then Some Svg else (if bytes_eq word (codes "events") then Some Events else (if bytes_eq word (codes "page") then Some Page else None))
-
-abbrev pub rules_in : List ℕ → Option Rules
-rules_in word = if bytes_eq word (codes "fast") then Some FastThreads else (if bytes_eq word (codes "prio") then Some Priorities else None)
 
 abbrev pub with_form : Settings → List ℕ → Option Settings
 with_form s word = if is_some s.form then None else option_map (λ f. record s { form = Some f }) (form_in word)
 
 abbrev pub with_package : Settings → List ℕ → Option Settings
-with_package s word = if is_some s.rules then None else option_map (λ r. record s { rules = Some r }) (rules_in word)
+with_package s word = if is_some s.rules then None else option_map (λ r. record s { rules = Some r }) (rules_word word)
 
 --   --form    what is written: svg, as where none is named, events or page
 --   --package by whose rules a page's trace is judged: fast, as where none is named, or prio

@@ -30,14 +30,14 @@ fn report(rt: &impl Eprint, status: Status) -> io::Result<()> {
     match status {
         Status::Usage => {
             eprintln!(rt;
-                "usage: sa_picture [--form svg] [--from EVENT] [--to EVENT] [--width PIXELS], sa_picture --form events, or sa_picture --form page [--package fast|prio]"
+                "usage: sa_picture [--form svg] [--from EVENT] [--to EVENT] [--width PIXELS], sa_picture --form events, or sa_picture --form page [--package fast|prio|any]"
             )
         }
         Status::BadWorkload(bad) => eprintln!(rt; "bad workload: {bad}"),
         Status::BadTrace(bad) => eprintln!(rt; "bad trace: {bad}"),
         Status::TooMuch => {
             eprintln!(rt;
-                "too much to draw: at most 16 processors and 16 spaces; a picture has at most 10000 events and 40000 lines (--from, --to), trace events 512 threads of a space, a page 100000 events"
+                "too much to draw: at most 16 processors and 16 spaces; a picture has at most 10000 events and 40000 lines (for a part of more: --from, --to; for all of it: --form page, at most 100000 events); trace events have at most 512 threads of a space"
             )
         }
         Status::ReadFault => eprintln!(rt; "read fault"),

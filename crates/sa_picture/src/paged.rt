@@ -6,9 +6,9 @@ ghost use Rattle.sa_picture.specs.Paged.{IsWritten, IsNotWritten, IsPaged, IsNot
 use crate::request::{Form, Request};
 use crate::status::Status;
 use crate::text::drawn;
-use sa_base::Unread;
+use sa_base::{RulesName, Unread};
 use sa_input::{TRACE_LIMIT, parts_of, refusal_of_long};
-use sa_page::{PageError, Rules, page_of};
+use sa_page::{PageError, page_of};
 use std::alloc::Global;
 
 /// The text that is asked for of the input.
@@ -23,7 +23,7 @@ pub(crate) fn text_of(alloc: Global, request: Request, input: &[u8]) -> Result<V
 }
 
 // The page of the workload and trace of the input, by these rules.
-fn page_in(alloc: Global, rules: Rules, input: &[u8]) -> Result<Vec<u8>, Status>
+fn page_in(alloc: Global, rules: RulesName, input: &[u8]) -> Result<Vec<u8>, Status>
     ensures ok { IfOk result (λ text. IsPaged rules input.now text.items) }
     ensures err { IfErr result (IsNotPaged input.now) }
 {

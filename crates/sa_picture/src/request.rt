@@ -1,8 +1,8 @@
 // What the program is asked to draw.
 ghost use Rattle.std.specs.Prelude.{◌≡◌, map, string_bytes};
-ghost use Rattle.sa_picture.specs.Request.{set_once, with_option, settings_of, in_order, request_by, request_of, form_in, rules_in, with_form, with_package, form_by, picture_form, events_form, page_form, is_whole};
+ghost use Rattle.sa_picture.specs.Request.{set_once, with_option, settings_of, in_order, request_by, request_of, form_in, with_form, with_package, form_by, picture_form, events_form, page_form, is_whole};
 
-use sa_page::Rules;
+use sa_base::{RulesName, read_rules};
 use sa_svg::{DEFAULT_WIDTH, MAX_WIDTH, MIN_WIDTH};
 use sa_text::read_number;
 
@@ -19,7 +19,7 @@ pub enum Drawing {
 #[derive(Clone, Copy)]
 pub enum Form {
     Drawn(Drawing),
-    Page(Rules),
+    Page(RulesName),
 }
 
 /// The word of a form.
@@ -44,7 +44,7 @@ pub struct Request {
 #[derive(Clone, Copy)]
 pub(crate) struct Settings {
     pub(crate) form: Option<FormWord>,
-    pub(crate) rules: Option<Rules>,
+    pub(crate) rules: Option<RulesName>,
     pub(crate) from: Option<u64>,
     pub(crate) to: Option<u64>,
     pub(crate) width: Option<u64>,
@@ -115,7 +115,7 @@ fn page_form(settings: Settings) -> Option<Form>
     if !is_whole(settings) {
         return None;
     }
-    Some(Form::Page(settings.rules.unwrap_or(Rules::FastThreads)))
+    Some(Form::Page(settings.rules.unwrap_or(RulesName::FastThreads)))
 }
 
 // No part of the events is asked for, and no width.
@@ -217,23 +217,11 @@ fn with_package(settings: Settings, word: &[u8]) -> Option<Settings>
     if settings.rules.is_some() {
         return None;
     }
-    let rules = rules_in(word)?;
+    let rules = read_rules(word)?;
     Some(Settings {
         rules: Some(rules),
         ..settings
     })
-}
-
-fn rules_in(word: &[u8]) -> Option<Rules>
-    ensures { result ≡ rules_in word.now }
-{
-    if word == b"fast".as_slice() {
-        Some(Rules::FastThreads)
-    } else if word == b"prio".as_slice() {
-        Some(Rules::Priorities)
-    } else {
-        None
-    }
 }
 
 // The number that the word spells, in its range, where none was set before.

@@ -15,7 +15,9 @@ use Rattle.sa_laws.specs.Rules.{Holds}
 use Rattle.sa_laws.specs.Legal.{FirstBreak}
 use Rattle.sa_histories.specs.Short.{smallest, at, s0, p0, t0, act}
 use Rattle.sa_histories.proofs.Legality.{laws-hold, break-behind}
-use Rattle.sa_promises.specs.Packages.{Package, Fast, Prio, rules_of}
+use Rattle.sa_base.specs.declared.package.PackageName.{PackageName}
+use Rattle.sa_base.specs.declared.package.PackageName.TheVariants.{FastThreads, Priorities}
+use Rattle.sa_ranks.specs.Packages.{rules_of}
 use Rattle.sa_promises.specs.Examples.{smallest_run, blocking, stops_at, told_done, other_opening, other_place, told_of_nothing, stopped_untold, two_lives, not_told_added, other_io, interrupt_put_off, raised_for_nothing, wanted_for_nothing, aimed_for_nothing, idle_with_lock, idle_beside_thread, freed_unused, not_done}
 use Rattle.sa_promises.proofs.Plain.{before-demand, before-locks, before-turns}
 use Rattle.sa_promises.proofs.Calm.{prompt-calm, no-wants, one-share}
@@ -26,26 +28,26 @@ use Rattle.sa_promises.proofs.OwnRules.{nothing-owed, unbound, in-demand, in-tur
 use Rattle.sa_promises.proofs.Unlocked.{none-locked}
 
 -- before the event at n of the smallest run
-abbrev r : Package → ℕ → Readings
+abbrev r : PackageName → ℕ → Readings
 r which n = before which smallest_programs n
 
-abbrev after : Package → ℕ → List Record → Readings
+abbrev after : PackageName → ℕ → List Record → Readings
 after which n records = after_event (rules_of which).inside smallest (r which n) (at n records)
 
-pub breaks-Numbered : (which : Package) → FirstBreak (rules_of which) smallest other_opening (stops_at 0) 0 Numbered
+pub breaks-Numbered : (which : PackageName) → FirstBreak (rules_of which) smallest other_opening (stops_at 0) 0 Numbered
 breaks-Numbered which = breaks-then 0 (Want s0 2 ∷ []) (before-instruction which smallest_programs)
     (record { earlier = tt; broken = λ h. let e = ap (λ (x : Event). slice_get x.records 0) (h.opening refl) in differs e })
   where
     differs : Some (Want s0 2) ≡ Some (Want s0 1) → ⊥
     differs e = cc
 
-pub breaks-Stepwise : (which : Package) → FirstBreak (rules_of which) smallest other_place (stops_at 5) 5 Stepwise
+pub breaks-Stepwise : (which : PackageName) → FirstBreak (rules_of which) smallest other_place (stops_at 5) 5 Stepwise
 breaks-Stepwise which = breaks-then 5 (Ins s0 t0 1 ∷ []) (before-instruction which smallest_programs) (record {
   earlier = record { number = refl; proc = omega arith; some = λ no. cc; opening = λ no. absurd (omega arith) } & tt;
   broken = λ h. let place = h.steps.0.pc in omega (arith, place);
 })
 
-pub breaks-ToldOnce : (which : Package) → FirstBreak (rules_of which) smallest told_of_nothing (stops_at 1) 1 ToldOnce
+pub breaks-ToldOnce : (which : PackageName) → FirstBreak (rules_of which) smallest told_of_nothing (stops_at 1) 1 ToldOnce
 breaks-ToldOnce which =
     breaks-then 1 (Move None (Some s0) ∷ Up s0 (act 0) ∷ Told (Add p0) ∷ Told (Preempted (act 7)) ∷ []) (before-instruction which smallest_programs) (record {
       earlier =
@@ -63,7 +65,7 @@ low : (k : ℕ) → is_some (slice_index_or low_lines k None) ≡ true → ⊥
 low zero raised = cc
 low (suc k) raised = cc
 
-pub breaks-ToldInTime : (which : Package) → FirstBreak (rules_of which) smallest stopped_untold (stops_at 5) 5 ToldInTime
+pub breaks-ToldInTime : (which : PackageName) → FirstBreak (rules_of which) smallest stopped_untold (stops_at 5) 5 ToldInTime
 breaks-ToldInTime which = breaks-then 5 (Stop s0 (Some t0) (act 0) ∷ []) (before-instruction which smallest_programs) (record {
   earlier =
       record { number = refl; proc = omega arith; some = λ no. cc; opening = λ no. absurd (omega arith) }
@@ -77,7 +79,7 @@ breaks-ToldInTime which = breaks-then 5 (Stop s0 (Some t0) (act 0) ∷ []) (befo
   ];
 })
 
-pub breaks-WhereOwned : (which : Package) → FirstBreak (rules_of which) smallest two_lives (stops_at 2) 2 WhereOwned
+pub breaks-WhereOwned : (which : PackageName) → FirstBreak (rules_of which) smallest two_lives (stops_at 2) 2 WhereOwned
 breaks-WhereOwned which = breaks-then 2 (Up s0 (act 1) ∷ Told (Add p0) ∷ []) (before-instruction which smallest_programs) (record {
   earlier =
       record { number = refl; proc = omega arith; some = λ no. cc; opening = λ no. absurd (omega arith) }
@@ -88,7 +90,7 @@ breaks-WhereOwned which = breaks-then 2 (Up s0 (act 1) ∷ Told (Add p0) ∷ [])
   broken = λ h. let no : Some (act 0) ≡ None = h.named.0 in cc;
 })
 
-pub breaks-AllTold : (which : Package) → FirstBreak (rules_of which) smallest not_told_added (stops_at 1) 1 AllTold
+pub breaks-AllTold : (which : PackageName) → FirstBreak (rules_of which) smallest not_told_added (stops_at 1) 1 AllTold
 breaks-AllTold which = breaks-then 1 (Move None (Some s0) ∷ Up s0 (act 0) ∷ []) (before-instruction which smallest_programs) (record {
   earlier =
       record { number = refl; proc = omega arith; some = λ no. cc; opening = λ no. absurd (omega arith) }
@@ -106,7 +108,7 @@ block = Ins s0 t0 0 ∷ Block s0 (Some t0) (act 0) (record { 0 = 1 }) ∷ Up s0 
 abbrev blocks : List (List Instr)
 blocks = (IoOf 2 ∷ End ∷ []) ∷ []
 
-pub breaks-UpcallGiven : (which : Package) → FirstBreak (rules_of which) blocking other_io (stops_at 5) 5 UpcallGiven
+pub breaks-UpcallGiven : (which : PackageName) → FirstBreak (rules_of which) blocking other_io (stops_at 5) 5 UpcallGiven
 breaks-UpcallGiven which = breaks-then 5 block (before-instruction which blocks) (record {
   earlier =
       record { number = refl; proc = omega arith; some = λ no. cc; opening = λ no. absurd (omega arith) }
@@ -124,7 +126,7 @@ breaks-UpcallGiven which = breaks-then 5 block (before-instruction which blocks)
   broken = λ h. let number = h.blocks.1.0.number in omega (arith, number);
 })
 
-pub breaks-InterruptNext : (which : Package) → FirstBreak (rules_of which) smallest interrupt_put_off (stops_at 1) 1 InterruptNext
+pub breaks-InterruptNext : (which : PackageName) → FirstBreak (rules_of which) smallest interrupt_put_off (stops_at 1) 1 InterruptNext
 breaks-InterruptNext which = breaks-then 1 (Tick ∷ []) (before-instruction which smallest_programs) (record {
   earlier =
       record { number = refl; proc = omega arith; some = λ no. cc; opening = λ no. absurd (omega arith) }
@@ -138,7 +140,7 @@ breaks-InterruptNext which = breaks-then 1 (Tick ∷ []) (before-instruction whi
   broken = λ h. h.interrupt refl;
 })
 
-pub breaks-LineCause : (which : Package) → FirstBreak (rules_of which) smallest raised_for_nothing (stops_at 2) 2 LineCause
+pub breaks-LineCause : (which : PackageName) → FirstBreak (rules_of which) smallest raised_for_nothing (stops_at 2) 2 LineCause
 breaks-LineCause which = breaks-then 2 (Take s0 p0 None ∷ Line p0 ∷ []) (before-instruction which smallest_programs) (record {
   earlier =
       record { number = refl; proc = omega arith; some = λ no. cc; opening = λ no. absurd (omega arith) }
@@ -153,7 +155,7 @@ breaks-LineCause which = breaks-then 2 (Take s0 p0 None ∷ Line p0 ∷ []) (bef
   broken = λ h. let due : Line p0 ∷ [] ≡ [] = h.due in cc;
 })
 
-pub breaks-WantCause : (which : Package) → FirstBreak (rules_of which) smallest wanted_for_nothing (stops_at 2) 2 WantCause
+pub breaks-WantCause : (which : PackageName) → FirstBreak (rules_of which) smallest wanted_for_nothing (stops_at 2) 2 WantCause
 breaks-WantCause which = breaks-then 2 (Take s0 p0 None ∷ Want s0 1 ∷ []) (before-instruction which smallest_programs) (record {
   earlier =
       record { number = refl; proc = omega arith; some = λ no. cc; opening = λ no. absurd (omega arith) }
@@ -169,7 +171,7 @@ breaks-WantCause which = breaks-then 2 (Take s0 p0 None ∷ Want s0 1 ∷ []) (b
   broken = λ h. let due : Want s0 1 ∷ [] ≡ [] = h.due (omega arith) in cc;
 })
 
-pub breaks-SharesCovered : (which : Package) → FirstBreak (rules_of which) smallest aimed_for_nothing (stops_at 2) 2 SharesCovered
+pub breaks-SharesCovered : (which : PackageName) → FirstBreak (rules_of which) smallest aimed_for_nothing (stops_at 2) 2 SharesCovered
 breaks-SharesCovered which = breaks-then 2 (Take s0 p0 None ∷ Aim p0 (Some s0) ∷ Line p0 ∷ []) (before-instruction which smallest_programs) (record {
   earlier =
       record { number = refl; proc = omega arith; some = λ no. cc; opening = λ no. absurd (omega arith) }
@@ -187,32 +189,32 @@ breaks-SharesCovered which = breaks-then 2 (Take s0 p0 None ∷ Aim p0 (Some s0)
 })
 
 -- the life has a lock: it is in, and owes something
-idles-with-lock : (which : Package) → Holds (rules_of which) smallest DemandAnnounced (r which 3) (at 3 (Idle ∷ [])) None → ⊥
-idles-with-lock Fast h = elim ((h.step (omega arith)).free refl) [
+idles-with-lock : (which : PackageName) → Holds (rules_of which) smallest DemandAnnounced (r which 3) (at 3 (Idle ∷ [])) None → ⊥
+idles-with-lock FastThreads h = elim ((h.step (omega arith)).free refl) [
   | inl out ↦ true≢false out
   | inr owes ↦ let no = ap length owes.nothing.locks in omega (arith, no)
 ]
-idles-with-lock Prio h = elim ((h.demand_announced.step (omega arith)).free refl) [
+idles-with-lock Priorities h = elim ((h.demand_announced.step (omega arith)).free refl) [
   | inl out ↦ true≢false out
   | inr owes ↦ let no = ap length owes.nothing.locks in omega (arith, no)
 ]
 
-pub breaks-DemandAnnounced : (which : Package) → FirstBreak (rules_of which) smallest idle_with_lock (stops_at 3) 3 DemandAnnounced
+pub breaks-DemandAnnounced : (which : PackageName) → FirstBreak (rules_of which) smallest idle_with_lock (stops_at 3) 3 DemandAnnounced
 breaks-DemandAnnounced which = breaks-then 3 (Idle ∷ []) (before-instruction which smallest_programs) (record {
   earlier = before-demand (rules_of which) smallest (r which 3) 3 p0 Idle (Some (stops_at 3)) refl (is-calm refl one-share (tt, tt));
   broken = idles-with-lock which;
 })
 
 -- the list is open
-unlocked : (which : Package) → IsLocked (event_begun smallest (at 2 (Idle ∷ [])) (r which 2)) s0 p0 → ⊥
+unlocked : (which : PackageName) → IsLocked (event_begun smallest (at 2 (Idle ∷ [])) (r which 2)) s0 p0 → ⊥
 unlocked which =
     none-locked {r = event_begun smallest (at 2 (Idle ∷ [])) (r which 2)} (record { few = few which smallest_programs 2; zeroth = refl; first = refl })
 
-idles-beside-thread : (which : Package) → Holds (rules_of which) smallest TurnsTaken (r which 2) (at 2 (Idle ∷ [])) None → ⊥
-idles-beside-thread Fast h = unlocked Fast ((h.turn (omega arith)).1.finds.none.locked p0 refl)
-idles-beside-thread Prio h = unlocked Prio ((h.turn (omega arith)).1.finds.none refl)
+idles-beside-thread : (which : PackageName) → Holds (rules_of which) smallest TurnsTaken (r which 2) (at 2 (Idle ∷ [])) None → ⊥
+idles-beside-thread FastThreads h = unlocked FastThreads ((h.turn (omega arith)).1.finds.none.locked p0 refl)
+idles-beside-thread Priorities h = unlocked Priorities ((h.turn (omega arith)).1.finds.none refl)
 
-pub breaks-TurnsTaken : (which : Package) → FirstBreak (rules_of which) smallest idle_beside_thread (stops_at 2) 2 TurnsTaken
+pub breaks-TurnsTaken : (which : PackageName) → FirstBreak (rules_of which) smallest idle_beside_thread (stops_at 2) 2 TurnsTaken
 breaks-TurnsTaken which =
     let allowed = nothing-owed smallest (r which 2) Idle (life_on (r which 2) p0) s0 [] None refl refl in
     breaks-then 2 (Idle ∷ []) (before-instruction which smallest_programs) (record {
@@ -221,11 +223,11 @@ breaks-TurnsTaken which =
       broken = idles-beside-thread which;
     })
 
-frees-unused : (which : Package) → Holds (rules_of which) smallest LocksKept (r which 3) (at 3 (Free s0 p0 None ∷ [])) None → ⊥
-frees-unused Fast h = false≢true (h.step (omega arith)).0.keeps.used
-frees-unused Prio h = false≢true (h.step (omega arith)).0.keeps.used
+frees-unused : (which : PackageName) → Holds (rules_of which) smallest LocksKept (r which 3) (at 3 (Free s0 p0 None ∷ [])) None → ⊥
+frees-unused FastThreads h = false≢true (h.step (omega arith)).0.keeps.used
+frees-unused Priorities h = false≢true (h.step (omega arith)).0.keeps.used
 
-pub breaks-LocksKept : (which : Package) → FirstBreak (rules_of which) smallest freed_unused (stops_at 3) 3 LocksKept
+pub breaks-LocksKept : (which : PackageName) → FirstBreak (rules_of which) smallest freed_unused (stops_at 3) 3 LocksKept
 breaks-LocksKept which =
     let allowed = unbound smallest (r which 3) (Free s0 p0 None) (life_on (r which 3) p0) _ refl (λ life same. refl) in
     breaks-then 3 (Free s0 p0 None ∷ []) (before-instruction which smallest_programs) (record {
@@ -234,7 +236,7 @@ breaks-LocksKept which =
       broken = frees-unused which;
     })
 
-pub breaks-EndTold : (which : Package) → FirstBreak (rules_of which) smallest not_done told_done 4 EndTold
+pub breaks-EndTold : (which : PackageName) → FirstBreak (rules_of which) smallest not_done told_done 4 EndTold
 breaks-EndTold which =
     let last = at 4 (Free s0 p0 (Some t0) ∷ []) in
     break-behind (rules_of which) smallest (take 4 smallest_run) last told_done EndTold (are-right (first-right 4 (before-instruction which smallest_programs))) (record {

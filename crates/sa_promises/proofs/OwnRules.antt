@@ -23,7 +23,9 @@ use Rattle.sa_laws.specs.Locks.{KeepsLocks, KeepsLocksIf, KeepsLocksIn, StandsAl
 use Rattle.sa_ranks.specs.Pairs.{has_pair}
 use Rattle.sa_ranks.specs.Steps.{IsRankedStep, RankedStepBy, RankedStepIn}
 use Rattle.sa_ranks.specs.Locks.{BeginsUnurged, IsUnurgedIf, KeepsTheLock, KeepsTheLockIf, KeepsTheLockIn, RunsGreatest}
-use Rattle.sa_promises.specs.Packages.{Package, Fast, Prio, rules_of}
+use Rattle.sa_base.specs.declared.package.PackageName.{PackageName}
+use Rattle.sa_base.specs.declared.package.PackageName.TheVariants.{FastThreads, Priorities}
+use Rattle.sa_ranks.specs.Packages.{rules_of}
 use Rattle.sa_promises.proofs.Plain.{alone}
 
 -- how the running life of a processor stands
@@ -99,10 +101,10 @@ nothing-owed w r x (Some life) s due thread is none =
       unurged = record { unurged = λ bound. inr (ap (λ tests. slice_index_or tests 2 true) of) };
     }
 
-pub in-demand : (which : Package) (w : WorkloadView) (r : Readings) (e : Event) → (1 ≤ e.number → BeginsFreely w r e.proc e.records)
+pub in-demand : (which : PackageName) (w : WorkloadView) (r : Readings) (e : Event) → (1 ≤ e.number → BeginsFreely w r e.proc e.records)
     → (1 ≤ e.number → BeginsUnurged w r e.proc e.records) → (rules_of which).Demand w r e
-in-demand Fast w r e free unurged = record { step = free }
-in-demand Prio w r e free unurged = record { demand_announced = record { step = free }; step = unurged }
+in-demand FastThreads w r e free unurged = record { step = free }
+in-demand Priorities w r e free unurged = record { demand_announced = record { step = free }; step = unurged }
 
 -- Turns: a row of FastThreads' table that the other one has too
 abbrev pub TurnOf : WorkloadView → Readings → Event → Type 0
@@ -129,29 +131,29 @@ ranked-turn w r p x same false n turn = by_due (due_of n r.under_way) turn where
     by_owner None tick = tick
     by_owner (Some s) step = by_life (running_of r p) (life_on r p) step
 
-pub in-turn : (which : Package) {w : WorkloadView} {r : Readings} {n : ℕ} {p : ProcNo} {x : Record} → IsSameRow x → TurnOf w r (alone n p x)
+pub in-turn : (which : PackageName) {w : WorkloadView} {r : Readings} {n : ℕ} {p : ProcNo} {x : Record} → IsSameRow x → TurnOf w r (alone n p x)
     → TurnsAreTaken (rules_of which).Steps w r (alone n p x)
-in-turn Fast same turn = record { turn = λ _. turn; closing = λ _. tt }
-in-turn Prio {w} {r} {n} {p} {x} same turn =
+in-turn FastThreads same turn = record { turn = λ _. turn; closing = λ _. tt }
+in-turn Priorities {w} {r} {n} {p} {x} same turn =
     record { turn = λ _. ranked-turn w (event_begun w (alone n p x) r) p x same (is_some (line_of r p)) n turn; closing = λ _. tt }
 
 -- Locks: a step of a life with no open cont, which no back can be due of
-pub all-locks : (which : Package) (w : WorkloadView) (r : Readings) (e : Event)
+pub all-locks : (which : PackageName) (w : WorkloadView) (r : Readings) (e : Event)
     → (1 ≤ e.number → KeepsLocksIn w (event_begun w e r) e.proc (own_part e.records))
     → (1 ≤ e.number → KeepsTheLockIn w (event_begun w e r) e.proc (own_part e.records)) → (rules_of which).Locks w r e
-all-locks Fast w r e kept ranked = record { step = kept }
-all-locks Prio w r e kept ranked = record { step = ranked }
+all-locks FastThreads w r e kept ranked = record { step = kept }
+all-locks Priorities w r e kept ranked = record { step = ranked }
 
-abbrev pub KeepsBy : Package → WorkloadView → Readings → ProcNo → Life → Record → Type 0
-KeepsBy Fast w r p life x = KeepsLocks w r p life x
-KeepsBy Prio w r p life x = KeepsTheLock w r p life x
+abbrev pub KeepsBy : PackageName → WorkloadView → Readings → ProcNo → Life → Record → Type 0
+KeepsBy FastThreads w r p life x = KeepsLocks w r p life x
+KeepsBy Priorities w r p life x = KeepsTheLock w r p life x
 
-pub kept-by : (which : Package) (w : WorkloadView) (r : Readings) (p : ProcNo) (life : Life) (x : Record) → KeepsLocks w r p life x → KeepsTheLock w r p life x
+pub kept-by : (which : PackageName) (w : WorkloadView) (r : Readings) (p : ProcNo) (life : Life) (x : Record) → KeepsLocks w r p life x → KeepsTheLock w r p life x
     → KeepsBy which w r p life x
-kept-by Fast w r p life x kept ranked = kept
-kept-by Prio w r p life x kept ranked = ranked
+kept-by FastThreads w r p life x kept ranked = kept
+kept-by Priorities w r p life x kept ranked = ranked
 
-pub in-locks : (which : Package) (w : WorkloadView) (r : Readings) (n : ℕ) (p : ProcNo) (x : Record) {y : Stand} → standing r p ≡ Some y → y.cont ≡ false
+pub in-locks : (which : PackageName) (w : WorkloadView) (r : Readings) (n : ℕ) (p : ProcNo) (x : Record) {y : Stand} → standing r p ≡ Some y → y.cont ≡ false
     → is_step x ≡ true → is_back x ≡ false
     → ((life : Life) → stand r life ≡ y → KeepsBy which w (event_begun w (alone n p x) r) p life x) → (rules_of which).Locks w r (alone n p x)
 in-locks which w r n p x {y} is shut step other keeps = by_package which keeps where
@@ -183,14 +185,14 @@ in-locks which w r n p x {y} is shut step other keeps = by_package which keeps w
   alone_then : StandsAlone (list_any is_of_locks (x ∷ [])) []
   alone_then = stands_alone (list_any is_of_locks (x ∷ []))
 
-  by_package : (which : Package) → ((life : Life) → stand r life ≡ y → KeepsBy which w begun p life x) → (rules_of which).Locks w r (alone n p x)
-  by_package Fast keeps =
+  by_package : (which : PackageName) → ((life : Life) → stand r life ≡ y → KeepsBy which w begun p life x) → (rules_of which).Locks w r (alone n p x)
+  by_package FastThreads keeps =
       record { step = λ _. (subst (λ b. KeepsLocksIf b w begun p (life_on r p) x) (sym step) (in_fast keeps (life_on r p) is), alone_then) }
-  by_package Prio keeps =
+  by_package Priorities keeps =
       record { step = λ _. (subst (λ b. KeepsTheLockIf b w begun p (life_on r p) x) (sym step) (in_prio keeps (life_on r p) is), alone_then) }
 
 -- Order: of a run alone
-pub in-order : (which : Package) (w : WorkloadView) (r : Readings) (e : Event) → RunsNext r e.proc e.records → RunsGreatest r e.records
+pub in-order : (which : PackageName) (w : WorkloadView) (r : Readings) (e : Event) → RunsNext r e.proc e.records → RunsGreatest r e.records
     → (rules_of which).Order w r e
-in-order Fast w r e next greatest = record { run = next }
-in-order Prio w r e next greatest = record { run = greatest }
+in-order FastThreads w r e next greatest = record { run = next }
+in-order Priorities w r e next greatest = record { run = greatest }

@@ -17,7 +17,7 @@ use Rattle.sa_ranks.specs.Rules.{prio_threads}
 use Rattle.sa_ranks.specs.Inside.{is_inside_or_urged}
 use Rattle.sa_promises.specs.Examples.{stops_at, t1, t2}
 use Rattle.sa_histories.specs.Short.{at, act, s0, p0, t0}
-use Rattle.sa_promises.specs.Packages.{Prio}
+use Rattle.sa_base.specs.declared.package.PackageName.TheVariants.{Priorities}
 use Rattle.sa_promises.specs.RankedExamples.{racing, racing_run, p1, at1, line_again, line_unasked, outranked_run, back_alone, pair_unserved}
 use Rattle.sa_promises.proofs.Plain.{before-demand}
 use Rattle.sa_promises.proofs.Calm.{prompt-calm, no-wants, no-shares}
@@ -140,25 +140,25 @@ right1 : Right 1 (at 1 (Move None (Some s0) ∷ Up s0 (act 0) ∷ Told (Add p0) 
 right1 = lawfully lawful1 refl refl
 
 right2 : Right 2 (at 2 (Take s0 p0 None ∷ []))
-right2 = takes_for_pop Prio share1 refl refl refl refl refl (record { few = few 2; zeroth = refl; first = refl }) refl
+right2 = takes_for_pop Priorities share1 refl refl refl refl refl (record { few = few 2; zeroth = refl; first = refl }) refl
 
 right3 : Right 3 (at 3 (Run s0 t0 ∷ []))
-right3 = with-order Prio (run-but-order Prio share1 refl refl ((refl, refl, refl), tt) refl refl) (record { run = refl })
+right3 = with-order Priorities (run-but-order Priorities share1 refl refl ((refl, refl, refl), tt) refl refl) (record { run = refl })
 
 right4 : Right 4 (at 4 (Free s0 p0 (Some t0) ∷ []))
-right4 = frees Prio share1 refl refl refl
+right4 = frees Priorities share1 refl refl refl
 
 right5 : Right 5 (at 5 (Ins s0 t0 0 ∷ []))
-right5 = goes Prio share1 refl refl refl (record { owned = refl; runs = refl; pc = refl; within = omega arith; page = tt }, tt) refl
+right5 = goes Priorities share1 refl refl refl (record { owned = refl; runs = refl; pc = refl; within = omega arith; page = tt }, tt) refl
 
 right6 : Right 6 (at 6 (Take s0 p0 (Some t0) ∷ []))
-right6 = takes_for_push Prio share1 refl refl refl (record { few = few 6; zeroth = refl; first = refl }) refl
+right6 = takes_for_push Priorities share1 refl refl refl (record { few = few 6; zeroth = refl; first = refl }) refl
 
 right7 : Right 7 (at 7 (Ready s0 t1 ∷ []))
-right7 = readies Prio share1 refl refl ((refl, inr refl), tt) refl refl (record { few = few 7; zeroth = refl; first = refl }) refl
+right7 = readies Priorities share1 refl refl ((refl, inr refl), tt) refl refl (record { few = few 7; zeroth = refl; first = refl }) refl
 
 right8 : Right 8 (at 8 (Free s0 p0 (Some t0) ∷ []))
-right8 = frees Prio share1 refl refl refl
+right8 = frees Priorities share1 refl refl refl
 
 right9 : Right 9 (at 9 (Want s0 2 ∷ Aim p1 (Some s0) ∷ Line p1 ∷ []))
 right9 = lawfully lawful9 refl refl
@@ -170,46 +170,46 @@ right10 = gives_way share2 refl refl ((refl, refl), tt) (
 )
 
 right11 : Right 11 (at 11 (Take s0 p0 None ∷ []))
-right11 = takes_for_push Prio share2 refl refl refl (record { few = few 11; zeroth = refl; first = refl }) refl
+right11 = takes_for_push Priorities share2 refl refl refl (record { few = few 11; zeroth = refl; first = refl }) refl
 
 right12 : Right 12 (at 12 (Ready s0 t0 ∷ []))
-right12 = readies Prio share2 refl refl ((refl, inl refl), tt) refl refl (record { few = few 12; zeroth = refl; first = refl }) refl
+right12 = readies Priorities share2 refl refl ((refl, inl refl), tt) refl refl (record { few = few 12; zeroth = refl; first = refl }) refl
 
 right13 : Right 13 (at 13 (Free s0 p0 None ∷ []))
-right13 = frees Prio share2 refl refl refl
+right13 = frees Priorities share2 refl refl refl
 
 right14 : Right 14 (at 14 (Take s0 p0 None ∷ []))
-right14 = takes_for_pop Prio share2 refl refl refl refl refl (record { few = few 14; zeroth = refl; first = refl }) refl
+right14 = takes_for_pop Priorities share2 refl refl refl refl refl (record { few = few 14; zeroth = refl; first = refl }) refl
 
 right15 : Right 15 (at 15 (Run s0 t1 ∷ []))
-right15 = with-order Prio (run-but-order Prio share2 refl refl ((refl, refl, refl), tt) refl refl) (record { run = refl })
+right15 = with-order Priorities (run-but-order Priorities share2 refl refl ((refl, refl, refl), tt) refl refl) (record { run = refl })
 
 right16 : Right 16 (at 16 (Free s0 p0 (Some t1) ∷ []))
-right16 = frees Prio share2 refl refl refl
+right16 = frees Priorities share2 refl refl refl
 
 right17 : Right 17 (at1 17 (Move None (Some s0) ∷ Up s0 (act 1) ∷ Told (Add p1) ∷ []))
 right17 = lawfully lawful17 refl refl
 
 right18 : Right 18 (at1 18 (Take s0 p0 None ∷ []))
-right18 = takes_for_pop Prio share2 refl refl refl refl refl (record { few = few 18; zeroth = refl; first = refl }) refl
+right18 = takes_for_pop Priorities share2 refl refl refl refl refl (record { few = few 18; zeroth = refl; first = refl }) refl
 
 right19 : Right 19 (at1 19 (Run s0 t0 ∷ []))
-right19 = with-order Prio (run-but-order Prio share2 refl refl ((refl, refl, refl), tt) refl refl) (record { run = refl })
+right19 = with-order Priorities (run-but-order Priorities share2 refl refl ((refl, refl, refl), tt) refl refl) (record { run = refl })
 
 right20 : Right 20 (at1 20 (Free s0 p0 (Some t0) ∷ []))
-right20 = frees Prio share2 refl refl refl
+right20 = frees Priorities share2 refl refl refl
 
 right21 : Right 21 (at 21 (Ins s0 t1 0 ∷ []))
-right21 = goes Prio share2 refl refl refl (record { owned = refl; runs = refl; pc = refl; within = omega arith; page = tt }, tt) refl
+right21 = goes Priorities share2 refl refl refl (record { owned = refl; runs = refl; pc = refl; within = omega arith; page = tt }, tt) refl
 
 right22 : Right 22 (at 22 (Take s0 p0 (Some t1) ∷ []))
-right22 = takes_for_push Prio share2 refl refl refl (record { few = few 22; zeroth = refl; first = refl }) refl
+right22 = takes_for_push Priorities share2 refl refl refl (record { few = few 22; zeroth = refl; first = refl }) refl
 
 right23 : Right 23 (at 23 (Ready s0 t2 ∷ []))
-right23 = readies Prio share2 refl refl ((refl, inr refl), tt) refl refl (record { few = few 23; zeroth = refl; first = refl }) refl
+right23 = readies Priorities share2 refl refl ((refl, inr refl), tt) refl refl (record { few = few 23; zeroth = refl; first = refl }) refl
 
 right24 : Right 24 (at 24 (Free s0 p0 (Some t1) ∷ []))
-right24 = frees Prio share2 refl refl refl
+right24 = frees Priorities share2 refl refl refl
 
 race : RightAlong prio_threads racing start racing_run
 race =
@@ -228,7 +228,7 @@ breaks-line_unasked = breaks-then 21 (Line p1 ∷ []) race (record { earlier = b
 
 pub breaks-outranked_run : FirstBreak prio_threads racing outranked_run (stops_at 15) 15 OrderKept
 breaks-outranked_run = breaks-then 15 (Run s0 t0 ∷ []) race
-    (record { earlier = up-to-order None (run-but-order Prio share2 refl refl ((refl, refl, refl), tt) refl refl); broken = λ h. apart10 h.run })
+    (record { earlier = up-to-order None (run-but-order Priorities share2 refl refl ((refl, refl, refl), tt) refl refl); broken = λ h. apart10 h.run })
 
 pub breaks-back_alone : FirstBreak prio_threads racing back_alone (stops_at 21) 21 TurnsTaken
 breaks-back_alone = breaks-then 21 (Back s0 (Some t1) ∷ []) race

@@ -23,7 +23,7 @@ use Rattle.sa_ranks.specs.Rules.{prio_threads}
 use Rattle.sa_ranks.specs.Inside.{is_inside_or_urged}
 use Rattle.sa_ranks.specs.Steps.{IsRankedStep}
 use Rattle.sa_ranks.specs.Locks.{KeepsTheLockIf}
-use Rattle.sa_promises.specs.Packages.{Prio}
+use Rattle.sa_base.specs.declared.package.PackageName.TheVariants.{Priorities}
 use Rattle.sa_promises.proofs.Plain.{alone, before-turns}
 use Rattle.sa_promises.proofs.Calm.{prompt-calm}
 use Rattle.sa_promises.proofs.Right.{IsRightAt, ◌&◌}
@@ -43,11 +43,11 @@ pub gives_way : {w : WorkloadView} {r : Readings} {n : ℕ} {p : ProcNo} {s : Sp
     → GivesWayIn w r (alone n p (Back s t)) → IsRightAt prio_threads w r (alone n p (Back s t))
 gives_way {w} {r} {n} {p} {s} {t} {thread} {locks} {due} {hand} covered seems is steps turn =
     let allowed = unbound w r (Back s t) (life_on r p) (stands s locks due hand thread) is (λ life same. refl) in
-    with-order Prio (record {
+    with-order Priorities (record {
       plain = refl;
       seems = seems;
       calm = is-calm seems covered steps;
-      demand = in-demand Prio _ _ _ (λ _. allowed.free) (λ _. allowed.unurged);
+      demand = in-demand Priorities _ _ _ (λ _. allowed.free) (λ _. allowed.unurged);
       turns = record { turn = λ _. turn; closing = λ _. tt };
       locks = record { step = λ _. (keeps (life_on r p) is, refl) };
     }) (record { run = tt })
@@ -71,7 +71,7 @@ pub back-but-turns : {w : WorkloadView} {r : Readings} {n : ℕ} {p : ProcNo} {s
     → HoldEach prio_threads w (rules_before TurnsTaken) r (alone n p (Back s t)) last
 back-but-turns {w} {r} {n} {p} {s} {t} {y} last covered seems is steps =
     let allowed = unbound w r (Back s t) (life_on r p) y is (λ life same. refl) in
-    before-turns prio_threads w r n p (Back s t) last refl (is-calm seems covered steps) (in-demand Prio _ _ _ (λ _. allowed.free) (λ _. allowed.unurged))
+    before-turns prio_threads w r n p (Back s t) last refl (is-calm seems covered steps) (in-demand Priorities _ _ _ (λ _. allowed.free) (λ _. allowed.unurged))
 
 -- What is seen at a line that is asked for.
 abbrev SeenOfLine : Type 0

@@ -11,7 +11,9 @@ use Rattle.sa_laws.specs.Rules.{IsLawful}
 use Rattle.sa_laws.specs.Legal.{IsLegal}
 use Rattle.sa_histories.specs.Short.{workload_of, smallest, at, s0, p0, t0, act}
 use Rattle.sa_histories.proofs.Legality.{legal-along}
-use Rattle.sa_promises.specs.Packages.{Package, Fast, Prio, rules_of}
+use Rattle.sa_base.specs.declared.package.PackageName.{PackageName}
+use Rattle.sa_base.specs.declared.package.PackageName.TheVariants.{FastThreads, Priorities}
+use Rattle.sa_ranks.specs.Packages.{rules_of}
 use Rattle.sa_promises.specs.Examples.{smallest_run, smallest_trace}
 use Rattle.sa_promises.proofs.Calm.{prompt-calm, no-wants, one-share}
 use Rattle.sa_promises.proofs.Plain.{plain-lawful}
@@ -20,14 +22,14 @@ use Rattle.sa_promises.proofs.Unlocked.{AreFew, few-along}
 use Rattle.sa_promises.proofs.OwnRules.{nothing-owed, in-demand, in-turn, all-locks, kept-by, in-locks, in-order}
 use Rattle.sa_promises.proofs.Steps.{TakesList, frees, run-but-order, with-order, takes_for_pop}
 
-abbrev pub before : Package → List (List Instr) → ℕ → Readings
+abbrev pub before : PackageName → List (List Instr) → ℕ → Readings
 before which g n = after_events (rules_of which).inside (workload_of g) (opening_readings (workload_of g)) (take n smallest_run)
 
 -- the smallest workload's programs
 abbrev pub smallest_programs : List (List Instr)
 smallest_programs = (End ∷ []) ∷ []
 
-lawful0 : (which : Package) (g : List (List Instr))
+lawful0 : (which : PackageName) (g : List (List Instr))
     → IsLawful (rules_of which) (workload_of g) (before which g 0) (at 0 (Want s0 1 ∷ Aim p0 (Some s0) ∷ Line p0 ∷ []))
 lawful0 which g = record {
   numbered = record { number = refl; proc = omega arith; some = λ no. cc; opening = λ _. refl };
@@ -47,7 +49,7 @@ lawful0 which g = record {
   order_kept = in-order which _ _ _ tt tt;
 }
 
-lawful1 : (which : Package) (g : List (List Instr))
+lawful1 : (which : PackageName) (g : List (List Instr))
     → IsLawful (rules_of which) (workload_of g) (before which g 1) (at 1 (Move None (Some s0) ∷ Up s0 (act 0) ∷ Told (Add p0) ∷ []))
 lawful1 which g = record {
   numbered = record { number = refl; proc = omega arith; some = λ no. cc; opening = λ no. absurd (omega arith) };
@@ -68,29 +70,29 @@ lawful1 which g = record {
 }
 
 -- processor 0 takes its own list first
-pub takes0 : (which : Package) (g : List (List Instr)) → TakesList which (workload_of g) p0 p0
-takes0 Fast g = (refl, refl)
-takes0 Prio g = refl
+pub takes0 : (which : PackageName) (g : List (List Instr)) → TakesList which (workload_of g) p0 p0
+takes0 FastThreads g = (refl, refl)
+takes0 Priorities g = refl
 
-pub few : (which : Package) (g : List (List Instr)) (n : ℕ) → AreFew (before which g n).lives
+pub few : (which : PackageName) (g : List (List Instr)) (n : ℕ) → AreFew (before which g n).lives
 few which g n =
     few-along (rules_of which).inside (workload_of g) (opening_readings (workload_of g)) n smallest_run refl (record { others = λ a high. refl })
 
-right2 : (which : Package) (g : List (List Instr)) → IsRightAt (rules_of which) (workload_of g) (before which g 2) (at 2 (Take s0 p0 None ∷ []))
+right2 : (which : PackageName) (g : List (List Instr)) → IsRightAt (rules_of which) (workload_of g) (before which g 2) (at 2 (Take s0 p0 None ∷ []))
 right2 which g = takes_for_pop which one-share refl refl refl refl (takes0 which g) (record { few = few which g 2; zeroth = refl; first = refl }) refl
 
-right3 : (which : Package) (g : List (List Instr)) → IsRightAt (rules_of which) (workload_of g) (before which g 3) (at 3 (Run s0 t0 ∷ []))
+right3 : (which : PackageName) (g : List (List Instr)) → IsRightAt (rules_of which) (workload_of g) (before which g 3) (at 3 (Run s0 t0 ∷ []))
 right3 which g = with-order which (run-but-order which one-share refl refl ((refl, refl, refl), tt) refl refl) (in-order which _ _ _ refl refl)
 
-pub right4 : (which : Package) (g : List (List Instr)) → IsRightAt (rules_of which) (workload_of g) (before which g 4) (at 4 (Free s0 p0 (Some t0) ∷ []))
+pub right4 : (which : PackageName) (g : List (List Instr)) → IsRightAt (rules_of which) (workload_of g) (before which g 4) (at 4 (Free s0 p0 (Some t0) ∷ []))
 right4 which g = frees which one-share refl refl refl
 
-pub before-instruction : (which : Package) (g : List (List Instr)) → RightAlong (rules_of which) (workload_of g) (before which g 0) (take 5 smallest_run)
+pub before-instruction : (which : PackageName) (g : List (List Instr)) → RightAlong (rules_of which) (workload_of g) (before which g 0) (take 5 smallest_run)
 before-instruction which g =
     lawfully (lawful0 which g) refl refl ► lawfully (lawful1 which g) refl refl ► right2 which g ► right3 which g ► right4 which g ► over
 
 -- the instruction ends the only thread, so the run does not go on after it
-lawful5 : (which : Package) → IsLawful (rules_of which) smallest (before which smallest_programs 5) (at 5 (Ins s0 t0 0 ∷ []))
+lawful5 : (which : PackageName) → IsLawful (rules_of which) smallest (before which smallest_programs 5) (at 5 (Ins s0 t0 0 ∷ []))
 lawful5 which =
     let r = before which smallest_programs 5 in
     let allowed = nothing-owed smallest r (Ins s0 t0 0) (life_on r p0) s0 [] (Some t0) refl refl in
@@ -105,6 +107,6 @@ lawful5 which =
     (in-demand which _ _ _ (λ _. allowed.free) (λ _. allowed.unurged)) (in-turn which (λ _ _ _ _ _ step. step) refl)
     (in-locks which _ _ _ _ _ refl refl refl refl (λ life same. kept-by which _ _ _ _ _ tt tt)) (in-order which _ _ _ tt tt)
 
-pub smallest-legal : (which : Package) → IsLegal (rules_of which) smallest smallest_trace
+pub smallest-legal : (which : PackageName) → IsLegal (rules_of which) smallest smallest_trace
 smallest-legal which = legal-along (rules_of which) smallest smallest_run (λ no. cc)
     (lawful-to (at 5 (Ins s0 t0 0 ∷ [])) (before-instruction which smallest_programs) (lawful5 which))

@@ -24,7 +24,9 @@ use Rattle.sa_laws.specs.Rules.{HoldEach, rules_before}
 use Rattle.sa_laws.specs.declared.rule.Rule.TheVariants.{OrderKept}
 use Rattle.sa_ranks.specs.Steps.{the_list}
 use Rattle.sa_ranks.specs.Locks.{TakesFor}
-use Rattle.sa_promises.specs.Packages.{Package, Fast, Prio, rules_of}
+use Rattle.sa_base.specs.declared.package.PackageName.{PackageName}
+use Rattle.sa_base.specs.declared.package.PackageName.TheVariants.{FastThreads, Priorities}
+use Rattle.sa_ranks.specs.Packages.{rules_of}
 use Rattle.sa_promises.proofs.Plain.{is_plain, alone, IsCalm, before-order, plain-lawful}
 use Rattle.sa_promises.proofs.Right.{IsRightAt, lawfully}
 use Rattle.sa_promises.proofs.Unlocked.{NoLock, is_of, is_held_by, none-locked, holds-none}
@@ -32,7 +34,7 @@ use Rattle.sa_promises.proofs.Seen.{Seen, SeemsCalm, Covers, is-calm}
 use Rattle.sa_promises.proofs.OwnRules.{Stand, stand, stands, standing, taken, OwesNone, unbound, nothing-owed, in-demand, TurnOf, in-turn, KeepsBy, kept-by, in-locks, in-order}
 
 -- All laws but the last hold, and the run goes on.
-pub record ButOrder (which : Package) (w : WorkloadView) (r : Readings) (n : ℕ) (p : ProcNo) (x : Record) : Type 0 where
+pub record ButOrder (which : PackageName) (w : WorkloadView) (r : Readings) (n : ℕ) (p : ProcNo) (x : Record) : Type 0 where
   pub plain : is_plain x ≡ true
   pub seems : SeemsCalm (rules_of which) w r (alone n p x)
   pub calm : IsCalm (rules_of which) w r (alone n p x)
@@ -40,18 +42,18 @@ pub record ButOrder (which : Package) (w : WorkloadView) (r : Readings) (n : ℕ
   pub turns : TurnsAreTaken (rules_of which).Steps w r (alone n p x)
   pub locks : (rules_of which).Locks w r (alone n p x)
 
-pub up-to-order : {which : Package} {w : WorkloadView} {r : Readings} {n : ℕ} {p : ProcNo} {x : Record} (last : Option LastLine) → ButOrder which w r n p x
+pub up-to-order : {which : PackageName} {w : WorkloadView} {r : Readings} {n : ℕ} {p : ProcNo} {x : Record} (last : Option LastLine) → ButOrder which w r n p x
     → HoldEach (rules_of which) w (rules_before OrderKept) r (alone n p x) last
 up-to-order {which} {w} {r} {n} {p} {x} last step = before-order (rules_of which) w r n p x last step.plain step.calm step.demand step.turns step.locks
 
-pub with-order : (which : Package) {w : WorkloadView} {r : Readings} {n : ℕ} {p : ProcNo} {x : Record} → ButOrder which w r n p x
+pub with-order : (which : PackageName) {w : WorkloadView} {r : Readings} {n : ℕ} {p : ProcNo} {x : Record} → ButOrder which w r n p x
     → (rules_of which).Order w r (alone n p x) → IsRightAt (rules_of which) w r (alone n p x)
 with-order which {w} {r} {n} {p} {x} step order =
     lawfully (plain-lawful (rules_of which) w r n p x step.plain step.calm step.demand step.turns step.locks order)
     (ap (λ (y : Seen). slice_index_or y.6 0 true) step.seems) (ap (λ (y : Seen). slice_index_or y.6 1 true) step.seems)
 
 -- a free, after the ready or run of its lock
-pub frees : (which : Package) {w : WorkloadView} {r : Readings} {n : ℕ} {p : ProcNo} {s : SpaceNo} {l : ProcNo} {t : Option ThreadNo} {push own hand : Bool}
+pub frees : (which : PackageName) {w : WorkloadView} {r : Readings} {n : ℕ} {p : ProcNo} {s : SpaceNo} {l : ProcNo} {t : Option ThreadNo} {push own hand : Bool}
     {locks : List Lock} {due : List ThreadNo} {thread : Option ThreadNo}
     → Covers (rules_of which) w r (alone n p (Free s l t)) → SeemsCalm (rules_of which) w r (alone n p (Free s l t))
     → standing r p ≡ Some (stands s (taken l t push true own ∷ locks) due hand thread)
@@ -78,7 +80,7 @@ frees which {w} {r} {n} {p} {s} {l} {t} {push} {own} {hand} {locks} {due} {threa
     }) (in-order which _ _ _ tt tt)
 
 -- a run, after a take for a pop; that its thread is the next one is left to its order
-pub run-but-order : (which : Package) {w : WorkloadView} {r : Readings} {n : ℕ} {p : ProcNo} {s : SpaceNo} {t : ThreadNo} {l : ProcNo} {of : Option ThreadNo}
+pub run-but-order : (which : PackageName) {w : WorkloadView} {r : Readings} {n : ℕ} {p : ProcNo} {s : SpaceNo} {t : ThreadNo} {l : ProcNo} {of : Option ThreadNo}
     {own hand : Bool} {locks : List Lock} {due : List ThreadNo} {thread : Option ThreadNo}
     → Covers (rules_of which) w r (alone n p (Run s t)) → SeemsCalm (rules_of which) w r (alone n p (Run s t))
     → standing r p ≡ Some (stands s (taken l of false false own ∷ locks) due hand thread)
@@ -111,7 +113,7 @@ run-but-order which {w} {r} {n} {p} {s} {t} {l} {of} {own} {hand} {locks} {due} 
     }
 
 -- a ready, after a take for a push, of the first thread of the hand, which holds no lock
-pub readies : (which : Package) {w : WorkloadView} {r : Readings} {n : ℕ} {p : ProcNo} {s : SpaceNo} {t : ThreadNo} {l : ProcNo} {of : Option ThreadNo}
+pub readies : (which : PackageName) {w : WorkloadView} {r : Readings} {n : ℕ} {p : ProcNo} {s : SpaceNo} {t : ThreadNo} {l : ProcNo} {of : Option ThreadNo}
     {own hand : Bool} {locks : List Lock} {due : List ThreadNo} {thread : Option ThreadNo}
     → Covers (rules_of which) w r (alone n p (Ready s t)) → SeemsCalm (rules_of which) w r (alone n p (Ready s t))
     → standing r p ≡ Some (stands s (taken l of true false own ∷ locks) (t ∷ due) hand thread)
@@ -149,12 +151,12 @@ readies which {w} {r} {n} {p} {s} {t} {l} {of} {own} {hand} {locks} {due} {threa
     }) (in-order which _ _ _ tt tt)
 
 -- the list that a life takes first: its own processor's, and the one list
-abbrev pub TakesList : Package → WorkloadView → ProcNo → ProcNo → Type 0
-TakesList Fast w p l = (l ≡ p) × (l ≡ list_round w p 0)
-TakesList Prio w p l = l ≡ the_list
+abbrev pub TakesList : PackageName → WorkloadView → ProcNo → ProcNo → Type 0
+TakesList FastThreads w p l = (l ≡ p) × (l ≡ list_round w p 0)
+TakesList Priorities w p l = l ≡ the_list
 
 -- a take for a push, on a life with something to make ready
-pub takes_for_push : (which : Package) {w : WorkloadView} {r : Readings} {n : ℕ} {p : ProcNo} {s : SpaceNo} {l : ProcNo} {t : Option ThreadNo}
+pub takes_for_push : (which : PackageName) {w : WorkloadView} {r : Readings} {n : ℕ} {p : ProcNo} {s : SpaceNo} {l : ProcNo} {t : Option ThreadNo}
     {due : List ThreadNo}
     → Covers (rules_of which) w r (alone n p (Take s l t)) → SeemsCalm (rules_of which) w r (alone n p (Take s l t))
     → standing r p ≡ Some (stands s [] due true t)
@@ -174,8 +176,8 @@ takes_for_push which {w} {r} {n} {p} {s} {l} {t} {due} covered seems is list non
     begun : Readings
     begun = event_begun w (alone n p (Take s l t)) r
 
-    keeps : (which : Package) → TakesList which w p l → (life : Life) → stand r life ≡ stands s [] due true t → KeepsBy which w begun p life (Take s l t)
-    keeps Fast list life same = record {
+    keeps : (which : PackageName) → TakesList which w p l → (life : Life) → stand r life ≡ stands s [] due true t → KeepsBy which w begun p life (Take s l t)
+    keeps FastThreads list life same = record {
       space = sym (ap (λ (z : Stand). z.space) same);
       unlocked = none-locked {r = begun} none;
       locks = ap (λ (z : Stand). z.locks) same;
@@ -183,7 +185,7 @@ takes_for_push which {w} {r} {n} {p} {s} {l} {t} {due} covered seems is list non
       thread = sym (ap (λ (z : Stand). z.thread) same);
       target = subst (λ b. fast.TakesFor b w begun p life l) (sym (ap (λ (z : Stand). z.hand) same)) list.0;
     }
-    keeps Prio list life same = record {
+    keeps Priorities list life same = record {
       space = sym (ap (λ (z : Stand). z.space) same);
       list = list;
       unlocked = subst (λ k. IsLocked begun s k → ⊥) list (none-locked {r = begun} none);
@@ -194,7 +196,7 @@ takes_for_push which {w} {r} {n} {p} {s} {l} {t} {due} covered seems is list non
     }
 
 -- a take for a pop, on a life that owes nothing, of a list with a thread, where no pair exists
-pub takes_for_pop : (which : Package) {w : WorkloadView} {r : Readings} {n : ℕ} {p : ProcNo} {s : SpaceNo} {l : ProcNo} {due : List ThreadNo}
+pub takes_for_pop : (which : PackageName) {w : WorkloadView} {r : Readings} {n : ℕ} {p : ProcNo} {s : SpaceNo} {l : ProcNo} {due : List ThreadNo}
     → Covers (rules_of which) w r (alone n p (Take s l None)) → SeemsCalm (rules_of which) w r (alone n p (Take s l None))
     → standing r p ≡ Some (stands s [] due false None)
     → OwesNone w r s → has_ready r s l ≡ true
@@ -217,9 +219,9 @@ takes_for_pop which {w} {r} {n} {p} {s} {l} {due} covered seems is owes some lis
     begun : Readings
     begun = event_begun w (alone n p (Take s l None)) r
 
-    keeps : (which : Package) → TakesList which w p l → (life : Life) → stand r life ≡ stands s [] due false None
+    keeps : (which : PackageName) → TakesList which w p l → (life : Life) → stand r life ≡ stands s [] due false None
         → KeepsBy which w begun p life (Take s l None)
-    keeps Fast list life same = record {
+    keeps FastThreads list life same = record {
       space = sym (ap (λ (z : Stand). z.space) same);
       unlocked = none-locked {r = begun} none;
       locks = ap (λ (z : Stand). z.locks) same;
@@ -236,7 +238,7 @@ takes_for_pop which {w} {r} {n} {p} {s} {l} {due} covered seems is owes some lis
         }),
       );
     }
-    keeps Prio list life same = record {
+    keeps Priorities list life same = record {
       space = sym (ap (λ (z : Stand). z.space) same);
       list = list;
       unlocked = subst (λ k. IsLocked begun s k → ⊥) list (none-locked {r = begun} none);
@@ -250,7 +252,7 @@ takes_for_pop which {w} {r} {n} {p} {s} {l} {due} covered seems is owes some lis
     }
 
 -- an instruction with nothing after it, on a life that owes nothing, where no pair exists
-pub goes : (which : Package) {w : WorkloadView} {r : Readings} {n : ℕ} {p : ProcNo} {s : SpaceNo} {t : ThreadNo} {i : ℕ} {due : List ThreadNo}
+pub goes : (which : PackageName) {w : WorkloadView} {r : Readings} {n : ℕ} {p : ProcNo} {s : SpaceNo} {t : ThreadNo} {i : ℕ} {due : List ThreadNo}
     {thread : Option ThreadNo}
     → Covers (rules_of which) w r (alone n p (Ins s t i)) → SeemsCalm (rules_of which) w r (alone n p (Ins s t i))
     → standing r p ≡ Some (stands s [] due false thread)

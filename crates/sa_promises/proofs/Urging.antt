@@ -13,7 +13,7 @@ use Rattle.sa_laws.specs.Legal.{FirstBreak}
 use Rattle.sa_ranks.specs.Rules.{prio_threads}
 use Rattle.sa_ranks.specs.Inside.{is_inside_or_urged}
 use Rattle.sa_histories.specs.Short.{smallest, at, s0, p0, t0}
-use Rattle.sa_promises.specs.Packages.{Prio}
+use Rattle.sa_base.specs.declared.package.PackageName.TheVariants.{Priorities}
 use Rattle.sa_promises.specs.Examples.{smallest_run, stops_at, t1}
 use Rattle.sa_promises.specs.RankedExamples.{urging_programs, urging, urging_run, back_for_nothing, own_line, p1, other_list_taken, goes_on_outranked, lesser_taken}
 use Rattle.sa_promises.proofs.Plain.{before-demand, before-locks}
@@ -36,16 +36,16 @@ few : (n : ℕ) → AreFew (before n).lives
 few n = few-along is_inside_or_urged urging (opening_readings urging) n urging_run refl (record { others = λ a high. refl })
 
 right5 : Right 5 (at 5 (Ins s0 t0 0 ∷ []))
-right5 = goes Prio one-share refl refl refl (record { owned = refl; runs = refl; pc = refl; within = omega arith; page = tt }, tt) refl
+right5 = goes Priorities one-share refl refl refl (record { owned = refl; runs = refl; pc = refl; within = omega arith; page = tt }, tt) refl
 
 right6 : Right 6 (at 6 (Take s0 p0 (Some t0) ∷ []))
-right6 = takes_for_push Prio one-share refl refl refl (record { few = few 6; zeroth = refl; first = refl }) refl
+right6 = takes_for_push Priorities one-share refl refl refl (record { few = few 6; zeroth = refl; first = refl }) refl
 
 right7 : Right 7 (at 7 (Ready s0 t1 ∷ []))
-right7 = readies Prio one-share refl refl ((refl, inr refl), tt) refl refl (record { few = few 7; zeroth = refl; first = refl }) refl
+right7 = readies Priorities one-share refl refl ((refl, inr refl), tt) refl refl (record { few = few 7; zeroth = refl; first = refl }) refl
 
 right8 : Right 8 (at 8 (Free s0 p0 (Some t0) ∷ []))
-right8 = frees Prio one-share refl refl refl
+right8 = frees Priorities one-share refl refl refl
 
 right9 : Right 9 (at 9 (Back s0 (Some t0) ∷ []))
 right9 = gives_way one-share refl refl ((refl, refl), tt) (
@@ -54,37 +54,37 @@ right9 = gives_way one-share refl refl ((refl, refl), tt) (
 )
 
 right10 : Right 10 (at 10 (Take s0 p0 None ∷ []))
-right10 = takes_for_push Prio one-share refl refl refl (record { few = few 10; zeroth = refl; first = refl }) refl
+right10 = takes_for_push Priorities one-share refl refl refl (record { few = few 10; zeroth = refl; first = refl }) refl
 
 right11 : Right 11 (at 11 (Ready s0 t0 ∷ []))
-right11 = readies Prio one-share refl refl ((refl, inl refl), tt) refl refl (record { few = few 11; zeroth = refl; first = refl }) refl
+right11 = readies Priorities one-share refl refl ((refl, inl refl), tt) refl refl (record { few = few 11; zeroth = refl; first = refl }) refl
 
 right12 : Right 12 (at 12 (Free s0 p0 None ∷ []))
-right12 = frees Prio one-share refl refl refl
+right12 = frees Priorities one-share refl refl refl
 
 right13 : Right 13 (at 13 (Take s0 p0 None ∷ []))
-right13 = takes_for_pop Prio one-share refl refl refl refl refl (record { few = few 13; zeroth = refl; first = refl }) refl
+right13 = takes_for_pop Priorities one-share refl refl refl refl refl (record { few = few 13; zeroth = refl; first = refl }) refl
 
 run-right : RightAlong prio_threads urging (before 0) urging_run
 run-right =
-    and-then (before-instruction Prio urging_programs)
+    and-then (before-instruction Priorities urging_programs)
     (right5 ► right6 ► right7 ► right8 ► right9 ► right10 ► right11 ► right12 ► right13 ► over)
 
 pub breaks-own_line : FirstBreak prio_threads smallest own_line (stops_at 5) 5 LineCause
 breaks-own_line =
-    breaks-then 5 (Line p0 ∷ []) (before-instruction Prio smallest_programs) (record { earlier = before-line None refl; broken = λ h. h.first.apart refl })
+    breaks-then 5 (Line p0 ∷ []) (before-instruction Priorities smallest_programs) (record { earlier = before-line None refl; broken = λ h. h.first.apart refl })
 
 pub breaks-back : FirstBreak prio_threads smallest back_for_nothing (stops_at 5) 5 TurnsTaken
-breaks-back = breaks-then 5 (Back s0 (Some t0) ∷ []) (before-instruction Prio smallest_programs)
+breaks-back = breaks-then 5 (Back s0 (Some t0) ∷ []) (before-instruction Priorities smallest_programs)
     (record { earlier = back-but-turns None one-share refl refl ((refl, refl), tt); broken = λ h. let none = (h.turn (omega arith)).1.pair.pair in cc })
 
 pub breaks-locks : FirstBreak prio_threads smallest other_list_taken (stops_at 2) 2 LocksKept
 breaks-locks =
     let r = after_events is_inside_or_urged smallest (opening_readings smallest) (take 2 smallest_run) in
     let allowed = nothing-owed smallest r (Take s0 p1 None) (life_on r p0) s0 [] None refl refl in
-    breaks-then 2 (Take s0 p1 None ∷ []) (before-instruction Prio smallest_programs) (record {
+    breaks-then 2 (Take s0 p1 None ∷ []) (before-instruction Priorities smallest_programs) (record {
       earlier = before-locks prio_threads smallest r 2 p0 (Take s0 p1 None) (Some (stops_at 2)) refl (is-calm refl one-share (tt, tt))
-          (in-demand Prio smallest r (at 2 (Take s0 p1 None ∷ [])) (λ _. allowed.free) (λ _. allowed.unurged)) (in-turn Prio (λ _ _ _ _ _ step. step) refl);
+          (in-demand Priorities smallest r (at 2 (Take s0 p1 None ∷ [])) (λ _. allowed.free) (λ _. allowed.unurged)) (in-turn Priorities (λ _ _ _ _ _ step. step) refl);
       broken = λ h. let list = ap (λ (l : ProcNo). l.0) (h.step (omega arith)).0.keeps.list in omega (arith, list);
     })
 
@@ -100,4 +100,4 @@ apart10 e = let same = ap (λ (t : ThreadNo). t.0) (same_Some t1 t0 e) in omega 
 
 pub breaks-rank : FirstBreak prio_threads urging lesser_taken (stops_at 14) 14 OrderKept
 breaks-rank = breaks-then 14 (Run s0 t0 ∷ []) run-right
-    (record { earlier = up-to-order None (run-but-order Prio one-share refl refl ((refl, refl, refl), tt) refl refl); broken = λ h. apart10 h.run })
+    (record { earlier = up-to-order None (run-but-order Priorities one-share refl refl ((refl, refl, refl), tt) refl refl); broken = λ h. apart10 h.run })

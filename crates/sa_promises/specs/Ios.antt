@@ -1,5 +1,5 @@
--- I/Os: their numbers, lengths and pages, and which of them are under way.
-use Rattle.std.specs.Prelude.{ℕ, ◌+◌, ◌==◌, ◌&&◌, if◌then◌else◌, List, [], ◌∷◌, ◌++◌, filter, Option, Some, None}
+-- I/Os: their numbers, lengths and pages, and how a record changes which of them are under way.
+use Rattle.std.specs.Prelude.{ℕ, ◌+◌, ◌==◌, Bool, not, ◌&&◌, if◌then◌else◌, List, [], ◌∷◌, ◌++◌, filter, Option, Some, None}
 use Rattle.sa_base.specs.declared.number.SpaceNo.{SpaceNo}
 use Rattle.sa_base.specs.declared.number.ThreadNo.{ThreadNo}
 use Rattle.sa_base.specs.declared.number.ActNo.{ActNo}
@@ -14,7 +14,6 @@ use Rattle.sa_laws.specs.State.{State, instr_of, next_instr}
 use Rattle.sa_laws.specs.Life.{some_lock}
 use Rattle.sa_laws.specs.Record.{Blocking, length_in, page_in, is_thread, is_io_of_other, fetches_other}
 use Rattle.sa_promises.specs.Words.{ios_begun}
-use Rattle.sa_promises.specs.Along.{along}
 use Rattle.sa_promises.specs.Moments.{machine_of, directly_before}
 use Rattle.sa_promises.specs.Holdings.{locks_of}
 
@@ -28,32 +27,30 @@ abbrev pub touched : WorkloadView → State → SpaceNo → Option ThreadNo → 
 touched w m s None = 0
 touched w m s (Some t) = page_in (next_instr w m s t)
 
--- What a block is for: directly after an `io` it has the length of that, and no page; where its life has a lock it is for
--- the package's page, else for the page that its thread touches, and has the length of a fetch.
-abbrev pub block_with : WorkloadView → List Item → SpaceNo → Option ThreadNo → ActNo → Option ℕ → Blocking
-block_with w past s t a (Some length) = record { kind = Plain s a; length = length }
-block_with w past s t a None = record {
-  kind = Page s a (if some_lock (locks_of w past a) then PACKAGE_PAGE else touched w (machine_of w past) s t);
+-- which pages of which spaces are resident
+abbrev pub Resident : Type 0
+Resident = SpaceNo → ℕ → Bool
+
+-- What a block is for: directly after an `io` it has the length of that, and no page; else it has the length of a fetch, and is for
+-- the package's page if its life has a lock and that page is absent, and if not, for the page that its thread touches.
+abbrev pub block_with : WorkloadView → List Item → Resident → SpaceNo → Option ThreadNo → ActNo → Option ℕ → Blocking
+block_with w past resident s t a (Some length) = record { kind = Plain s a; length = length }
+block_with w past resident s t a None = record {
+  kind = Page s a (if some_lock (locks_of w past a) && not (resident s PACKAGE_PAGE) then PACKAGE_PAGE else touched w (machine_of w past) s t);
   length = w.fetch;
 }
 
-abbrev pub block_for : WorkloadView → List Item → ℕ → SpaceNo → Option ThreadNo → ActNo → Blocking
-block_for w past event s t a = block_with w past s t a (io_before w (machine_of w past) s t (directly_before event past))
+abbrev pub block_for : WorkloadView → List Item → Resident → ℕ → SpaceNo → Option ThreadNo → ActNo → Blocking
+block_for w past resident event s t a = block_with w past resident s t a (io_before w (machine_of w past) s t (directly_before event past))
 
 -- The I/Os under way: a block or a fetch begins one, whose number is that of the blocks and fetches before it, and which
 -- is due from its event plus its length on; the unblock of its life ends it, or the next `fetched` of its space.
 abbrev pub io_from : List Item → ℕ → Blocking → Io
 io_from past event b = record { number = ios_begun past; ends = event + b.length; kind = b.kind }
 
-abbrev pub ios_by : WorkloadView → List Item → List Io → ℕ → Record → List Io
-ios_by w past ios event (Block s t a io) = ios ++ io_from past event (block_for w past event s t a) ∷ []
-ios_by w past ios event (Fetch s) = ios ++ io_from past event (record { kind = Upcall s; length = w.fetch }) ∷ []
-ios_by w past ios event (Unblock s t a) = filter (is_io_of_other a) ios
-ios_by w past ios event (Fetched s) = filter (fetches_other s) ios
-ios_by w past ios event _ = ios
-
-abbrev pub ios_at : WorkloadView → List Item → List Io → Item → List Io
-ios_at w past ios x = ios_by w past ios x.event x.what
-
-abbrev pub ios_of : WorkloadView → List Item → List Io
-ios_of w items = along (ios_at w) [] items
+abbrev pub ios_by : WorkloadView → List Item → Resident → List Io → ℕ → Record → List Io
+ios_by w past resident ios event (Block s t a io) = ios ++ io_from past event (block_for w past resident event s t a) ∷ []
+ios_by w past resident ios event (Fetch s) = ios ++ io_from past event (record { kind = Upcall s; length = w.fetch }) ∷ []
+ios_by w past resident ios event (Unblock s t a) = filter (is_io_of_other a) ios
+ios_by w past resident ios event (Fetched s) = filter (fetches_other s) ios
+ios_by w past resident ios event _ = ios

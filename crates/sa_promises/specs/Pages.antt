@@ -1,5 +1,5 @@
--- Resident pages.
-use Rattle.std.specs.Prelude.{ℕ, ◌==◌, Bool, true, false, not, ◌&&◌, if◌then◌else◌, List, find, Option, Some, None}
+-- Resident pages, and with them the I/Os under way.
+use Rattle.std.specs.Prelude.{ℕ, ◌==◌, Bool, true, false, not, ◌&&◌, if◌then◌else◌, List, [], find, Option, Some, None}
 use Rattle.std.specs.List.{list_any}
 use Rattle.sa_base.specs.declared.number.SpaceNo.{SpaceNo}
 use Rattle.sa_base.specs.declared.record.Record.{Record}
@@ -15,7 +15,7 @@ use Rattle.sa_laws.specs.State.{space_def}
 use Rattle.sa_laws.specs.Record.{is_io_of}
 use Rattle.sa_promises.specs.Along.{along}
 use Rattle.sa_promises.specs.Moments.{is_first}
-use Rattle.sa_promises.specs.Ios.{ios_of}
+use Rattle.sa_promises.specs.Ios.{Resident, ios_by}
 
 -- the page is one that its space says is absent at the opening; an evict line of the event names it
 abbrev pub is_absent : WorkloadView → SpaceNo → ℕ → Bool
@@ -42,15 +42,34 @@ comes_at ios s page (Unblock of t a) = is_io_for s page (find (is_io_of a) ios)
 comes_at ios s page (Fetched of) = is_io_for s page (find (fetches of.0) ios)
 comes_at ios s page _ = false
 
--- A page is resident by the last of these that names it: the absent pages of the opening, the evict lines of events, each
--- before the event's records, and the completions of I/Os for it; one that none names is resident.
+-- before a record the pages are as the record before left them; but before the first record of an event its evict lines are done
 abbrev pub evicted_if : Bool → WorkloadView → ℕ → SpaceNo → ℕ → Bool → Bool
 evicted_if begins w event s page old = if begins && is_evicted w event s page then false else old
 
-abbrev pub resident_at : WorkloadView → SpaceNo → ℕ → List Item → Bool → Item → Bool
-resident_at w s page past old x =
-    if comes_at (ios_of w past) s page x.what then true
-    else evicted_if (is_first x.event past) w x.event s page old
+abbrev pub pages_before : WorkloadView → List Item → ℕ → Resident → Resident
+pages_before w past event resident s page = evicted_if (is_first event past) w event s page (resident s page)
+
+-- A page is resident by the last of these that names it: the absent pages of the opening, the evict lines of events, each
+-- before the event's records, and the completions of I/Os for it; one that none names is resident. What a block is for depends on
+-- this, and which I/Os there are to be completed on the blocks: so pages and I/Os are one value along the items.
+pub record Devices : Type 0 where
+  pub ios : List Io
+  pub resident : Resident
+
+abbrev pub first_devices : WorkloadView → Devices
+first_devices w = record { ios = []; resident = λ s page. not (is_absent w s page) }
+
+abbrev pub devices_at : WorkloadView → List Item → Devices → Item → Devices
+devices_at w past old x = record {
+  ios = ios_by w past (pages_before w past x.event old.resident) old.ios x.event x.what;
+  resident = λ s page. if comes_at old.ios s page x.what then true else pages_before w past x.event old.resident s page;
+}
+
+abbrev pub devices_of : WorkloadView → List Item → Devices
+devices_of w items = along (devices_at w) (first_devices w) items
+
+abbrev pub ios_of : WorkloadView → List Item → List Io
+ios_of w items = (devices_of w items).ios
 
 abbrev pub is_resident_in : WorkloadView → List Item → SpaceNo → ℕ → Bool
-is_resident_in w items s page = along (resident_at w s page) (not (is_absent w s page)) items
+is_resident_in w items s page = (devices_of w items).resident s page

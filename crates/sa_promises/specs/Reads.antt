@@ -6,22 +6,21 @@ use Rattle.sa_base.specs.declared.number.ActNo.{ActNo}
 use Rattle.sa_base.specs.declared.record.Note.{Note}
 use Rattle.sa_base.specs.declared.record.Record.{Record}
 use Rattle.sa_base.specs.declared.record.Item.{Item}
-use Rattle.sa_spaces.specs.Workload.{WorkloadView}
+use Rattle.sa_spaces.specs.Workload.{WorkloadView, IsWorkload}
 use Rattle.sa_laws.specs.Event.{Event, items_of, events_of}
 use Rattle.sa_laws.specs.Life.{Life}
 use Rattle.sa_laws.specs.Readings.{Readings, running_of, line_of, life_of, load_of, untold_of, taken_of, ready_of, is_resident, owner_of, aim_of, demand_of, is_fetching}
 use Rattle.sa_laws.specs.History.{is_step, settles, behind_all}
 use Rattle.sa_laws.specs.Rules.{UserRules}
 use Rattle.sa_laws.specs.Legal.{before}
-use Rattle.sa_promises.specs.Packages.{Package}
+use Rattle.sa_base.specs.declared.package.PackageName.{PackageName}
 use Rattle.sa_promises.specs.Words.{RaisedAt, ios_begun, last_aim, last_want, last_owner, is_fetched, StandsUntold}
 use Rattle.sa_promises.specs.Lives.{stand_of, Taken}
 use Rattle.sa_promises.specs.Moments.{Home, machine_of, runs_on, last_up, home_of}
 use Rattle.sa_promises.specs.Marks.{is_marked}
 use Rattle.sa_promises.specs.Loads.{Untold, untold_in, load_in}
 use Rattle.sa_promises.specs.Holdings.{locks_of, ready_in, hand_of, has_cont, stopped_of, taken_in}
-use Rattle.sa_promises.specs.Ios.{ios_of}
-use Rattle.sa_promises.specs.Pages.{is_resident_in}
+use Rattle.sa_promises.specs.Pages.{ios_of, is_resident_in}
 use Rattle.sa_promises.specs.Steps.{stepping, with_event, settles_by, is_in, scans_of, was_free, was_idle}
 
 -- the readings have one entry for each processor and space of the workload, and say of these items what the words say
@@ -101,7 +100,7 @@ pub record TakenAreRead (w : WorkloadView) (events : List Event) (r : Readings) 
 -- the I/Os under way, with their numbers, ends and kinds
 pub record IosAreRead (w : WorkloadView) (events : List Event) (r : Readings) : Type 0 where
   pub io_count : r.io_count ≡ ios_begun (items_of events)
-  pub under_way : r.under_way ≡ ios_of w (items_of events)
+  pub under_way : IsWorkload w → r.under_way ≡ ios_of w (items_of events)
 
 -- the resident pages
 abbrev pub PagesAreRead : WorkloadView → List Event → Readings → Type 0
@@ -111,13 +110,13 @@ PagesAreRead w events r =
 
 -- of each life: whether it is in, its scan count, whether its last own event was a free, and whether it was idle at its
 -- stop
-pub record StepsAsIsSaid (which : Package) (w : WorkloadView) (events : List Event) (a : ActNo) (life : Life) : Type 0 where
+pub record StepsAsIsSaid (which : PackageName) (w : WorkloadView) (events : List Event) (a : ActNo) (life : Life) : Type 0 where
   pub inside : life.inside ≡ is_in which w events a
   pub scans : life.scans ≡ scans_of events a
   pub freed : life.freed ≡ was_free events a
   pub idle : life.idle ≡ was_idle which w events a
 
-abbrev pub StepsAreRead : Package → WorkloadView → List Event → Readings → Type 0
+abbrev pub StepsAreRead : PackageName → WorkloadView → List Event → Readings → Type 0
 StepsAreRead which w events r = (a : ActNo) (life : Life) → life_of r a ≡ Some life → StepsAsIsSaid which w events a life
 
 -- of these, what does not rest on a user level's test of which lives are in

@@ -17,7 +17,7 @@ use Rattle.sa_laws.specs.State.{space_at, thread_at, runner_on}
 use Rattle.sa_laws.specs.Life.{some_lock}
 use Rattle.sa_laws.specs.Readings.{counts}
 use Rattle.sa_laws.specs.History.{is_running_or_blocked, is_up}
-use Rattle.sa_promises.specs.Packages.{Package}
+use Rattle.sa_base.specs.declared.package.PackageName.{PackageName}
 use Rattle.sa_promises.specs.Words.{last_want}
 use Rattle.sa_promises.specs.Along.{along}
 use Rattle.sa_promises.specs.Moments.{Home, machine_of, runs_on, home_of}
@@ -108,12 +108,12 @@ in_with w past urged now e has =
     set_in w now urged true (rising now e)
     (set_in w now urged (settles_at w past now e.records) (stepping past e) (renewed false (Some false) e.records has))
 
-abbrev pub in_by : Package → WorkloadView → List Event → (ℕ → Bool) → Event → ℕ → Bool
+abbrev pub in_by : PackageName → WorkloadView → List Event → (ℕ → Bool) → Event → ℕ → Bool
 in_by which w before has e =
     let past = items_of before in
     in_with w past (is_urged which w (asked_at past e)) (with_event past e) e has
 
-abbrev pub is_in : Package → WorkloadView → List Event → ActNo → Bool
+abbrev pub is_in : PackageName → WorkloadView → List Event → ActNo → Bool
 is_in which w events a = along (in_by which w) (λ b. false) events a.0
 
 -- A life whose stop was recorded was idle then, where directly before it was not in and its stop names no thread.
@@ -126,10 +126,10 @@ abbrev pub idle_behind : (ℕ → Bool) → List Record → (ℕ → Bool) → �
 idle_behind ins [] has = has
 idle_behind ins (x ∷ xs) has = idle_behind (renewed_at false (Some false) x ins) xs (idle_at ins x has)
 
-abbrev pub idle_by : Package → WorkloadView → List Event → (ℕ → Bool) → Event → ℕ → Bool
+abbrev pub idle_by : PackageName → WorkloadView → List Event → (ℕ → Bool) → Event → ℕ → Bool
 idle_by which w before has e = idle_behind (along (in_by which w) (λ b. false) before) e.records has
 
-abbrev pub was_idle : Package → WorkloadView → List Event → ActNo → Bool
+abbrev pub was_idle : PackageName → WorkloadView → List Event → ActNo → Bool
 was_idle which w events a = along (idle_by which w) (λ b. false) events a.0
 
 -- The scan count of a life: how many idle records it has since its up or its last own event of another kind; a lowering

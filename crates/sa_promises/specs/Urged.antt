@@ -13,7 +13,8 @@ use Rattle.sa_laws.specs.State.{SpaceState, Runner, space_at, runner_on}
 use Rattle.sa_laws.specs.Shape.{own_part}
 use Rattle.sa_ranks.specs.Pairs.{rank_in, is_outranked}
 use Rattle.sa_ranks.specs.Inside.{has_entry}
-use Rattle.sa_promises.specs.Packages.{Package, Fast, Prio}
+use Rattle.sa_base.specs.declared.package.PackageName.{PackageName}
+use Rattle.sa_base.specs.declared.package.PackageName.TheVariants.{FastThreads, Priorities}
 use Rattle.sa_promises.specs.Words.{line_in}
 use Rattle.sa_promises.specs.Along.{last_seen}
 use Rattle.sa_promises.specs.Moments.{is_first, machine_of}
@@ -46,6 +47,6 @@ asked_at past e =
     past ++ items_at e.number e.proc (if has_entry e.records then e.records else own_part e.records)
 
 -- By thread priorities a pair keeps a life in; by FastThreads' rules none does.
-abbrev pub is_urged : Package → WorkloadView → List Item → SpaceNo → Bool
-is_urged Fast w items s = false
-is_urged Prio w items s = has_pair_in w items s
+abbrev pub is_urged : PackageName → WorkloadView → List Item → SpaceNo → Bool
+is_urged FastThreads w items s = false
+is_urged Priorities w items s = has_pair_in w items s

@@ -1,4 +1,4 @@
-//! Laws of histories, for those who prove that a run is legal by either package's rules. No function here does anything.
+//! Laws of histories, for those who prove that a run is legal, by either package's rules or by those of any user level. No function here does anything.
 ghost use Rattle.std.specs.Prelude.{◌≡◌, ◌≢◌, ◌↔◌, ℕ, List, [], ◌++◌, length, Contains};
 ghost use Rattle.sa_base.specs.declared.number.SpaceNo.{SpaceNo};
 ghost use Rattle.sa_base.specs.declared.record.Note.{Note};
@@ -10,7 +10,8 @@ ghost use Rattle.sa_laws.specs.History.{after_events, readings};
 ghost use Rattle.sa_laws.specs.declared.rule.Rule.{Rule};
 ghost use Rattle.sa_laws.specs.Ends.{LastLine};
 ghost use Rattle.sa_laws.specs.Legal.{IsLegal, IsLegalHistory, IsRight, FirstBreak};
-ghost use Rattle.sa_promises.specs.Packages.{Package, rules_of};
+ghost use Rattle.sa_base.specs.declared.package.RulesName.{RulesName};
+ghost use Rattle.sa_ranks.specs.Packages.{rules_named};
 ghost use Rattle.sa_promises.specs.Words.{StandsUntold};
 ghost use Rattle.sa_promises.specs.Headline.{BlocksNameTheirIo};
 ghost use Rattle.sa_promises.specs.Reads.{Reads};
@@ -26,44 +27,44 @@ pub fn traces_are_histories()
 pub fn histories_are_traces()
     ensures events { (first : ℕ) (events : List Event) → AreNumbered first events
         → events_of (items_of events) ≡ events }
-    ensures legal { (which : Package) (w : WorkloadView) (events : List Event) → IsLegalHistory (rules_of which) w events
-        → IsLegal (rules_of which) w (items_of events) }
+    ensures legal { (which : RulesName) (w : WorkloadView) (events : List Event) → IsLegalHistory (rules_named which) w events
+        → IsLegal (rules_named which) w (items_of events) }
 {}
 
 /// A history is legal where the laws hold event by event, and so where they hold of a first part, and of the rest after it.
 pub fn laws_hold_along_histories()
-    ensures along { (which : Package) (w : WorkloadView) (events : List Event) → events ≢ []
-        → (AreLawful (rules_of which) w (opening_readings w) events ↔ IsLegalHistory (rules_of which) w events) }
-    ensures append { (which : Package) (w : WorkloadView) (r : Readings) (before more : List Event)
-        → AreLawful (rules_of which) w r before
-        → AreLawful (rules_of which) w (after_events (rules_of which).inside w r before) more
-        → AreLawful (rules_of which) w r (before ++ more) }
+    ensures along { (which : RulesName) (w : WorkloadView) (events : List Event) → events ≢ []
+        → (AreLawful (rules_named which) w (opening_readings w) events ↔ IsLegalHistory (rules_named which) w events) }
+    ensures append { (which : RulesName) (w : WorkloadView) (r : Readings) (before more : List Event)
+        → AreLawful (rules_named which) w r before
+        → AreLawful (rules_named which) w (after_events (rules_named which).inside w r before) more
+        → AreLawful (rules_named which) w r (before ++ more) }
 {}
 
 /// What the fold reads off a legal trace as owners, aims, demands, fetches, raised lines, untold records, and of lives as in
 /// use, running, blocked and taken, is what the plain words say.
 pub fn legal_traces_are_read()
-    ensures words { (which : Package) (w : WorkloadView) (items : List Item) → IsLegal (rules_of which) w items
-        → Reads w items (readings (rules_of which).inside w (events_of items)) }
-    ensures untold { (which : Package) (w : WorkloadView) (items : List Item) → IsLegal (rules_of which) w items
+    ensures words { (which : RulesName) (w : WorkloadView) (items : List Item) → IsLegal (rules_named which) w items
+        → Reads w items (readings (rules_named which).inside w (events_of items)) }
+    ensures untold { (which : RulesName) (w : WorkloadView) (items : List Item) → IsLegal (rules_named which) w items
         → (s : SpaceNo) (n : Note)
-        → Contains (untold_of (readings (rules_of which).inside w (events_of items)) s) n
+        → Contains (untold_of (readings (rules_named which).inside w (events_of items)) s) n
         → StandsUntold items (length items) s n }
-    ensures lives { (which : Package) (w : WorkloadView) (items : List Item) → IsLegal (rules_of which) w items
-        → LivesAreRead items (readings (rules_of which).inside w (events_of items)) }
+    ensures lives { (which : RulesName) (w : WorkloadView) (items : List Item) → IsLegal (rules_named which) w items
+        → LivesAreRead items (readings (rules_named which).inside w (events_of items)) }
 {}
 
 /// A trace has one first break, and none where every rule holds.
 pub fn traces_break_once()
-    ensures once { (which : Package) (w : WorkloadView) (items : List Item) (line : LastLine) (m n : ℕ) (a b : Rule)
-        → FirstBreak (rules_of which) w items line m a → FirstBreak (rules_of which) w items line n b
+    ensures once { (which : RulesName) (w : WorkloadView) (items : List Item) (line : LastLine) (m n : ℕ) (a b : Rule)
+        → FirstBreak (rules_named which) w items line m a → FirstBreak (rules_named which) w items line n b
         → (m ≡ n) × (a ≡ b) }
-    ensures none { (which : Package) (w : WorkloadView) (items : List Item) (line : LastLine) (n : ℕ) (rule : Rule)
-        → IsRight (rules_of which) w items line → FirstBreak (rules_of which) w items line n rule → ⊥ }
+    ensures none { (which : RulesName) (w : WorkloadView) (items : List Item) (line : LastLine) (n : ℕ) (rule : Rule)
+        → IsRight (rules_named which) w items line → FirstBreak (rules_named which) w items line n rule → ⊥ }
 {}
 
 /// I/Os are numbered from 0 in the order of their block and fetch records, and each block names the number of its I/O.
 pub fn legal_runs_number_ios()
-    ensures { (which : Package) (w : WorkloadView) (items : List Item) → IsLegal (rules_of which) w items
+    ensures { (which : RulesName) (w : WorkloadView) (items : List Item) → IsLegal (rules_named which) w items
         → BlocksNameTheirIo items }
 {}

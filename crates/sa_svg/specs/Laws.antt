@@ -6,8 +6,11 @@ use Rattle.sa_trace.specs.Text.{FitsItem}
 use Rattle.sa_trace.specs.TraceText.{line_of}
 
 -- no byte is a sign of markup: a less, a greater, an ampersand
+abbrev pub is_plain_byte : ℕ → Bool
+is_plain_byte b = not (b == 60) && not (b == 62) && not (b == 38)
+
 abbrev pub is_plain : List ℕ → Bool
-is_plain bytes = list_all (λ b. not (b == 60) && not (b == 62) && not (b == 38)) bytes
+is_plain bytes = list_all is_plain_byte bytes
 
 -- the lines of a trace text, which are in the titles, need no escape
 abbrev pub LinesArePlain : Type 0

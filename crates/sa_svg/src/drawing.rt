@@ -6,10 +6,11 @@ ghost use Rattle.sa_svg.specs.Drawing.{words_at, bar_text, demand_text, aimed_te
 use crate::head::push_head;
 use crate::layout::{BAR_HEIGHT, Layout, has_room};
 use crate::markup::{Rect, push_numbered, push_numbered_rect, push_rect, push_words};
-use crate::titles::{push_line, push_stretch_title};
+use crate::titles::push_stretch_title;
 use crate::words::{aimed_count, mark_class, push_look_rect, push_look_word, push_mark_word};
 use sa_base::{Item, Record};
 use sa_shapes::{Look, Mark, Picture, Shape, Shown, Stretch, Track, Window};
+use sa_trace::append_line;
 use std::alloc::{AllocError, Global};
 
 /// The text of the picture of these items, as wide as is asked if it can be. Its only error is want of memory.
@@ -73,7 +74,7 @@ fn push_shape(
         }
         Shape::Mark(mark) => {
             out.extend_from_slice(b"<g><title>")?;
-            push_line(out, &mark.item)?;
+            append_line(out, &mark.item)?;
             out.extend_from_slice(b"</title>")?;
             push_mark(out, alloc, layout, mark)?;
             out.extend_from_slice(b"</g>\n")

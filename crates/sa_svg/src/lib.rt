@@ -11,4 +11,3 @@ mod words;
 
 pub use drawing::print;
 pub use layout::{DEFAULT_WIDTH, Layout, MAX_WIDTH, MIN_WIDTH, widths_are_these};
-pub use titles::{push_line, push_record};

@@ -1,15 +1,12 @@
 // The titles of shapes: what a pointer on one shows.
 ghost use Rattle.std.specs.Prelude.{◌≡◌, ◌++◌, OnOk};
-ghost use Rattle.std.specs.List.{flat_map};
-ghost use Rattle.sa_trace.specs.TraceText.{field, line_of, record_text};
 ghost use Rattle.sa_svg.specs.Titles.{concerns, part, lines_of, line_if, track_title, shown_title, stretch_title};
 
 use crate::markup::push_numbered;
 use crate::words::{aimed_count, push_look_title};
 use sa_base::{Item, Record};
 use sa_shapes::{Shown, Stretch, Track, Window};
-use sa_text::print_number;
-use sa_trace::Parts;
+use sa_trace::append_line;
 use std::alloc::AllocError;
 
 /// Appends the title of a stretch: what it shows, and the lines of the trace that it stands for.
@@ -91,7 +88,7 @@ fn push_line_if(
     ensures { OnOk result (out.new.items ≡ out.old.items ++ line_if window track item.now) }
 {
     if window.is_inside(item.event) && concerns(track, item) {
-        return push_line(out, item);
+        return append_line(out, item);
     }
     Ok(())
 }
@@ -105,43 +102,5 @@ fn concerns(track: Track, item: &Item) -> bool
         (Track::Demand(s), Record::Want(u, _)) => u.0 == s.0,
         (Track::Aimed(_), Record::Aim(..)) => true,
         _ => false,
-    }
-}
-
-/// Appends the line of the trace text that the item is.
-pub fn push_line(out: &mut Vec<u8>, item: &Item) -> Result<(), AllocError>
-    ensures { OnOk result (out.new.items ≡ out.old.items ++ line_of item.now) }
-{
-    print_number(item.event, out)?;
-    push_field(out, Some(u64::from(item.proc.0)))?;
-    out.extend_from_slice(b" ")?;
-    push_record(out, &item.what)?;
-    out.extend_from_slice(b"\n")
-}
-
-/// Appends a record as the trace text has it: the word of its kind, and its fields.
-pub fn push_record(out: &mut Vec<u8>, what: &Record) -> Result<(), AllocError>
-    ensures { OnOk result (out.new.items ≡ out.old.items ++ record_text what.now) }
-{
-    let parts = Parts::of(what);
-    out.extend_from_slice(parts.kind().form().word)?;
-    push_fields(out, parts.fields())
-}
-
-fn push_fields(out: &mut Vec<u8>, values: &[Option<u64>]) -> Result<(), AllocError>
-    ensures { OnOk result (out.new.items ≡ out.old.items ++ flat_map field values.now) }
-{
-    for &value in values {
-        push_field(out, value)?;
-    }
-    Ok(())
-}
-
-fn push_field(out: &mut Vec<u8>, value: Option<u64>) -> Result<(), AllocError>
-    ensures { OnOk result (out.new.items ≡ out.old.items ++ field value) }
-{
-    match value {
-        None => out.extend_from_slice(b" -"),
-        Some(n) => push_numbered(out, b" ", n),
     }
 }

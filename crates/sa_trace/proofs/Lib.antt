@@ -14,3 +14,4 @@ pub mod ItemLines
 pub mod FirstLine
 mod LossLines
 pub mod Digits
+pub mod LineBytes

@@ -20,13 +20,13 @@ pub(crate) const FIELD: usize = NUMBER + 1;
 pub const LINES: usize = 4_096;
 
 /// Some lines of a text, or the beginning of one. They take no memory.
-pub type Lines = ArrayVec<u8, LINES>;
+pub type LineBuffer = ArrayVec<u8, LINES>;
 
 /// The most bytes that a record has with a space before it.
 pub(crate) const RECORD: usize = 1 + MAX_WORD + MAX_FIELDS * FIELD;
 
 /// Appends these bytes.
-pub(crate) fn put(out: &mut Lines, bytes: &[u8])
+pub(crate) fn put(out: &mut LineBuffer, bytes: &[u8])
     requires { array_vec_len out.old + length bytes.now ≤ LINES }
     ensures text { out.new.items ≡ out.old.items ++ bytes.now }
     ensures len { array_vec_len out.new ≡ array_vec_len out.old + length bytes.now }
@@ -37,7 +37,7 @@ pub(crate) fn put(out: &mut Lines, bytes: &[u8])
 }
 
 /// Appends a number in decimal.
-pub(crate) fn push_decimal(out: &mut Lines, n: u64)
+pub(crate) fn push_decimal(out: &mut LineBuffer, n: u64)
     requires { array_vec_len out.old + NUMBER ≤ LINES }
     ensures text { out.new.items ≡ out.old.items ++ decimal n }
     ensures len { array_vec_len out.new ≤ array_vec_len out.old + NUMBER }
@@ -60,7 +60,7 @@ pub(crate) fn push_decimal(out: &mut Lines, n: u64)
 // Appends a number of one digit or two.
 #[inline]
 #[tactic(auto, using(std::proofs::lemmas::Fmt::decimal_digit, itoa::proofs::Decimal::decimal_two))]
-fn push_short(out: &mut Lines, n: u64)
+fn push_short(out: &mut LineBuffer, n: u64)
     requires short { n < 100 }
     requires room { array_vec_len out.old + 2 ≤ LINES }
     ensures text { out.new.items ≡ out.old.items ++ decimal n }
@@ -74,7 +74,7 @@ fn push_short(out: &mut Lines, n: u64)
 
 // Appends two digits.
 #[inline]
-fn push_pair(out: &mut Lines, n: u64)
+fn push_pair(out: &mut LineBuffer, n: u64)
     requires short { n < 100 }
     requires room { array_vec_len out.old + 2 ≤ LINES }
     ensures text { out.new.items ≡ out.old.items ++ (48 + n / 10) ∷ (48 + n % 10) ∷ [] }
@@ -85,7 +85,7 @@ fn push_pair(out: &mut Lines, n: u64)
 
 // Appends a number of any length. Out of line, so that a short one does not pay for the buffer.
 #[inline(never)]
-fn push_long(out: &mut Lines, n: u64)
+fn push_long(out: &mut LineBuffer, n: u64)
     requires { array_vec_len out.old + NUMBER ≤ LINES }
     ensures text { out.new.items ≡ out.old.items ++ decimal n }
     ensures len { array_vec_len out.new ≤ array_vec_len out.old + NUMBER }
@@ -96,7 +96,7 @@ fn push_long(out: &mut Lines, n: u64)
 
 /// Appends a space and a number.
 #[tactic(auto, using(std::proofs::lemmas::Fmt::decimal_digit))]
-pub(crate) fn push_number(out: &mut Lines, n: u64)
+pub(crate) fn push_number(out: &mut LineBuffer, n: u64)
     requires { array_vec_len out.old + FIELD ≤ LINES }
     ensures text { out.new.items ≡ out.old.items ++ field (Some n) }
     ensures len { array_vec_len out.new ≤ array_vec_len out.old + FIELD }
@@ -110,7 +110,7 @@ pub(crate) fn push_number(out: &mut Lines, n: u64)
 
 // Appends a space and a field: its number, or a dash where it is absent.
 #[inline]
-fn push_field(out: &mut Lines, value: Option<u64>)
+fn push_field(out: &mut LineBuffer, value: Option<u64>)
     requires { array_vec_len out.old + FIELD ≤ LINES }
     ensures text { out.new.items ≡ out.old.items ++ field value }
     ensures len { array_vec_len out.new ≤ array_vec_len out.old + FIELD }
@@ -122,7 +122,7 @@ fn push_field(out: &mut Lines, value: Option<u64>)
 }
 
 // Appends some fields in order.
-fn push_fields(out: &mut Lines, values: &[Option<u64>])
+fn push_fields(out: &mut LineBuffer, values: &[Option<u64>])
     requires { array_vec_len out.old + length values.now * FIELD ≤ LINES }
     ensures text { out.new.items ≡ out.old.items ++ flat_map field values.now }
     ensures len { array_vec_len out.new ≤ array_vec_len out.old + length values.now * FIELD }
@@ -134,7 +134,7 @@ fn push_fields(out: &mut Lines, values: &[Option<u64>])
 
 /// Appends a space, the word of the record's kind and the record's fields.
 #[inline]
-pub(crate) fn push_record(out: &mut Lines, what: &Record)
+pub(crate) fn push_record(out: &mut LineBuffer, what: &Record)
     requires { array_vec_len out.old + RECORD ≤ LINES }
     ensures text { out.new.items ≡ out.old.items ++ codes " " ++ record_text what.now }
     ensures len { array_vec_len out.new ≤ array_vec_len out.old + RECORD }
@@ -155,7 +155,7 @@ pub(crate) fn push_record(out: &mut Lines, what: &Record)
 
 // Appends a word and a number as a field.
 #[inline]
-fn push_one(out: &mut Lines, word: &[u8], a: u16)
+fn push_one(out: &mut LineBuffer, word: &[u8], a: u16)
     requires { array_vec_len out.old + length word.now + FIELD ≤ LINES }
     ensures text { out.new.items ≡ out.old.items ++ word.now ++ flat_map field (Some a ∷ []) }
     ensures len { array_vec_len out.new ≤ array_vec_len out.old + length word.now + FIELD }
@@ -166,7 +166,7 @@ fn push_one(out: &mut Lines, word: &[u8], a: u16)
 
 // Appends a word, a space's number and another number as fields.
 #[inline]
-fn push_two(out: &mut Lines, word: &[u8], s: SpaceNo, a: u16)
+fn push_two(out: &mut LineBuffer, word: &[u8], s: SpaceNo, a: u16)
     requires { array_vec_len out.old + length word.now + 2 * FIELD ≤ LINES }
     ensures text { out.new.items ≡ out.old.items ++ word.now ++ flat_map field (Some s.0 ∷ Some a ∷ []) }
     ensures len { array_vec_len out.new ≤ array_vec_len out.old + length word.now + 2 * FIELD }
@@ -177,7 +177,7 @@ fn push_two(out: &mut Lines, word: &[u8], s: SpaceNo, a: u16)
 
 // Appends a word, a space's number and two other numbers as fields.
 #[inline]
-fn push_three(out: &mut Lines, word: &[u8], s: SpaceNo, a: u16, b: u16)
+fn push_three(out: &mut LineBuffer, word: &[u8], s: SpaceNo, a: u16, b: u16)
     requires { array_vec_len out.old + length word.now + 3 * FIELD ≤ LINES }
     ensures text { out.new.items
         ≡ out.old.items ++ word.now ++ flat_map field (Some s.0 ∷ Some a ∷ Some b ∷ []) }
@@ -188,7 +188,7 @@ fn push_three(out: &mut Lines, word: &[u8], s: SpaceNo, a: u16, b: u16)
 }
 
 // Appends a space, the word of any record's kind and the record's fields.
-fn push_parts(out: &mut Lines, what: &Record)
+fn push_parts(out: &mut LineBuffer, what: &Record)
     requires { array_vec_len out.old + RECORD ≤ LINES }
     ensures text { out.new.items ≡ out.old.items ++ codes " " ++ record_text what.now }
     ensures len { array_vec_len out.new ≤ array_vec_len out.old + RECORD }

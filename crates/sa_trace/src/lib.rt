@@ -2,6 +2,7 @@
 //! record as its kind and its fields, each a number or absent.
 #![tactic(auto)]
 
+mod appending;
 mod counts;
 mod field;
 mod fields;
@@ -19,9 +20,10 @@ mod reading;
 mod so_far;
 pub mod words;
 
+pub use appending::{append_item, append_line, append_record};
 pub use counts::kind_counts;
 pub use field::{Field, FieldRange};
-pub use fields::{LINES, Lines};
+pub use fields::{LINES, LineBuffer};
 pub use from_parts::record_with;
 pub use kind::{Form, KINDS, Kind, MAX_FIELDS, MAX_WORD, RECORD_KINDS};
 pub use line::Said;

@@ -5,7 +5,7 @@ ghost use Rattle.sa_base.specs.declared.limits.TheConstants.{MAX_SPACES};
 ghost use Rattle.sa_trace.specs.Losses.{loss_line, losses_text};
 ghost use Rattle.sa_trace.specs.declared.fields.TheConstants.{LINES};
 
-use crate::fields::{Lines, NUMBER, push_decimal, put};
+use crate::fields::{LineBuffer, NUMBER, push_decimal, put};
 
 // The digits of a space's number at most, and the bytes of the line of a space.
 const SPACE: usize = 2;
@@ -13,7 +13,7 @@ const SPACE: usize = 2;
 const LOSS: usize = 5 + SPACE + 1 + NUMBER + 1;
 
 /// Prints the lines of what each space has lost, in the order of the spaces, where no text is.
-pub fn print_losses(lost: &[u64], out: &mut Lines)
+pub fn print_losses(lost: &[u64], out: &mut LineBuffer)
     requires empty { out.old.items ≡ [] }
     requires few { length lost.now ≤ MAX_SPACES }
     ensures { out.new.items ≡ losses_text lost.now }
@@ -24,7 +24,7 @@ pub fn print_losses(lost: &[u64], out: &mut Lines)
 }
 
 // Appends the line of what a space has lost.
-fn push_loss(out: &mut Lines, s: u16, lost: u64)
+fn push_loss(out: &mut LineBuffer, s: u16, lost: u64)
     requires space { s < MAX_SPACES }
     requires room { array_vec_len out.old + LOSS ≤ LINES }
     ensures text { out.new.items ≡ out.old.items ++ loss_line s lost }
@@ -39,7 +39,7 @@ fn push_loss(out: &mut Lines, s: u16, lost: u64)
 
 // Appends the number of a space.
 #[tactic(auto, using(std::proofs::lemmas::Fmt::decimal_digit, itoa::proofs::Decimal::decimal_two))]
-fn push_space(out: &mut Lines, s: u16)
+fn push_space(out: &mut LineBuffer, s: u16)
     requires space { s < MAX_SPACES }
     requires room { array_vec_len out.old + SPACE ≤ LINES }
     ensures text { out.new.items ≡ out.old.items ++ decimal s }

@@ -2,7 +2,7 @@
 use Rattle.std.specs.Prelude.{ℕ, ◌+◌, ◌-◌, ◌*◌, ◌^◌, List, ◌++◌, codes, min}
 use Rattle.sa_base.specs.declared.record.Item.{Item}
 use Rattle.sa_svg.specs.Markup.{numbered}
-use Rattle.sa_trace_events.specs.Words.{words_of}
+use Rattle.sa_trace.specs.TraceText.{item_text}
 
 -- the time of an event in microseconds, and how long it is from one to another: each is a millisecond, and event 0 is at the first one
 abbrev pub time_of : ℕ → ℕ
@@ -28,9 +28,9 @@ sort_text kind pid tid index =
 unfoldable pub titled_text : List ℕ → ℕ → ℕ → List ℕ → ℕ → List ℕ
 titled_text kind pid tid name index = name_text kind pid tid name ++ sort_text kind pid tid index
 
--- a line of the trace
+-- a line of the trace, without its end
 abbrev pub quoted : Item → List ℕ
-quoted i = codes "\"" ++ words_of i ++ codes "\""
+quoted i = codes "\"" ++ item_text i ++ codes "\""
 
 -- the record of a slice: what comes before its name, and from there up to its lines
 unfoldable pub slice_head : List ℕ → List ℕ

@@ -7,7 +7,7 @@ use Rattle.sa_base.specs.declared.record.Item.{Item}
 use Rattle.sa_shapes.specs.declared.look.Look.{Look}
 use Rattle.sa_shapes.specs.declared.look.Look.TheVariants as look
 use Rattle.sa_trace.specs.Text.{FitsItem}
-use Rattle.sa_trace.specs.TraceText.{record_text}
+use Rattle.sa_trace.specs.TraceText.{item_text, record_text}
 use Rattle.sa_trace_events.specs.declared.track.Level.TheVariants.{Owner, Activation, Work}
 use Rattle.sa_trace_events.specs.declared.track.Track.{Track}
 use Rattle.sa_trace_events.specs.declared.track.Track.TheVariants as track
@@ -20,7 +20,7 @@ use Rattle.sa_trace_events.specs.declared.slices.Span.{Span}
 use Rattle.sa_trace_events.specs.declared.slices.State.{State}
 use Rattle.sa_trace_events.specs.declared.slices.State.TheVariants as state
 use Rattle.sa_trace_events.specs.Slices.{slices}
-use Rattle.sa_trace_events.specs.Words.{state_name, words_of}
+use Rattle.sa_trace_events.specs.Words.{state_name}
 
 -- NESTED. One of these slices goes on all the while that this one does.
 pub record LiesIn (outer : List Slice) (s : Slice) : Type 0 where
@@ -56,7 +56,7 @@ is_plain bytes = list_all is_plain_byte bytes
 
 -- the lines of a trace, and its records, which are the names of marks
 abbrev pub LinesArePlain : Type 0
-LinesArePlain = (i : Item) → FitsItem i → (is_plain (words_of i) ≡ true) × (is_plain (record_text i.what) ≡ true)
+LinesArePlain = (i : Item) → FitsItem i → (is_plain (item_text i) ≡ true) × (is_plain (record_text i.what) ≡ true)
 
 -- the numbers of a state are those of a trace
 abbrev pub FitsNumber : ℕ → Type 0

@@ -1,13 +1,11 @@
 -- The words of tracks and slices.
-use Rattle.std.specs.Prelude.{ℕ, List, ◌++◌, codes, decimal, Option, Some, None}
+use Rattle.std.specs.Prelude.{ℕ, List, ◌++◌, codes, Option, Some, None}
 use Rattle.sa_base.specs.declared.number.ActNo.{ActNo}
 use Rattle.sa_base.specs.declared.number.SpaceNo.{SpaceNo}
-use Rattle.sa_base.specs.declared.record.Item.{Item}
 use Rattle.sa_shapes.specs.declared.look.Look.{Look}
 use Rattle.sa_shapes.specs.declared.look.Look.TheVariants as look
 use Rattle.sa_shapes.specs.Look.{owner}
 use Rattle.sa_svg.specs.Markup.{numbered}
-use Rattle.sa_trace.specs.TraceText.{record_text}
 use Rattle.sa_trace_events.specs.declared.track.Count.{Count}
 use Rattle.sa_trace_events.specs.declared.track.Count.TheVariants as count
 use Rattle.sa_trace_events.specs.declared.track.Level.{Level}
@@ -94,7 +92,3 @@ track_name (track.Processor p level) = numbered (codes "processor ") p.0
 track_name (track.Thread s t) = numbered (codes "thread ") t.0
 track_name (track.Lock s l) = numbered (codes "lock of list ") l.0
 track_name (track.Count s c) = count_word c
-
--- the line of an item, without its end
-abbrev pub words_of : Item → List ℕ
-words_of i = decimal i.event ++ numbered (codes " ") i.proc.0 ++ codes " " ++ record_text i.what

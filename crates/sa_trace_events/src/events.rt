@@ -10,7 +10,7 @@ use crate::state::{is_thread, is_thread_of};
 use crate::track::{Level, Track};
 use crate::words::{category, push_state_name, push_track_name};
 use sa_base::{Item, Note, Record, SpaceNo, ThreadNo};
-use sa_svg::push_record;
+use sa_trace::append_record;
 use std::alloc::{AllocError, Global};
 
 // The record names the thread.
@@ -157,7 +157,7 @@ pub(crate) fn push_mark(out: &mut Vec<u8>, item: &Item) -> Result<(), AllocError
 {
     if has_mark(&item.what) {
         push_slice_head(out, b"mark")?;
-        push_record(out, &item.what)?;
+        append_record(out, &item.what)?;
         push_slice_times(
             out,
             1,

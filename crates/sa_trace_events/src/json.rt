@@ -2,8 +2,9 @@
 ghost use Rattle.std.specs.Prelude.{◌≡◌, ◌++◌, OnOk};
 ghost use Rattle.sa_trace_events.specs.Json.{time_of, length_of, place_text, name_text, sort_text, titled_text, quoted, slice_head, slice_times, arrow_head, arrow_rest, arrow_text};
 
-use crate::words::{push_numbered, push_words};
+use crate::words::push_numbered;
 use sa_base::Item;
+use sa_trace::append_item;
 use std::alloc::AllocError;
 
 // The time of an event, in microseconds: it is a millisecond long, and event 0 is at the first one.
@@ -89,7 +90,7 @@ pub(crate) fn push_quoted(out: &mut Vec<u8>, item: &Item) -> Result<(), AllocErr
     ensures { OnOk result (out.new.items ≡ out.old.items ++ quoted item.now) }
 {
     out.extend_from_slice(b"\"")?;
-    push_words(out, item)?;
+    append_item(out, item)?;
     out.extend_from_slice(b"\"")
 }
 

@@ -1,14 +1,13 @@
 // The words of tracks and slices.
 ghost use Rattle.std.specs.Prelude.{◌≡◌, ◌++◌, OnOk};
 ghost use Rattle.sa_svg.specs.Markup.{numbered};
-ghost use Rattle.sa_trace_events.specs.Words.{count_word, owner_name, act_name, work_name, context_name, twice_numbered, doing_name, holder_name, state_name, category, track_name, words_of};
+ghost use Rattle.sa_trace_events.specs.Words.{count_word, owner_name, act_name, work_name, context_name, twice_numbered, doing_name, holder_name, state_name, category, track_name};
 
 use crate::slices::State;
 use crate::state::{Context, Doing, Holder};
 use crate::track::{Count, Level, Track};
-use sa_base::{ActNo, Item, SpaceNo};
+use sa_base::{ActNo, SpaceNo};
 use sa_shapes::Look;
-use sa_svg::push_record;
 use sa_text::print_number;
 use std::alloc::AllocError;
 
@@ -162,14 +161,4 @@ pub(crate) fn push_track_name(out: &mut Vec<u8>, track: Track) -> Result<(), All
         Track::Lock(_, l) => push_numbered(out, b"lock of list ", u64::from(l.0)),
         Track::Count(_, count) => out.extend_from_slice(count.word()),
     }
-}
-
-/// Appends the line of the trace that the item is, without its end.
-pub(crate) fn push_words(out: &mut Vec<u8>, item: &Item) -> Result<(), AllocError>
-    ensures { OnOk result (out.new.items ≡ out.old.items ++ words_of item.now) }
-{
-    print_number(item.event, out)?;
-    push_numbered(out, b" ", u64::from(item.proc.0))?;
-    out.extend_from_slice(b" ")?;
-    push_record(out, &item.what)
 }

@@ -1,6 +1,6 @@
 -- A thread runs an instruction, or blocks.
 use Rattle.std.proofs.Common.{◌≡◌, ℕ, ◌+◌, ◌-◌, ◌*◌, ◌<◌, ◌≤◌, Bool, true, false, cond, eqb, List, [], ◌∷◌, ◌++◌, append_assoc, length, get_or, set, Some, None, inl, inr, refl, sym, ap, subst, ◌∙◌, arith}
-use Rattle.std.specs.Prelude.{sum_by}
+use Rattle.std.specs.Prelude.{sum_by, not, ◌&&◌}
 use Rattle.std.proofs.lemmas.Bool.{cases_eq, cases_lt, ne_eqb, eq-eqb, not-true, not-false}
 use Rattle.std.proofs.lemmas.List.{length-set, length-map, length-append, get_or-set_same, get_or-set_other, get_or_past, map-append}
 use Rattle.std.proofs.lemmas.List.Sums.{sum_by_push}
@@ -135,7 +135,7 @@ module _ (w : WorkloadView) (valid : IsWorkload w) (p : ProcNo) (v : Virtuals) (
 
   for : blocking w r s (Some t) a ≡ record { kind = Page s a (page_in i); length = w.fetch }
   for = ap (λ o. blocking_for w r s (Some t) a (length_behind w r s (Some t) o)) first
-      ∙ ap (λ b. record { kind = Page s a (cond b PACKAGE_PAGE (page_in i)); length = w.fetch }) no_lock
+      ∙ ap (λ b. record { kind = Page s a (cond (b && not (is_resident r s PACKAGE_PAGE)) PACKAGE_PAGE (page_in i)); length = w.fetch }) no_lock
 
   abbrev missed : Turned
   missed = ran w v p a t thread i true

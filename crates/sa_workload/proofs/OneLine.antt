@@ -5,13 +5,13 @@ use Rattle.std.specs.Str.{bytes_eq}
 use Rattle.std.proofs.lemmas.Slice.Eq.{bytes_eq-Decides}
 use Rattle.sa_spaces.specs.declared.workload.Evict.{Evict}
 use Rattle.sa_text.specs.LineText.{LineText}
-use Rattle.sa_workload_lines.specs.Bad.{Field}
-use Rattle.sa_workload_lines.specs.Fields.{and_then, unless, fields_at, at_end, index_of, line_numbers, order_cause}
-use Rattle.sa_workload_lines.specs.Position.{Position, AtVersion, AtAbsent, AtEvict}
-use Rattle.sa_workload_lines.specs.Next.{evict_numbers, fields_of, is_full, last_numbers, last_of, next_by, step}
-use Rattle.sa_workload_lines.specs.Stage.{IsAsLong}
-use Rattle.sa_workload_lines.specs.Steps.{expected}
-use Rattle.sa_workload_lines.proofs.fields.FieldLemmas.{AllPass, all_long}
+use Rattle.sa_workload.specs.Bad.{Field}
+use Rattle.sa_workload.specs.Fields.{and_then, unless, fields_at, at_end, index_of, line_numbers, order_cause}
+use Rattle.sa_workload.specs.Position.{Position, AtVersion, AtAbsent, AtEvict}
+use Rattle.sa_workload.specs.Next.{evict_numbers, fields_of, is_full, last_numbers, last_of, next_by, step}
+use Rattle.sa_workload.specs.Stage.{IsAsLong}
+use Rattle.sa_workload.specs.Steps.{expected}
+use Rattle.sa_workload.proofs.fields.FieldLemmas.{AllPass, all_long}
 use Rattle.sa_workload.specs.Reading.{line_in, read_from, after_line}
 
 -- where a line of the word has to come after the last one, it has as many numbers

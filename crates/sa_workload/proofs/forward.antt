@@ -1,3 +1,8 @@
+pub mod Fronts
+pub mod Orders
+pub mod ShownStep
+pub mod Reached
+pub mod Sound
 pub mod Complete
 pub mod Completion
 pub mod Says

@@ -2,9 +2,9 @@
 use Rattle.std.specs.Prelude.{◌≡◌, ◌≢◌, ◌⊎◌, ℕ, ◌+◌, ◌<◌, ◌≤◌, List, [], ◌∷◌, ◌++◌, length, take, true, Err, IfSome, IsTrue, All, Contains, codes, decimal}
 use Rattle.std.specs.Result.{is_ok}
 use Rattle.sa_spaces.specs.Workload.{WorkloadView}
-use Rattle.sa_workload_lines.specs.Text.{IsText}
-use Rattle.sa_workload_lines.specs.Fields.{Field, list_lt, fields_at}
-use Rattle.sa_workload_lines.specs.Bad.{Begins, MayFollow, IsRightWord, IsTooMany, BadAt, instr_words, first_word, last_line, fields_behind, ordered_words, numbers_before, numbers_of}
+use Rattle.sa_workload.specs.Text.{IsText}
+use Rattle.sa_workload.specs.Fields.{Field, list_lt, fields_at}
+use Rattle.sa_workload.specs.Bad.{Begins, MayFollow, IsRightWord, IsTooMany, BadAt, instr_words, first_word, last_line, fields_behind, ordered_words, numbers_before, numbers_of}
 
 -- two workloads never share a text
 abbrev pub TextsDiffer : Type 0

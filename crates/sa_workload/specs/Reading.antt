@@ -8,8 +8,8 @@ use Rattle.sa_base.specs.declared.refusal.Unread.TheVariants.{Bad as refused, Ou
 use Rattle.sa_spaces.specs.Workload.{WorkloadView}
 use Rattle.sa_text.specs.LineText.{LineText, line_texts}
 use Rattle.sa_text.specs.Pieces.{pieces_of, is_printed}
-use Rattle.sa_workload_lines.specs.Position.{Position, AtVersion, closed}
-use Rattle.sa_workload_lines.specs.Next.{next}
+use Rattle.sa_workload.specs.Position.{Position, AtVersion, closed}
+use Rattle.sa_workload.specs.Next.{next}
 
 -- the position after a line that is printed and ended
 abbrev pub line_in : ℕ → Position → LineText → Result Position ℕ

@@ -3,8 +3,8 @@ use Rattle.std.specs.Prelude.{◌≡◌, ◌⊎◌, ◌↔◌, ℕ, ◌≤◌, t
 use Rattle.std.specs.List.{join_with_byte}
 use Rattle.sa_spaces.specs.Workload.{WorkloadView, IsWorkload}
 use Rattle.sa_text.specs.LineText.{LineText, line_texts}
-use Rattle.sa_workload_lines.specs.Text.{workload_lines, text_of, version_of, IsText1}
-use Rattle.sa_workload_lines.specs.Bad.{IsUpTo, words_of, BadAt1}
+use Rattle.sa_workload.specs.Text.{workload_lines, text_of, version_of, IsText1}
+use Rattle.sa_workload.specs.Bad.{IsUpTo, words_of, BadAt1}
 
 -- the lines of a text are those of its workload, each with single spaces between its words and with its line feed
 abbrev pub LinesAreTheWorkload : Type 0

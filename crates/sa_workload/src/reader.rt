@@ -4,20 +4,23 @@ ghost use Rattle.std.specs.Option.{is_some};
 ghost use Rattle.sa_spaces.specs.Workload.{WorkloadView};
 ghost use Rattle.sa_text.specs.Line.{IsWithin, text_of_line};
 ghost use Rattle.sa_workload.specs.Answer.{IfBad};
-ghost use Rattle.sa_workload_lines.specs.Bad.{BadAt, BadAt1};
-ghost use Rattle.sa_workload_lines.specs.Text.{IsText, IsText1};
-ghost use Rattle.sa_workload_lines.specs.Position.{IsReached};
-ghost use Rattle.sa_workload_lines.specs.Fields.{and_then, index_of, line_numbers, numbered};
-ghost use Rattle.sa_workload_lines.specs.Next.{fields_of, last_numbers, next_by};
-ghost use Rattle.sa_workload_lines.specs.Steps.{expected};
+ghost use Rattle.sa_workload.specs.Bad.{BadAt, BadAt1};
+ghost use Rattle.sa_workload.specs.Text.{IsText, IsText1};
+ghost use Rattle.sa_workload.specs.Position.{IsReached};
+ghost use Rattle.sa_workload.specs.Fields.{and_then, index_of, line_numbers, numbered};
+ghost use Rattle.sa_workload.specs.Next.{fields_of, last_numbers, next_by};
+ghost use Rattle.sa_workload.specs.Steps.{expected};
 ghost use Rattle.sa_text.specs.Pieces.{is_printed};
 ghost use Rattle.sa_workload.specs.Reading.{line_in, read_of, IsReading};
-ghost use Rattle.sa_workload_lines.specs.Stage.{position_of, Gives};
+ghost use Rattle.sa_workload.specs.Stage.{position_of, Gives};
 
+use crate::cause::Refusal;
+use crate::field::Numbers;
+use crate::numbers::{read_end, read_numbers};
+use crate::stage::Reader;
 use sa_base::{Bad, Cause, Unread};
 use sa_spaces::Workload;
 use sa_text::{Line, Lines, Pieces, is_printed};
-use sa_workload_lines::{Numbers, Reader, Refusal, read_end, read_numbers};
 use std::alloc::Global;
 
 // The greatest version of a workload text.

@@ -3,7 +3,7 @@ use sa_abstract::OneThread;
 use sa_base::{End, Item};
 use sa_run::run;
 use sa_sched::Kind;
-use sa_trace::{Lines, print_lines};
+use sa_trace::{LineBuffer, print_lines};
 use sa_workload::read;
 use std::alloc::AllocError;
 use std::process::Abort;
@@ -20,7 +20,7 @@ const OFFERED: &str =
 // The last of these items, as many as the text has lines, are printed so.
 fn ends_with(rt: &impl Abort, items: &[Item], count: usize, text: &str) {
     assert!(rt; items.len() >= count);
-    let mut lines = Lines::new();
+    let mut lines = LineBuffer::new();
     let _printed = print_lines(&items[items.len() - count..], &mut lines);
     assert!(rt; lines.as_slice() == text.as_bytes());
 }

@@ -4,15 +4,15 @@
 ghost use Rattle.std.specs.Prelude.{◌≡◌, ◌+◌, IfOk, OnOk};
 ghost use Rattle.sa_laws.specs.Readings.{Readings, running_of, life_if};
 ghost use Rattle.sa_check_lives.specs.View.{lives_of};
+ghost use Rattle.sa_base.specs.declared.package.RulesName.TheVariants.{Priorities};
 ghost use Rattle.sa_check_moment.specs.Seen.{seen, event, at_end, lowers};
 ghost use Rattle.sa_check_moment.specs.Urged.{asks_last};
-ghost use Rattle.sa_check_moment.specs.Ending.{IsOver, is_inside_at, owes_pair, is_in_if, settles_by, scan_by, step_by, up_by, stepped_if, arisen_if};
+ghost use Rattle.sa_check_moment.specs.Ending.{IsOver, is_inside_at, owes_pair, idles_by, is_in, is_in_if, settles_by, scan_by, step_by, up_by, stepped_if, arisen_if};
 
 use crate::has_entry;
 use crate::moment::{Moment, Parts};
-use crate::rules::Rules;
 use crate::start::Start;
-use sa_base::{ActNo, ProcNo, Record};
+use sa_base::{ActNo, ProcNo, Record, RulesName};
 use sa_check_lives::{KeptLife, Lives, Scan, Stepped};
 use sa_check_shapes::{closing_part, has_up, is_step};
 use sa_laws::Place;
@@ -51,7 +51,7 @@ impl Moment {
     {
         let _event = number;
         let step = self.step_by(records, start, urged);
-        let up = self.up_by(p, records, urged);
+        let up = self.up_by(p, records, start, urged);
         let parts: &mut Parts = &mut self.parts;
         parts.number = end_event(&mut parts.lives, parts.number, start.running, step, p, up)?;
         parts.last = None;
@@ -72,7 +72,7 @@ impl Moment {
                     Some(Stepped {
                         freed: matches!(*first, Record::Free(..)),
                         scan: scan_by(start.lowers, first),
-                        inside: self.is_in_if(settled, start.running, records, urged),
+                        inside: self.is_in_if(start.lowers, settled, start.running, records, urged),
                     })
                 } else {
                     None
@@ -83,11 +83,11 @@ impl Moment {
 
     // Whether the life of the event's up is in, if there is one.
     #[inline(always)]
-    fn up_by(&self, p: ProcNo, records: &[Record], urged: bool) -> Option<bool>
-        ensures { result ≡ up_by (seen self.now) p urged records.now }
+    fn up_by(&self, p: ProcNo, records: &[Record], start: Start, urged: bool) -> Option<bool>
+        ensures { result ≡ up_by (seen self.now) start.lowers p urged records.now }
     {
         if has_up(records) {
-            Some(self.is_in_if(true, self.running(p), records, urged))
+            Some(self.is_in_if(start.lowers, true, self.running(p), records, urged))
         } else {
             None
         }
@@ -114,30 +114,59 @@ impl Moment {
     // The life of this number is in, if it is in use, at the end of an own event with these records that settled it or
     // did not.
     #[inline(always)]
-    fn is_in_if(&self, settled: bool, a: Option<ActNo>, records: &[Record], urged: bool) -> bool
-        ensures { result ≡ is_in_if (seen self.now) settled records.now urged
+    fn is_in_if(
+        &self,
+        lowers: bool,
+        settled: bool,
+        a: Option<ActNo>,
+        records: &[Record],
+        urged: bool,
+    ) -> bool
+        ensures { result ≡ is_in_if (seen self.now) lowers settled records.now urged
             (life_if (seen self.now).readings a) }
     {
         match a {
             None => false,
             Some(a) => match self.life(a) {
                 None => false,
-                Some(life) => {
-                    self.is_inside(settled, life)
-                        || (settled && self.owes_pair(life, records, urged))
-                }
+                Some(life) => self.is_in(lowers, settled, life, records, urged),
             },
         }
     }
 
-    // By rules of ranks: a pair of the life's space exists where pairs are asked for.
-    fn owes_pair(&self, life: &KeptLife, records: &[Record], urged: bool) -> bool
-        ensures { result ≡ owes_pair (seen self.now) records.now urged life.now }
+    // The life is in, by the rules by which the trace is judged.
+    #[inline(always)]
+    fn is_in(
+        &self,
+        lowers: bool,
+        settled: bool,
+        life: &KeptLife,
+        records: &[Record],
+        urged: bool,
+    ) -> bool
+        ensures { result ≡ is_in (seen self.now) lowers settled records.now urged life.now }
     {
         match self.rules() {
-            Rules::FastThreads => false,
-            Rules::Priorities if asks_last(records) => self.has_pair(life.space()),
-            Rules::Priorities => urged,
+            RulesName::FastThreads => self.is_inside(settled, life),
+            RulesName::Priorities => {
+                self.is_inside(settled, life) || (settled && self.owes_pair(life, records, urged))
+            }
+            RulesName::Any => {
+                self.has_heard_hand(life)
+                    || (!idles_by(lowers, records) && self.is_inside(settled, life))
+            }
+        }
+    }
+
+    // A pair of the life's space exists where pairs are asked for.
+    fn owes_pair(&self, life: &KeptLife, records: &[Record], urged: bool) -> bool
+        requires { (seen self.now).rules ≡ Priorities }
+        ensures { result ≡ owes_pair (seen self.now) records.now urged life.now }
+    {
+        if asks_last(records) {
+            self.has_pair(life.space())
+        } else {
+            urged
         }
     }
 
@@ -159,6 +188,17 @@ fn asks_last(records: &[Record]) -> bool
     ensures { result ≡ asks_last records.now }
 {
     has_entry(records) || closing_part(records).is_empty()
+}
+
+// The records begin with an idle record, or with a want that lowers the demand.
+fn idles_by(lowers: bool, records: &[Record]) -> bool
+    ensures { result ≡ idles_by lowers records.now }
+{
+    match records {
+        [Record::Idle, ..] => true,
+        [Record::Want(..), ..] => lowers,
+        _ => false,
+    }
 }
 
 // How the looks that found no thread are counted on.

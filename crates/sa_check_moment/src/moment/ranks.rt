@@ -7,17 +7,16 @@ ghost use Rattle.sa_laws.specs.Readings.{life_if};
 ghost use Rattle.sa_ranks.specs.Pairs.{is_outranked, outranked_on, has_pair, IsLowest};
 ghost use Rattle.sa_ranks.specs.Locks.{next_by_rank};
 ghost use Rattle.sa_check_moment.specs.Ranked.{is_below};
-ghost use Rattle.sa_check_moment.specs.declared.rules.Rules.TheVariants.{Priorities};
+ghost use Rattle.sa_base.specs.declared.package.RulesName.TheVariants.{Priorities};
 ghost use Rattle.sa_check_moment.specs.Seen.{seen};
 ghost use Rattle.sa_check_moment.specs.Urged.{is_lower, urged_by};
 
 use crate::moment::Moment;
-use crate::rules::Rules;
-use sa_base::{ActNo, ProcNo, SpaceNo, ThreadNo};
+use sa_base::{ActNo, ProcNo, RulesName, SpaceNo, ThreadNo};
 
 impl Moment {
     /// By whose rules the trace is judged.
-    pub fn rules(&self) -> Rules
+    pub fn rules(&self) -> RulesName
         ensures { result ≡ (seen self.now).rules }
     {
         self.parts.level.rules()
@@ -77,8 +76,9 @@ impl Moment {
             result ≡ urged_by m.rules m.workload m.readings (life_if m.readings a) }
     {
         match self.rules() {
-            Rules::FastThreads => false,
-            Rules::Priorities => match self.space_of_life(a) {
+            RulesName::FastThreads => false,
+            RulesName::Any => false,
+            RulesName::Priorities => match self.space_of_life(a) {
                 None => false,
                 Some(s) => self.has_pair(s),
             },

@@ -1,10 +1,10 @@
 // A moment as it reads a record.
 #![tactic(auto, unfolding(crate::specs::Seen::seen))]
 
-ghost use Rattle.std.specs.Prelude.{◌≡◌, ◌<◌, ◌↔◌, if◌then◌else◌, IfOk, IfSome, OnOk, IsTrue};
+ghost use Rattle.std.specs.Prelude.{◌≡◌, ◌<◌, ◌↔◌, ◌&&◌, not, if◌then◌else◌, IfOk, IfSome, OnOk, IsTrue};
 ghost use Rattle.std.specs.Option.{option_map};
-ghost use Rattle.sa_base.specs.declared.limits.TheConstants.{PAGES};
-ghost use Rattle.sa_laws.specs.Readings.{life_of, life_on};
+ghost use Rattle.sa_base.specs.declared.limits.TheConstants.{PACKAGE_PAGE, PAGES};
+ghost use Rattle.sa_laws.specs.Readings.{life_of, life_on, is_resident};
 ghost use Rattle.sa_laws.specs.Record.{blocking, length_behind, length_in, is_thread, page_touched, page_in, locks_one, first_list, moved_after};
 ghost use Rattle.sa_laws.specs.Step.{Needs};
 ghost use Rattle.sa_check_lives.specs.View.{lives_of};
@@ -233,14 +233,16 @@ impl Moment {
         }
     }
 
-    // The page for which a life blocks: where it has a lock the package's, else that which its thread touches.
+    // The page for which a life blocks: if it has a lock and the package's page is absent, that page; else the one that its
+    // thread touches.
     fn page_for(&self, s: SpaceNo, t: Option<ThreadNo>, a: ActNo) -> u16
-        ensures page { result ≡ (if locks_one (life_of (seen self.now).readings a) then PACKAGE_PAGE
+        ensures page { result ≡ (if locks_one (life_of (seen self.now).readings a)
+            && not (is_resident (seen self.now).readings s PACKAGE_PAGE) then PACKAGE_PAGE
             else page_touched (seen self.now).workload (seen self.now).readings s t) }
         ensures few { result < PAGES }
     {
         match self.life(a) {
-            Some(life) if life.has_lock() => PACKAGE_PAGE,
+            Some(life) if life.has_lock() && !self.is_resident(s, PACKAGE_PAGE) => PACKAGE_PAGE,
             _ => self.page_touched(s, t),
         }
     }

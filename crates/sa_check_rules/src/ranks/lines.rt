@@ -2,7 +2,7 @@
 ghost use Rattle.std.specs.Prelude.{◌≡◌, ◌↔◌, IsTrue};
 ghost use Rattle.sa_laws.specs.Readings.{life_on};
 ghost use Rattle.sa_ranks.specs.Steps.{Interrupts, RankedLines};
-ghost use Rattle.sa_check_moment.specs.declared.rules.Rules.TheVariants.{Priorities};
+ghost use Rattle.sa_base.specs.declared.package.RulesName.TheVariants.{Priorities};
 ghost use Rattle.sa_check_moment.specs.Seen.{seen};
 
 use crate::life::has_nothing;

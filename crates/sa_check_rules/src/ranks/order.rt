@@ -1,7 +1,7 @@
 // List order by ranks: the law of an event's first record, on the moment before it.
 ghost use Rattle.std.specs.Prelude.{◌≡◌, ◌↔◌, IsTrue};
 ghost use Rattle.sa_ranks.specs.Locks.{RunsGreatest};
-ghost use Rattle.sa_check_moment.specs.declared.rules.Rules.TheVariants.{Priorities};
+ghost use Rattle.sa_base.specs.declared.package.RulesName.TheVariants.{Priorities};
 ghost use Rattle.sa_check_moment.specs.Seen.{seen};
 
 use sa_base::Record;

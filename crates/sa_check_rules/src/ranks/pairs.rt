@@ -1,7 +1,7 @@
 // Pairs are served.
 ghost use Rattle.std.specs.Prelude.{◌≡◌, ◌↔◌, IsTrue};
 ghost use Rattle.sa_ranks.specs.Locks.{BeginsUnurged, PairsAreServed};
-ghost use Rattle.sa_check_moment.specs.declared.rules.Rules.TheVariants.{Priorities};
+ghost use Rattle.sa_base.specs.declared.package.RulesName.TheVariants.{Priorities};
 ghost use Rattle.sa_check_moment.specs.Seen.{seen, event};
 
 use crate::demand::{is_announced, is_bound};

@@ -2,7 +2,7 @@
 ghost use Rattle.std.specs.Prelude.{◌≡◌, ◌↔◌, Some, IsTrue, nat_lt};
 ghost use Rattle.sa_laws.specs.Readings.{demand_of};
 ghost use Rattle.sa_ranks.specs.Steps.{CanSpin, FindsNone, CanLower, CanHint, CanIdle, IsOutranked, GivesWay, BacksBy, RankedStepIn, IsRankedStep};
-ghost use Rattle.sa_check_moment.specs.declared.rules.Rules.TheVariants.{Priorities};
+ghost use Rattle.sa_base.specs.declared.package.RulesName.TheVariants.{Priorities};
 ghost use Rattle.sa_check_moment.specs.Seen.{seen};
 
 use crate::life::{carried_by, has_no_lock, has_nothing, patience};

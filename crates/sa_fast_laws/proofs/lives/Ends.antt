@@ -29,7 +29,8 @@ use Rattle.sa_laws.specs.Record.{same_note}
 use Rattle.sa_laws.specs.State.{at_start, space_at, thread_in}
 use Rattle.sa_laws.specs.declared.place.Place.{Place}
 use Rattle.sa_laws.specs.declared.place.Place.TheVariants as place
-use Rattle.sa_fast_laws.proofs.relation.NoteLists.{any-contained, any-note}
+use Rattle.sa_lemmas.proofs.Searches.{any-contained}
+use Rattle.sa_fast_laws.proofs.relation.NoteLists.{any-note}
 use Rattle.sa_fast_laws.proofs.relation.Notices.{same-self, back-alone}
 use Rattle.sa_fast_laws.proofs.relation.OneLife.{carried_has}
 use Rattle.sa_fast_laws.proofs.relation.Runners.{IsCarrier, carrier-of, kept-made, made-kept}

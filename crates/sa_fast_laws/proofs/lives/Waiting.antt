@@ -29,7 +29,7 @@ use Rattle.sa_laws.specs.Readings.{Readings, running_of, life_of, untold_of}
 use Rattle.sa_laws.specs.Record.{same_note}
 use Rattle.sa_laws.specs.State.{space_at, thread_in}
 use Rattle.sa_fast_laws.proofs.relation.Hands.{split}
-use Rattle.sa_fast_laws.proofs.relation.NoteLists.{any-contained}
+use Rattle.sa_lemmas.proofs.Searches.{any-contained}
 use Rattle.sa_fast_laws.proofs.relation.Notices.{same-self}
 use Rattle.sa_fast_laws.proofs.relation.Runners.{IsCarrier, carrier-of, made-kept}
 use Rattle.sa_fast_laws.specs.FastFits.{SitsIn, Holds}

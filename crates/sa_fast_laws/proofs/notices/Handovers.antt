@@ -42,7 +42,7 @@ use Rattle.sa_laws.specs.State.{space_at, thread_in, active_threads}
 use Rattle.sa_laws.specs.declared.place.Place.TheVariants as place
 use Rattle.sa_fast_laws.proofs.relation.Hands.{split, held-append, count-less}
 use Rattle.sa_fast_laws.proofs.relation.InCode.{before-less}
-use Rattle.sa_fast_laws.proofs.relation.NoteLists.{any-contained}
+use Rattle.sa_lemmas.proofs.Searches.{any-contained}
 use Rattle.sa_fast_laws.proofs.relation.Notices.{tells, back-alone, any-filter, sum-without, count-without, count-contained, contained-fails, note_of, same-self, of-self, other-passes, told-once, told-none}
 use Rattle.sa_fast_laws.proofs.relation.OneLife.{carried_one, carried_has, other-life}
 use Rattle.sa_fast_laws.proofs.relation.Places.{block-here, block-there, loaded-placed, SameThreads, sum_same}

@@ -29,7 +29,8 @@ use Rattle.sa_laws.specs.Readings.{Readings, running_of, life_of, untold_of, loa
 use Rattle.sa_laws.specs.Record.{same_note}
 use Rattle.sa_laws.specs.State.{space_at, thread_in, active_threads}
 use Rattle.sa_fast_laws.proofs.relation.Hands.{split}
-use Rattle.sa_fast_laws.proofs.relation.NoteLists.{any-append, any-contained, count-append, count-or, none-counts, notes-same, one_most, one_when, was-there}
+use Rattle.sa_lemmas.proofs.Searches.{any-contained}
+use Rattle.sa_fast_laws.proofs.relation.NoteLists.{any-append, count-append, count-or, none-counts, notes-same, one_most, one_when, was-there}
 use Rattle.sa_fast_laws.proofs.relation.OneLife.{other-life, other_none}
 use Rattle.sa_fast_laws.specs.FastFits.{is_of, FitsShared, Holds}
 use Rattle.sa_fast_laws.specs.Life.{HasLife, beside}

@@ -11,7 +11,7 @@ use Rattle.sa_base.specs.declared.record.Note.TheVariants.{Add, Preempted, Block
 use Rattle.sa_laws.specs.Readings.{Readings, life_of, untold_thread, stopped_thread}
 use Rattle.sa_laws.specs.Record.{same_note}
 use Rattle.sa_fast_laws.proofs.relation.Notices.{note_of}
-use Rattle.std.proofs.Math.Bool.{or-true, or-false, or_assoc}
+use Rattle.std.proofs.Math.Bool.{or-false, or_assoc}
 
 pub any-append : (p : Note → Bool) (xs : List Note) (n : Note) → list_any p (xs ++ n ∷ []) ≡ (list_any p xs || p n)
 any-append p [] n = or-false (p n)
@@ -48,14 +48,6 @@ none-counts p (x ∷ xs) none = by (p x) refl (none-counts p xs) where
       let left : list_any p xs ≡ false = sym (ap (λ b. b || list_any p xs) at) ∙ none in
       let zero_is = rest left in
       sum_by-cons (λ m. cond (p m) 1 0) x xs ∙ ap (λ b. cond b 1 0 + count_by p xs) at ∙ (let sum : 0 + count_by p xs ≡ 0 = omega arith in sum)
-
--- a notice that is there, and that a test finds
-pub any-contained : (p : Note → Bool) (n : Note) (ns : List Note) → Contains ns n → p n ≡ true → list_any p ns ≡ true
-any-contained p n [] has is = absurd (let none : length {A = Note} [] ≡ 0 = refl in let inside = has.1 in omega arith)
-any-contained p n (m ∷ ns) has is = by has.0 has.1 has.2 (λ more. any-contained p n ns more is) where
-  by : (i : ℕ) → i < length (m ∷ ns) → slice_index_or (m ∷ ns) i n ≡ n → (Contains ns n → list_any p ns ≡ true) → (p m || list_any p ns) ≡ true
-  by zero inside at rest = ap (λ x. p x || list_any p ns) at ∙ ap (λ x. x || list_any p ns) is
-  by (suc i) inside at rest = ap (λ x. p m || x) (rest (i, omega arith, at)) ∙ or-true (p m)
 
 -- a notice that some test finds is there
 pub any-note : (kind : Bool) (a : ActNo) (ns : List Note) → list_any (same_note (note_of kind a)) ns ≡ true → Contains ns (note_of kind a)

@@ -1,7 +1,7 @@
 -- The moves that end with a block: what is known after one, and those that say nothing before it, a fault in the code and the
 -- touch of an absent page.
 use Rattle.std.proofs.Common.{◌≡◌, ℕ, Bool, true, false, ◌||◌, [], Option, Some, slice_index_or, refl, sym, ap, ◌∙◌, subst}
-use Rattle.std.specs.Prelude.{length, ◌<◌, if◌then◌else◌, ◌≢◌}
+use Rattle.std.specs.Prelude.{length, ◌<◌, not, ◌&&◌, if◌then◌else◌, ◌≢◌}
 use Rattle.std.specs.List.{list_any}
 use Rattle.std.specs.Option.{option_map}
 use Rattle.std.proofs.lemmas.Bool.{and_right}
@@ -29,7 +29,7 @@ use Rattle.sa_package_model.specs.declared.package.Package.{Package}
 use Rattle.sa_laws.specs.Event.{Event}
 use Rattle.sa_laws.specs.History.{is_inside, stepped as ends}
 use Rattle.sa_laws.specs.Life.{Life, some_lock, held_with}
-use Rattle.sa_laws.specs.Readings.{Readings, life_of, has_hand, counts}
+use Rattle.sa_laws.specs.Readings.{Readings, life_of, has_hand, counts, is_resident}
 use Rattle.sa_laws.specs.Record.{after_record, blocking, locks_one, page_touched}
 use Rattle.sa_laws.specs.State.{no_threads}
 use Rattle.sa_laws.specs.Step.{HasCause, Needs}
@@ -84,7 +84,9 @@ module _ (set : Setting) (e : ℕ) (u : Package) (cs : Contexts Context) (w : Wo
   -- A FAULT: the step asks for a block for this page, and says nothing before it
   pub record IsFault (page : ℕ) : Type 0 where
     pub step : stepped u seen c ≡ record { user = placed_in u (carried_by c.state) kept.Blocked; ctx = c; says = []; answer = asked.Block u.fetch (Some page) }
-    pub for : (if locks_one (life_of r a) then PACKAGE_PAGE else page_touched w r set.space (carried_by c.state)) ≡ page
+    pub for : (if locks_one (life_of r a) && not (is_resident (event_begun_at w seen.event p r) set.space PACKAGE_PAGE) then PACKAGE_PAGE
+        else page_touched w r set.space (carried_by c.state))
+        ≡ page
     pub cause : HasCause w (event_begun_at w seen.event p r) set.space (carried_by c.state) a
     pub yields : at_yield c.state ≡ false
     pub looks : looks_of c.state ≡ 0

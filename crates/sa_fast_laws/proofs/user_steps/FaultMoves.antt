@@ -1,6 +1,6 @@
 -- The faults of a context: in the code of the package, and at the touch of an absent page.
 use Rattle.std.proofs.Common.{◌≡◌, ℕ, Bool, true, false, ◌||◌, List, [], ◌∷◌, map, Option, Some, None, slice_get, nat_le, refl, sym, ap, ◌∙◌, subst, inl, inr}
-use Rattle.std.specs.Prelude.{length, if◌then◌else◌, ◌⊎◌}
+use Rattle.std.specs.Prelude.{length, not, ◌&&◌, if◌then◌else◌, ◌⊎◌}
 use Rattle.sa_base.specs.declared.context.Seen.{Seen}
 use Rattle.sa_base.specs.declared.limits.TheConstants.{PACKAGE_PAGE}
 use Rattle.sa_base.specs.declared.number.ActNo.{ActNo}
@@ -115,7 +115,11 @@ module _ (set : Setting) (e : ℕ) (u : Package) (cs : Contexts Context) (w : Wo
     pub code-fault : IsFault set e u cs w r p a life (record { state = Code f; sections = fs; work = wk }) seen i PACKAGE_PAGE
     code-fault = record {
       step = ap (λ (y : Micro). coded_by u seen c f (slice_get u.shared.state.code f.pc) y y.done) is;
-      for = ap (λ b. if b then PACKAGE_PAGE else page_touched w r set.space f.thread) locked;
+      for =
+          ap
+          (λ b. if b && not (is_resident (event_begun_at w seen.event p r) set.space PACKAGE_PAGE) then PACKAGE_PAGE
+          else page_touched w r set.space f.thread) locked
+          ∙ ap (λ b. if not b then PACKAGE_PAGE else page_touched w r set.space f.thread) missing;
       cause = inr (inr (locked, missing));
       yields = stands.yields;
       looks = refl;
@@ -161,7 +165,11 @@ module _ (set : Setting) (e : ℕ) (u : Package) (cs : Contexts Context) (w : Wo
               (λ y. let o = touched u.shared None t b u.fetch page y in
               used_by (with_shared u o.shared) seen (record { state = User t; sections = []; work = o.work }) t o.answer
               (if y then records.Ins u.shared.state.space t b.pc ∷ [] else [])) absent;
-          for = ap (λ y. if y then PACKAGE_PAGE else page_touched w r set.space (Some t)) none ∙ ap page_in next;
+          for =
+              ap
+              (λ y. if y && not (is_resident (event_begun_at w seen.event p r) set.space PACKAGE_PAGE) then PACKAGE_PAGE
+              else page_touched w r set.space (Some t)) none
+              ∙ ap page_in next;
           cause = inr (inl (subst (IsMissed (event_begun_at w seen.event p r) set.space) (sym next) (ap (λ m. is_page_resident m page) (sym i.sees.pages) ∙ absent)));
           yields = refl;
           looks = refl;

@@ -3,6 +3,7 @@ use Rattle.std.proofs.Common.{◌+◌, ◌≢◌, is_some, get_or, ◌≡◌, �
 use Rattle.std.proofs.lemmas.List.{set-get_or}
 use Rattle.std.proofs.lemmas.Bool.{cases_lt, cases_eq}
 use Rattle.std.proofs.lemmas.Option.{same_Some, none-some}
+use Rattle.sa_lemmas.proofs.Options.{not_some-is}
 use Rattle.sa_base.specs.declared.number.ProcNo.{ProcNo}
 use Rattle.sa_base.specs.declared.number.SpaceNo.{SpaceNo}
 use Rattle.sa_base.specs.declared.number.ThreadNo.{ThreadNo}
@@ -27,7 +28,7 @@ use Rattle.sa_kernel_model.specs.State.{KernelState, owner_of}
 use Rattle.sa_kernel_model.specs.Parts.{put_aside, with_line}
 use Rattle.sa_kernel_laws.proofs.overview.Untold.{copies}
 use Rattle.sa_kernel_laws.proofs.overview.Once.{AreApart, apart-noted, apart-claimed, none-of}
-use Rattle.sa_core_model.proofs.Phases.{none-is, IsAt, Paused, paused-stop, paused-off}
+use Rattle.sa_core_model.proofs.Phases.{IsAt, Paused, paused-stop, paused-off}
 use Rattle.sa_core_model.specs.Machine.{Machine, without_context}
 use Rattle.sa_core_model.specs.Run.{setting}
 use Rattle.sa_core_model.specs.Standing.{contexts_of, contexts_in}
@@ -180,7 +181,7 @@ module _ {U C : Type 0} (level : UserLevel U C) where
       let paused = paused-off level.calls level.stands level.keep e x p st within off in
       let gone : slice_set x.contexts p.0 None ≡ x.contexts =
       ap (slice_set x.contexts p.0)
-      (sym (none-is (get_or x.contexts p.0 None) (st.there p.0 ∙ ap (λ (o : Option ActNo). is_some o) paused.none)))
+      (sym (not_some-is (get_or x.contexts p.0 None) (st.there p.0 ∙ ap (λ (o : Option ActNo). is_some o) paused.none)))
       ∙ set-get_or x.contexts p.0 None in
       record {
         ok = b.ok;

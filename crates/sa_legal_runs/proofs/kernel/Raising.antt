@@ -3,6 +3,7 @@ use Rattle.std.proofs.lemmas.List.{length-set, append-nil}
 use Rattle.std.proofs.Common.{is_none, get_or, ◌≡◌, ℕ, ◌+◌, ◌<◌, ◌≤◌, arith, sym, ◌∙◌, ap, subst, refl, Bool, true, not, ◌&&◌, Option, Some, None, is_some, List, [], ◌∷◌, ◌++◌, length, false}
 use Rattle.std.proofs.lemmas.Option.{same_Some}
 use Rattle.std.proofs.lemmas.Bool.Decides.{nat_tests}
+use Rattle.sa_lemmas.proofs.Options.{some-is}
 use Rattle.sa_base.specs.declared.number.ProcNo.{ProcNo}
 use Rattle.sa_base.specs.declared.number.SpaceNo.{SpaceNo}
 use Rattle.sa_base.specs.declared.number.ActNo.{ActNo}
@@ -28,7 +29,7 @@ use Rattle.sa_core_model.specs.Machine.{Machine, without_context, stopped_in}
 use Rattle.sa_core_model.specs.Turn.{next_event, entered_on, kernel_entered, turned, turned_raised}
 use Rattle.sa_core_model.specs.Standing.{contexts_of, Stands}
 use Rattle.sa_core_model.proofs.Turns.{Welcomed, Rests, can-interrupt, welcomed-upcall, rests-turned, between-rests, stopped-is, CanEnter}
-use Rattle.sa_core_model.proofs.Phases.{IsAt, at-owned, some-is}
+use Rattle.sa_core_model.proofs.Phases.{IsAt, at-owned}
 use Rattle.sa_core_model.specs.Run.{setting}
 use Rattle.sa_user_laws.specs.Scene.{event_begun_at}
 use Rattle.sa_user_laws.specs.Level.{UserLevel}

@@ -2,14 +2,15 @@
 ghost use Rattle.std.specs.Prelude.{◌≡◌, ◌++◌, OnOk, IfOk};
 ghost use Rattle.sa_laws.specs.Event.{events_of};
 ghost use Rattle.sa_check_moment.specs.Seen.{seen};
-ghost use Rattle.sa_page.specs.Advance.{told};
+ghost use Rattle.sa_check.specs.Items.{told_event};
 ghost use Rattle.sa_page.specs.Shown.{stop_line, WritesShown, ShowsOne};
 
 use crate::advance::advance;
-use crate::event::{TraceEvent, gather};
+use crate::event::gather;
 use crate::shown::Pair;
 use sa_base::Item;
 use sa_cells::{push_changes, push_ups};
+use sa_check::TraceEvent;
 use sa_text::print_number;
 use std::alloc::{AllocError, Global};
 
@@ -47,7 +48,7 @@ fn push_event(
     pair: Pair,
     event: &TraceEvent,
 ) -> Result<Option<Pair>, AllocError>
-    ensures { IfOk result (ShowsOne (seen pair.now.moment) pair.ups.items (told event.now)
+    ensures { IfOk result (ShowsOne (seen pair.now.moment) pair.ups.items (told_event event.now)
         out.old.items out.new.items) }
 {
     let Pair {

@@ -31,7 +31,8 @@ use Rattle.sa_histories.proofs.Traces.{legal-lawful}
 use Rattle.sa_promises.proofs.lives.Standing.{Standing, standing_after}
 use Rattle.sa_promises.proofs.lives.Moves.{lawful-moves, stood, nowhere_first}
 use Rattle.sa_promises.specs.Demands.{DemandCoversLoad, DemandsCoverLoads}
-use Rattle.sa_promises.proofs.read.Moments.{IsReadAfter, after-next, after-start}
+use Rattle.sa_promises.proofs.read.Ends.{IsSaidAt, said-next}
+use Rattle.sa_promises.proofs.read.Moments.{after-start}
 use Rattle.sa_promises.proofs.covers.Apart.{IsApart, apart-step, apart-start, apart-begun, apart-ended}
 use Rattle.sa_promises.proofs.covers.Passed.{Goes}
 use Rattle.sa_promises.proofs.covers.Fine.{Fine}
@@ -160,16 +161,16 @@ abbrev FineAll : WorkloadView → Readings → Type 0
 FineAll w r = (s : SpaceNo) → s.0 < length w.spaces → Fine w r r.lives s
 
 fine-along : (rules : UserRules) → AnnouncesDemand rules → (w : WorkloadView) (es : List Event) (r : Readings) (events : List Event)
-    → IsReadAfter rules.inside w es r → StaysApart r → 1 ≤ r.number → FineAll w r
+    → IsSaidAt rules.inside w es r → StaysApart r → 1 ≤ r.number → FineAll w r
     → AreLawful rules w r events → (n : ℕ)
     → FineAll w (after_events rules.inside w r (take n events))
 fine-along rules meets w es r [] read apart later fine law zero = fine
 fine-along rules meets w es r [] read apart later fine law (suc n) = fine
 fine-along rules meets w es r (e ∷ events) read apart later fine law zero = fine
 fine-along rules meets w es r (e ∷ events) read apart later fine law (suc n) =
-    let known : IsCovered w r = record { st = apart.st; apart = apart.apart; owned = read.said.owned; sized = read.said.at.read.sized } in
+    let known : IsCovered w r = record { st = apart.st; apart = apart.apart; owned = read.owned; sized = read.at.read.sized } in
     let from : 1 ≤ e.number = (let same = law.0.numbered.number in omega arith) in
-    fine-along rules meets w (es ++ e ∷ []) (after_event rules.inside w r e) events (after-next rules meets.forms w es r e read law.0) (apart-next rules meets w r e apart law.0)
+    fine-along rules meets w (es ++ e ∷ []) (after_event rules.inside w r e) events (said-next rules meets.forms w es r e read law.0) (apart-next rules meets w r e apart law.0)
     (let next = Rattle.sa_histories.proofs.Numbers.number-next rules w r e in omega arith)
     (λ s within. event-fine rules meets w r e known law.0 from s within (fine s within)) law.1 n
 
@@ -178,7 +179,7 @@ fine-at : (rules : UserRules) → AnnouncesDemand rules → (w : WorkloadView) (
     → FineAll w (after_events rules.inside w (opening_readings w) (take (suc n) events))
 fine-at rules meets w [] law n e at = absurd (none-some e at)
 fine-at rules meets w (x ∷ xs) law n e at =
-    fine-along rules meets w ([] ++ x ∷ []) (after_event rules.inside w (opening_readings w) x) xs (after-next rules meets.forms w [] (opening_readings w) x (after-start rules.inside w) law.0)
+    fine-along rules meets w ([] ++ x ∷ []) (after_event rules.inside w (opening_readings w) x) xs (said-next rules meets.forms w [] (opening_readings w) x (after-start rules.inside w) law.0)
     (apart-next rules meets w (opening_readings w) x (stays-start w) law.0)
     (let next = Rattle.sa_histories.proofs.Numbers.number-next rules w (opening_readings w) x in omega arith)
     (first-fine rules meets w x law.0) law.1 n

@@ -1,5 +1,5 @@
 -- At the end of each event of a legal run, what is read of own events is what the words say.
-use Rattle.std.proofs.Common.{◌≡◌, ℕ, ◌<◌, refl, sym, ◌∙◌, ap, subst, Some, None, List, [], ◌∷◌, ◌++◌, length, true, false}
+use Rattle.std.proofs.Common.{◌≡◌, ℕ, refl, sym, ◌∙◌, ap, subst, Some, None, List, [], ◌∷◌, ◌++◌, true, false}
 use Rattle.std.specs.Prelude.{Option, Bool, ◌&&◌, ◌||◌, nat_lt, if◌then◌else◌}
 use Rattle.std.specs.List.{list_any}
 use Rattle.sa_base.specs.declared.number.SpaceNo.{SpaceNo}
@@ -17,10 +17,10 @@ use Rattle.sa_laws.specs.Rules.{UserRules, IsLawful}
 use Rattle.sa_promises.specs.Needs.{HasForms}
 use Rattle.sa_laws.proofs.Records.{items-push}
 use Rattle.sa_ranks.specs.Inside.{settling}
-use Rattle.sa_promises.specs.Packages.{Package}
+use Rattle.sa_base.specs.declared.package.PackageName.{PackageName}
 use Rattle.sa_promises.specs.Words.{last_want}
 use Rattle.sa_promises.specs.Along.{along}
-use Rattle.sa_promises.specs.Moments.{Home, home_of}
+use Rattle.sa_promises.specs.Moments.{home_of}
 use Rattle.sa_promises.specs.Urged.{asked_at, is_urged}
 use Rattle.sa_promises.specs.Holdings.{change, locks_at, hands_at, conts_at}
 use Rattle.sa_promises.specs.Steps.{stepping, rising, with_event, settles_by, settles_at, set_in, in_by, renewed, scans_by, scans_at, is_free_event, freed_at, idle_behind, idle_by}
@@ -32,22 +32,19 @@ use Rattle.sa_promises.proofs.read.Items.{IsRead}
 use Rattle.sa_promises.proofs.read.Known.{first-want}
 use Rattle.sa_promises.proofs.read.Events.{IsReadAt, read-begins, read-event, read-next}
 use Rattle.sa_promises.proofs.read.OwnEvents.{OwnedByLives, stepper, own-event}
+use Rattle.sa_promises.proofs.read.Spaces.{HomesIn}
 use Rattle.sa_promises.proofs.read.Raised.{Until}
 use Rattle.sa_promises.proofs.read.Urged.{LinesSaid, lines-event, urges, AsksMore, urged-same}
 use Rattle.sa_promises.proofs.read.Inside.{HasAt, test-same, settles-same, set-said}
-
--- the homes of lives are spaces of the workload
-abbrev pub HomesIn : WorkloadView → List Item → Type 0
-HomesIn w past = (a : ActNo) (home : Home) → home_of past a ≡ Some home → home.space.0 < length w.spaces
 
 pub record IsSaidAt (test : Test) (w : WorkloadView) (es : List Event) (r : Readings) : Type 0 where
   pub at : IsReadAt w (items_of es) r
   pub owned : OwnedByLives r
   pub lines : LinesSaid w (items_of es) r.lines
-  pub inside : (which : Package) → AsksMore which test → Said in_now r.lives (along (in_by which w) (λ b. false) es)
+  pub inside : (which : PackageName) → AsksMore which test → Said in_now r.lives (along (in_by which w) (λ b. false) es)
   pub scans : Said scanned r.lives (along scans_at (λ b. 0) es)
   pub freed : Said was_freed r.lives (along freed_at (λ b. false) es)
-  pub idle : (which : Package) → AsksMore which test → Said idle_then r.lives (along (idle_by which w) (λ b. false) es)
+  pub idle : (which : PackageName) → AsksMore which test → Said idle_then r.lives (along (idle_by which w) (λ b. false) es)
 
 -- the step of an event, if it is one
 step-said : (test : Test) → {F : Type 0} (g : Life → F) (h : F → F) (w : WorkloadView) (r : Readings) (e : Event) (after : Readings) (n : Option ActNo)
@@ -119,6 +116,7 @@ free-same x others = refl
 -- what is known of a lawful event
 pub record IsEventAt (w : WorkloadView) (past : List Item) (r : Readings) (e : Event) : Type 0 where
   pub after : IsRead w (with_event past e) (behind_all w e r)
+  pub homes : HomesIn w (with_event past e)
   pub own : stepper r e e.records ≡ stepping past e
   pub up : (if list_any is_up e.records then running_of (behind_all w e r) e.proc else None) ≡ rising (with_event past e) e
   pub wants : (first : Record) (others : List Record) → e.records ≡ first ∷ others → (s : SpaceNo) (n : ℕ) → first ≡ Want s n → demand_of r s ≡ last_want past s
@@ -131,6 +129,7 @@ event-at rules meets w past r e at owned law =
     let begins = read-begins w past r e law.numbered.number at in
     record {
       after = mid.read;
+      homes = mid.range.homes;
       own = own-event rules meets w past r e at.read at.until owned law;
       up = ap (λ o. if list_any is_up e.records then o else None) (mid.read.running e.proc);
       wants = λ first others is s n same. at.read.demands s (first-want rules meets w r e s n others begins.read.sized law (is ∙ ap (λ x. x ∷ others) same));
@@ -148,12 +147,12 @@ has-at w now lives locks hands conts homes a life is = record {
   home = homes a.0 life is;
 }
 
-in-next : (test : Test) (which : Package) → AsksMore which test → (w : WorkloadView) (past : List Item) (r : Readings) (e : Event) (has : ℕ → Bool)
-    → IsEventAt w past r e → HomesIn w (with_event past e)
+in-next : (test : Test) (which : PackageName) → AsksMore which test → (w : WorkloadView) (past : List Item) (r : Readings) (e : Event) (has : ℕ → Bool)
+    → IsEventAt w past r e
     → ((s : SpaceNo) → urges which w (settling w r e (behind_all w e r)) s ≡ is_urged which w (asked_at past e) s) → Said in_now r.lives has
     → Said in_now (ended test w r e (behind_all w e r)).lives
     (Rattle.sa_promises.specs.Steps.in_with w past (is_urged which w (asked_at past e)) (with_event past e) e has)
-in-next test which asks w past r e has known within same said =
+in-next test which asks w past r e has known same said =
     let now = with_event past e in
     let urged = is_urged which w (asked_at past e) in
     let after = behind_all w e r in
@@ -166,7 +165,7 @@ in-next test which asks w past r e has known within same said =
     (keep-step test at_home w r e after after.lives _ e.records (λ x l. refl) read.homes) in
     let asked = λ (settled : Bool) (a : ActNo) (life : Life) (here : HasAt w now a life).
     asks w r e after settled life ∙ ap (λ b. is_inside w r e after settled life || (settled && b)) (same life.space)
-    ∙ test-same w now urged r after e settled a life read (within a (record { space = life.space; proc = life.proc }) (sym here.home)) here in
+    ∙ test-same w now urged r after e settled a life read (known.homes a (record { space = life.space; proc = life.proc }) (sym here.home)) here in
     let renewed_said = untouched-records in_now false (Some false) w e.number e.proc (event_begun w e r) e.records has in-untouched said in
     let stepped_said = step-set test w now past urged r e after (stepping past e) after.lives (renewed false (Some false) e.records has) e.records known.own
     (λ first others is a life at.
@@ -210,9 +209,8 @@ idle-next test w r e ins has within said =
 
 pub said-next : (rules : UserRules) → HasForms rules → (w : WorkloadView) (es : List Event) (r : Readings) (e : Event) → IsSaidAt rules.inside w es r
     → IsLawful rules w r e
-    → HomesIn w (with_event (items_of es) e)
     → IsSaidAt rules.inside w (es ++ e ∷ []) (after_event rules.inside w r e)
-said-next rules meets w es r e inv law within =
+said-next rules meets w es r e inv law =
     let past = items_of es in
     let known = event-at rules meets w past r e inv.at inv.owned law in
     let until : Until past e.number = subst (Until past) (sym law.numbered.number) inv.at.until in
@@ -222,7 +220,7 @@ said-next rules meets w es r e inv law within =
       lines = subst (λ ys. LinesSaid w ys (behind_all w e r).lines) (sym (items-push es e)) (lines-event w past r e e.records law.numbered.some until inv.lines);
       inside = λ which asks.
           said-same in_now _ _ _ (λ b. ap (λ (f : ℕ → Bool). f b) (sym (along-more (in_by which w) (λ c. false) es e)))
-          (in-next rules.inside which asks w past r e _ known within
+          (in-next rules.inside which asks w past r e _ known
           (λ s. urged-same which w past r e s law.numbered.some inv.at.read.state until inv.lines) (inv.inside which asks));
       scans = said-same scanned _ _ _ (λ b. ap (λ (f : ℕ → ℕ). f b) (sym (along-more scans_at (λ c. 0) es e))) (scans-next rules.inside w past r e _ known inv.scans);
       freed =

@@ -39,10 +39,12 @@ use Rattle.sa_promises.proofs.read.Pages.{has_at, IsSmall, evicted-more, opening
 use Rattle.sa_promises.proofs.read.Raised.{Until, RaisedAll, raised-begins, raised-ends, EndsWithEvent}
 use Rattle.sa_promises.proofs.read.Known.{known-event}
 use Rattle.sa_promises.proofs.read.Items.{Known, IsRead, IsReadIn, read-step}
+use Rattle.sa_promises.proofs.read.Spaces.{IsInRange, range-start}
 
 -- what is read at the end of an event
 pub record IsReadAt (w : WorkloadView) (past : List Item) (r : Readings) : Type 0 where
   pub read : IsRead w past r
+  pub range : IsInRange w past r
   pub until : Until past r.number
   pub raised : RaisedAll w past r.lines
   pub pages : (s : SpaceNo) (k : ℕ) → IsWorkload w → s.0 < length w.spaces → k < 16 → has_at r.pages s.0 k ≡ is_resident_in w past s k
@@ -106,6 +108,7 @@ read-begins w past r e number at =
         ios = read.ios;
       };
       last = sym (last-late past e.number until);
+      range = record { homes = at.range.homes; aims = at.range.aims };
       until = λ k y there. let early = until k y there in omega arith;
       raised = raised-begins w e.number e.proc past r.lines until at.raised;
       pages = λ s k ok below few.
@@ -167,6 +170,7 @@ read-ends test w past before e r number ends inv =
         io_count = read.io_count;
         ios = read.ios;
       };
+      range = record { homes = inv.range.homes; aims = inv.range.aims };
       until = λ k y there. let early = inv.until k y there in omega arith;
       raised = raised-ends w e.number e.proc past r.lines ends inv.until inv.raised;
       pages = λ s k ok below few.
@@ -205,7 +209,7 @@ pub read-event : (rules : UserRules) → HasForms rules → (w : WorkloadView) (
     → IsReadIn w e.number e.proc (past ++ items_at e.number e.proc e.records) (behind_all w e r)
 read-event rules meets w past r e at law =
     let begins = read-begins w past r e law.numbered.number at in
-    read-records w e.number e.proc past (event_begun w e r) e.records begins (known-event rules meets w r e begins.read.sized law)
+    read-records w e.number e.proc past (event_begun w e r) e.records begins (known-event rules meets w r e begins.read.sized (λ s is. at.range.aims e.proc s is) law)
 
 pub read-next : (rules : UserRules) → HasForms rules → (w : WorkloadView) (past : List Item) (r : Readings) (e : Event) → IsReadAt w past r
     → IsLawful rules w r e
@@ -256,8 +260,9 @@ read-start w = record {
     ready = λ s below. get_or-replicate (length w.spaces) s.0 (first_listed ∷ []) [] below;
     all_taken = λ a home is taken. absurd (none-some home is);
     io_count = refl;
-    ios = refl;
+    ios = λ ok. refl;
   };
+  range = range-start w;
   until = λ k y at. absurd (none-some y at);
   raised = λ q v below raised. absurd (none-some raised.item raised.at);
   pages = λ s k ok below few.

@@ -4,7 +4,7 @@ use Rattle.std.specs.Prelude.{Option, Bool, ◌==◌, if◌then◌else◌, get_o
 use Rattle.std.specs.List.{list_any}
 use Rattle.std.specs.Option.{option_map, option_or}
 use Rattle.std.proofs.lemmas.Bool.{cases_eq, eq-eqb, ne_eqb}
-use Rattle.std.proofs.lemmas.Option.{none-some}
+use Rattle.std.proofs.lemmas.Option.{none-some, same_Some}
 use Rattle.sa_lemmas.proofs.FunctionUpdates.{put-at, put-other}
 use Rattle.sa_base.specs.declared.number.SpaceNo.{SpaceNo}
 use Rattle.sa_base.specs.declared.number.ProcNo.{ProcNo}
@@ -14,6 +14,7 @@ use Rattle.sa_base.specs.declared.record.Note.TheVariants as note
 use Rattle.sa_base.specs.declared.record.Record.{Record}
 use Rattle.sa_base.specs.declared.record.Record.TheVariants.{Stop, Block, Unblock, Up, Told, GiveBack, Take}
 use Rattle.sa_base.specs.declared.record.Item.{Item}
+use Rattle.sa_base.specs.declared.limits.TheConstants.{PACKAGE_PAGE}
 use Rattle.sa_spaces.specs.Workload.{WorkloadView, IsWorkload}
 use Rattle.sa_laws.specs.State.{State, space_at}
 use Rattle.sa_laws.specs.Life.{Life, some_lock}
@@ -32,8 +33,8 @@ use Rattle.sa_promises.specs.Moments.{machine_of, machine_by, directly_before, r
 use Rattle.sa_promises.specs.Marks.{is_marked, mark_said}
 use Rattle.sa_promises.specs.Loads.{Untold, untold_in, untold_at, untold_by, is_not_told, with_noted}
 use Rattle.sa_promises.specs.Holdings.{locks_of, locks_at, hands_at, conts_at, stopped_of, stopped_at, stopped_by, taken_in, taken_at, has_in_hand, first_list_of, ready_in, ready_at}
-use Rattle.sa_promises.specs.Ios.{ios_of, ios_at}
-use Rattle.sa_promises.specs.Pages.{is_resident_in, resident_at, evicted_if, comes_at}
+use Rattle.sa_promises.specs.Ios.{Resident}
+use Rattle.sa_promises.specs.Pages.{Devices, devices_at, devices_of, first_devices, pages_before, ios_of, is_resident_in, evicted_if, comes_at}
 use Rattle.sa_promises.specs.Needs.{OwnTakes}
 use Rattle.sa_promises.specs.Along.{along, says_on}
 use Rattle.sa_promises.proofs.read.Along.{along-more, along-step}
@@ -42,6 +43,7 @@ use Rattle.sa_promises.proofs.read.Records.{WantKnown, NamesHome, AtHome, Blocks
 use Rattle.sa_promises.proofs.read.Fields.{Agrees as AgreesWith, NamesLife, in_locks, in_hand, open_cont, held_thread, at_home, homes_by, locks-step, hands-step, conts-step, stopped-step, homes-step, TakesLock}
 use Rattle.sa_promises.proofs.read.Pages.{has_at, pages-more}
 use Rattle.sa_promises.proofs.read.Raised.{Until, until-more, RaisedIn, raised-step, TakenAll, taken-all-step, home-more}
+use Rattle.sa_promises.proofs.read.Spaces.{Ranged, IsInRange, range-step}
 use Rattle.sa_promises.proofs.words.Ios.{ios-more, begun-more}
 
 -- what is known of each record of a legal run
@@ -51,6 +53,7 @@ pub record Known (w : WorkloadView) (p : ProcNo) (r : Readings) (x : Record) (re
   pub within : p.0 < w.processors
   pub raises : RaisesLine r x rest
   pub want : WantKnown w r x
+  pub ranged : Ranged (length w.spaces) x
 
 -- the threads of untold stops are those of the lives
 abbrev pub StopsRead : WorkloadView → List Item → Type 0
@@ -78,12 +81,13 @@ pub record IsRead (w : WorkloadView) (past : List Item) (r : Readings) : Type 0 
   pub ready : (s : SpaceNo) → s.0 < length w.spaces → ready_of r s ≡ ready_in w past s
   pub all_taken : TakenAll past
   pub io_count : r.io_count ≡ ios_begun past
-  pub ios : r.under_way ≡ ios_of w past
+  pub ios : IsWorkload w → r.under_way ≡ ios_of w past
 
 -- what is read within event e of processor p
 pub record IsReadIn (w : WorkloadView) (e : ℕ) (p : ProcNo) (past : List Item) (r : Readings) : Type 0 where
   pub read : IsRead w past r
   pub last : r.last ≡ directly_before e past
+  pub range : IsInRange w past r
   pub until : Until past (e + 1)
   pub raised : RaisedIn w e p past r.lines
   pub pages : (s : SpaceNo) (k : ℕ) → IsWorkload w → s.0 < length w.spaces → k < 16
@@ -118,9 +122,28 @@ names-home w past r (Told (note.Unblocked a)) read names = home-at w past r a na
 names-home w past r (GiveBack a) read names = home-at w past r a names.0 read names.1
 names-home w past r _ read names = tt
 
-blocks-with : (w : WorkloadView) (past : List Item) (r : Readings) (x : Record) → IsRead w past r → NamesLife r x → BlocksWith w r past x
-blocks-with w past r (Block s t a io) read names = ap locks_one names.1 ∙ ap some_lock (read.locks a.0 names.0 names.1)
-blocks-with w past r x read names = tt
+-- the pages before a record of an event, as the words have them
+abbrev pages_in : WorkloadView → List Item → ℕ → Resident
+pages_in w past e = pages_before w past e (devices_of w past).resident
+
+-- the life of a block is of a space of the workload
+block-space : (w : WorkloadView) (p : ProcNo) (past : List Item) (r : Readings) (s : SpaceNo) (a : ActNo) (life : Life) → (read : IsRead w past r)
+    → IsInRange w past r → life_of r a ≡ Some life
+    → read.st a.0 ≡ Runs s p → s.0 < length w.spaces
+block-space w p past r s a life read range is runs =
+    let space : life.space ≡ s =
+    same_Some life.space s (sym (ap (option_map (λ (l : Life). l.space)) is) ∙ read.agrees.lives a ∙ ap space_in runs) in
+    subst (λ (of : SpaceNo). of.0 < length w.spaces) space
+    (range.homes a (record { space = life.space; proc = life.proc }) (sym (read.homes a.0 life is)))
+
+blocks-with : (w : WorkloadView) (e : ℕ) (p : ProcNo) (past : List Item) (r : Readings) (x : Record) → (inv : IsReadIn w e p past r) → NamesLife r x
+    → Stood p inv.read.st x
+    → IsWorkload w → BlocksWith w r past (pages_in w past e) x
+blocks-with w e p past r (Block s t a io) inv names was ok = (
+  ap locks_one names.1 ∙ ap some_lock (inv.read.locks a.0 names.0 names.1),
+  inv.pages s PACKAGE_PAGE ok (block-space w p past r s a names.0 inv.read inv.range names.1 was) (omega arith),
+)
+blocks-with w e p past r x inv names was ok = tt
 
 -- a take gives the lock that the words say
 hand-same : (w : WorkloadView) (past : List Item) (p : ProcNo) (r : Readings) (s : SpaceNo) (a : ActNo) (life : Life) (n : Option ActNo) → IsRead w past r
@@ -305,8 +328,9 @@ read-after w e p past r x rest inv known =
       all_taken = taken-all-step past e p x read.all_taken;
       io_count = begun-more r.io_count x ∙ ap (λ n. n + (if begins_io x then 1 else 0)) read.io_count ∙ sym (ios-more past y);
       ios =
-          under-more w r past e x (ios_of w past) read.ios read.io_count read.state inv.last (blocks-with w past r x read names)
-          ∙ sym (along-more (ios_at w) [] past y);
+          λ ok. under-more w r past (pages_in w past e) e x (ios_of w past) (read.ios ok) read.io_count read.state inv.last
+          (blocks-with w e p past r x inv names was ok)
+          ∙ sym (ap (λ (d : Devices). d.ios) (along-more (devices_at w) (first_devices w) past y));
     }
 
 pub read-step : (w : WorkloadView) (e : ℕ) (p : ProcNo) (past : List Item) (r : Readings) (x : Record) (rest : List Record) → IsReadIn w e p past r
@@ -315,13 +339,14 @@ pub read-step : (w : WorkloadView) (e : ℕ) (p : ProcNo) (past : List Item) (r 
 read-step w e p past r x rest inv known = record {
   read = read-after w e p past r x rest inv known;
   last = sym (last-is e p past x);
+  range = range-step w e p past r x inv.range known.ranged;
   until = until-more past e p x inv.until;
   raised = raised-step w e p past r x rest inv.read.sized.lines known.raises inv.raised;
   pages = λ s k ok below few.
       let len = inv.read.sized.pages in
-      pages-more r (ios_of w past) x s k inv.read.ios (omega arith) few
+      pages-more r (ios_of w past) x s k (inv.read.ios ok) (omega arith) few
       ∙ ap (λ b. if comes_at (ios_of w past) s k x then true else b) (inv.pages s k ok below few)
-      ∙ sym (along-more (resident_at w s k) _ past (item e p x))
+      ∙ sym (ap (λ (d : Devices). d.resident s k) (along-more (devices_at w) (first_devices w) past (item e p x)))
       ∙ sym
       (ap (λ (o : Option Record). evicted_if (Rattle.std.specs.Prelude.is_none o) w e s k (is_resident_in w (past ++ item e p x ∷ []) s k))
       (last-is e p past x));

@@ -18,7 +18,7 @@ use Rattle.sa_assign.specs.Aims.{Change, space_no}
 use Rattle.sa_assign.specs.Reaim.{records_of, proc_no}
 use Rattle.sa_laws.specs.Event.{Event}
 use Rattle.sa_laws.specs.Life.{Life}
-use Rattle.sa_laws.specs.Readings.{Readings, opening_readings, demand_of, load_of, untold_of, untold_thread, owner_of, running_of, life_on, line_of}
+use Rattle.sa_laws.specs.Readings.{Readings, opening_readings, demand_of, load_of, untold_of, untold_thread, owner_of, aim_of, running_of, life_on, line_of}
 use Rattle.sa_laws.specs.Record.{after_record}
 use Rattle.sa_laws.specs.History.{event_begun, after_records}
 use Rattle.sa_laws.specs.Shape.{own_part, is_own}
@@ -32,6 +32,7 @@ use Rattle.sa_promises.proofs.lives.Shapes.{Moves}
 use Rattle.sa_promises.proofs.lives.Moves.{lawful-moves}
 use Rattle.sa_promises.proofs.read.Records.{WantKnown}
 use Rattle.sa_promises.proofs.read.Items.{Known}
+use Rattle.sa_promises.proofs.read.Spaces.{AllRanged, event-ranged}
 use Rattle.sa_histories.proofs.Sizes.{IsSized}
 
 -- a space that the workload does not have has no demand and no load
@@ -118,21 +119,24 @@ want-known w r x first = tt
 
 known-each : (w : WorkloadView) (e : ℕ) (p : ProcNo) (r : Readings) (xs : List Record) → p.0 < w.processors
     → (r.last ≡ None → (s : SpaceNo) (n : ℕ) (others : List Record) → xs ≡ Want s n ∷ others → s.0 < length w.spaces)
-    → EachRecord (Moves w p) w e p r xs → EachRecord (OwnTakes p) w e p r xs → EachRecord RaisesLine w e p r xs → EachRecord (Known w p) w e p r xs
-known-each w e p r [] within first moves takes raises = tt
-known-each w e p r (x ∷ xs) within first moves takes raises = (
+    → EachRecord (Moves w p) w e p r xs → EachRecord (OwnTakes p) w e p r xs → EachRecord RaisesLine w e p r xs → AllRanged (length w.spaces) xs
+    → EachRecord (Known w p) w e p r xs
+known-each w e p r [] within first moves takes raises ranged = tt
+known-each w e p r (x ∷ xs) within first moves takes raises ranged = (
   record {
     moves = moves.0;
     takes = takes.0;
     within = within;
     raises = raises.0;
+    ranged = ranged.0;
     want = want-known w r x (λ none s n is. first none s n xs (ap (λ y. y ∷ xs) is));
   },
-  known-each w e p (after_record w e p r x) xs within (λ none. absurd (none-some x (sym none))) moves.1 takes.1 raises.1,
+  known-each w e p (after_record w e p r x) xs within (λ none. absurd (none-some x (sym none))) moves.1 takes.1 raises.1 ranged.1,
 )
 
-pub known-event : (rules : UserRules) → HasForms rules → (w : WorkloadView) (r : Readings) (e : Event) → IsSized w (event_begun w e r) → IsLawful rules w r e
+pub known-event : (rules : UserRules) → HasForms rules → (w : WorkloadView) (r : Readings) (e : Event) → IsSized w (event_begun w e r)
+    → ((s : SpaceNo) → aim_of r e.proc ≡ Some s → s.0 < length w.spaces) → IsLawful rules w r e
     → EachRecord (Known w e.proc) w e.number e.proc (event_begun w e r) e.records
-known-event rules meets w r e sized law =
+known-event rules meets w r e sized below law =
     known-each w e.number e.proc (event_begun w e r) e.records law.numbered.proc (λ none s n others is. first-want rules meets w r e s n others sized law is)
-    (lawful-moves rules meets.tells w r e law) (meets.own w r e law) law.line_cause.heard
+    (lawful-moves rules meets.tells w r e law) (meets.own w r e law) law.line_cause.heard (event-ranged rules meets w r e below sized law)

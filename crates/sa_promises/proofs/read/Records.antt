@@ -1,11 +1,12 @@
 -- What one record changes in what is read, reading by reading, as the words have it.
 use Rattle.std.proofs.Common.{◌≡◌, ℕ, ◌+◌, ◌<◌, refl, sym, ◌∙◌, ap, Some, None, List, [], ◌∷◌, ◌++◌, length, map, false}
-use Rattle.std.specs.Prelude.{Option, Bool, ◌==◌, nat_lt, is_none, if◌then◌else◌, get_or, slice_set, unwrap_or, filter}
+use Rattle.std.specs.Prelude.{Option, Bool, not, ◌&&◌, ◌==◌, nat_lt, is_none, if◌then◌else◌, get_or, slice_set, unwrap_or, filter}
 use Rattle.std.proofs.lemmas.List.{set-get_or, map-append}
 use Rattle.sa_base.specs.declared.number.SpaceNo.{SpaceNo}
 use Rattle.sa_base.specs.declared.number.ProcNo.{ProcNo}
 use Rattle.sa_base.specs.declared.number.ThreadNo.{ThreadNo}
 use Rattle.sa_base.specs.declared.number.ActNo.{ActNo}
+use Rattle.sa_base.specs.declared.number.IoNo.{IoNo}
 use Rattle.sa_base.specs.declared.record.Note.{Note}
 use Rattle.sa_base.specs.declared.record.Note.TheVariants as note
 use Rattle.sa_base.specs.declared.record.Record.{Record}
@@ -18,7 +19,7 @@ use Rattle.sa_devices.specs.declared.kind.IoKind.TheVariants.{Page, Upcall}
 use Rattle.sa_devices.specs.Ios.{Io}
 use Rattle.sa_laws.specs.State.{State, next_instr}
 use Rattle.sa_laws.specs.Life.{some_lock}
-use Rattle.sa_laws.specs.Readings.{Readings, Listed, demand_of, untold_of, taken_of, ready_of, space_of_life, life_of, life_on}
+use Rattle.sa_laws.specs.Readings.{Readings, Listed, demand_of, untold_of, taken_of, ready_of, space_of_life, life_of, life_on, is_resident}
 use Rattle.sa_laws.specs.Record.{running_after, marks_after, mark_after, untold_after, taken_after, with_act, without_act, is_other_note, is_other_act, length_behind, blocking, blocking_for, locks_one, under_way_after, with_io, page_touched, page_in, is_io_of_other, fetches_other, first_list, is_other_thread, ready_after}
 use Rattle.sa_promises.specs.Words.{last_want, ios_begun}
 use Rattle.sa_promises.proofs.words.Reads.{set-said}
@@ -26,7 +27,7 @@ use Rattle.sa_promises.specs.Moments.{Home, machine_of, directly_before, run_in,
 use Rattle.sa_promises.specs.Marks.{mark_in}
 use Rattle.sa_promises.specs.Loads.{Untold, untold, untold_by, with_noted}
 use Rattle.sa_promises.specs.Holdings.{is_home, is_other, taken_by, locks_of, first_list_of, ready_by}
-use Rattle.sa_promises.specs.Ios.{io_before, touched, block_with, block_for, io_from, ios_by}
+use Rattle.sa_promises.specs.Ios.{Resident, io_before, touched, block_with, block_for, io_from, ios_by}
 use Rattle.sa_promises.proofs.read.Lists.{if-out, none-said, set-absent, set-list, map-filter}
 
 -- the running lives
@@ -136,37 +137,50 @@ touched-same : (w : WorkloadView) (r : Readings) (m : State) (s : SpaceNo) (t : 
 touched-same w r m s None is = refl
 touched-same w r m s (Some t) is = ap (λ (k : State). page_in (next_instr w k s t)) is
 
-blocks-same : (w : WorkloadView) (r : Readings) (past : List Item) (s : SpaceNo) (t : Option ThreadNo) (a : ActNo) (o : Option ℕ) → r.state ≡ machine_of w past
-    → locks_one (life_of r a) ≡ some_lock (locks_of w past a) → blocking_for w r s t a o ≡ block_with w past s t a o
-blocks-same w r past s t a (Some n) state locks = refl
-blocks-same w r past s t a None state locks =
-    ap (λ page. record { kind = Page s a page; length = w.fetch })
-    (ap (λ b. if b then PACKAGE_PAGE else page_touched w r s t) locks
-    ∙ ap (λ k. if some_lock (locks_of w past a) then PACKAGE_PAGE else k) (touched-same w r (machine_of w past) s t state))
+-- the life of a block has the locks that are said, and the package's page is resident or absent as is said
+abbrev pub BlocksWith : WorkloadView → Readings → List Item → Resident → Record → Type 0
+BlocksWith w r past resident (Block s t a io) =
+    (locks_one (life_of r a) ≡ some_lock (locks_of w past a)) × (is_resident r s PACKAGE_PAGE ≡ resident s PACKAGE_PAGE)
+BlocksWith w r past resident _ = Unit {0}
 
-pub block-same : (w : WorkloadView) (r : Readings) (past : List Item) (e : ℕ) (s : SpaceNo) (t : Option ThreadNo) (a : ActNo) → r.state ≡ machine_of w past
+blocks-same : (w : WorkloadView) (r : Readings) (past : List Item) (resident : Resident) (s : SpaceNo) (t : Option ThreadNo) (a : ActNo) (io : IoNo)
+    (o : Option ℕ)
+    → r.state ≡ machine_of w past
+    → BlocksWith w r past resident (Block s t a io) → blocking_for w r s t a o ≡ block_with w past resident s t a o
+blocks-same w r past resident s t a io (Some n) state has = refl
+blocks-same w r past resident s t a io None state has =
+    ap (λ page. record { kind = Page s a page; length = w.fetch })
+    (ap (λ b. if b && not (is_resident r s PACKAGE_PAGE) then PACKAGE_PAGE else page_touched w r s t) has.0
+    ∙ ap (λ b. if some_lock (locks_of w past a) && not b then PACKAGE_PAGE else page_touched w r s t) has.1
+    ∙ ap (λ k. if some_lock (locks_of w past a) && not (resident s PACKAGE_PAGE) then PACKAGE_PAGE else k)
+    (touched-same w r (machine_of w past) s t state))
+
+pub block-same : (w : WorkloadView) (r : Readings) (past : List Item) (resident : Resident) (e : ℕ) (s : SpaceNo) (t : Option ThreadNo) (a : ActNo)
+    (io : IoNo)
+    → r.state ≡ machine_of w past
     → r.last ≡ directly_before e past
-    → locks_one (life_of r a) ≡ some_lock (locks_of w past a) → blocking w r s t a ≡ block_for w past e s t a
-block-same w r past e s t a state last locks =
-    blocks-same w r past s t a (length_behind w r s t r.last) state locks
-    ∙ ap (block_with w past s t a)
+    → BlocksWith w r past resident (Block s t a io) → blocking w r s t a ≡ block_for w past resident e s t a
+block-same w r past resident e s t a io state last has =
+    blocks-same w r past resident s t a io (length_behind w r s t r.last) state has
+    ∙ ap (block_with w past resident s t a)
     (behind-same w r s t r.last ∙ ap (λ (m : State). io_before w m s t r.last) state ∙ ap (io_before w (machine_of w past) s t) last)
 
--- the life of a block has the locks that are said
-abbrev pub BlocksWith : WorkloadView → Readings → List Item → Record → Type 0
-BlocksWith w r past (Block s t a io) = locks_one (life_of r a) ≡ some_lock (locks_of w past a)
-BlocksWith w r past _ = Unit {0}
-
-pub under-more : (w : WorkloadView) (r : Readings) (past : List Item) (e : ℕ) (x : Record) (ios : List Io) → r.under_way ≡ ios → r.io_count ≡ ios_begun past
+pub under-more : (w : WorkloadView) (r : Readings) (past : List Item) (resident : Resident) (e : ℕ) (x : Record) (ios : List Io) → r.under_way ≡ ios
+    → r.io_count ≡ ios_begun past
     → r.state ≡ machine_of w past
-    → r.last ≡ directly_before e past → BlocksWith w r past x → under_way_after w e r x ≡ ios_by w past ios e x
-under-more w r past e (Block s t a io) ios is io_count state last locks =
-    ap (λ b. with_io e b r) (block-same w r past e s t a state last locks)
-    ∙ ap (λ (n : ℕ). r.under_way ++ record { number = n; ends = e + (block_for w past e s t a).length; kind = (block_for w past e s t a).kind } ∷ []) io_count
-    ∙ ap (λ us. us ++ io_from past e (block_for w past e s t a) ∷ []) is
-under-more w r past e (Fetch s) ios is io_count state last locks =
+    → r.last ≡ directly_before e past → BlocksWith w r past resident x → under_way_after w e r x ≡ ios_by w past resident ios e x
+under-more w r past resident e (Block s t a io) ios is io_count state last has =
+    ap (λ b. with_io e b r) (block-same w r past resident e s t a io state last has)
+    ∙ ap
+    (λ (n : ℕ). r.under_way ++ record {
+      number = n;
+      ends = e + (block_for w past resident e s t a).length;
+      kind = (block_for w past resident e s t a).kind;
+    } ∷ []) io_count
+    ∙ ap (λ us. us ++ io_from past e (block_for w past resident e s t a) ∷ []) is
+under-more w r past resident e (Fetch s) ios is io_count state last has =
     ap (λ (n : ℕ). r.under_way ++ record { number = n; ends = e + w.fetch; kind = Upcall s } ∷ []) io_count
     ∙ ap (λ us. us ++ io_from past e (record { kind = Upcall s; length = w.fetch }) ∷ []) is
-under-more w r past e (Unblock s t a) ios is io_count state last locks = ap (filter (is_io_of_other a)) is
-under-more w r past e (Fetched s) ios is io_count state last locks = ap (filter (fetches_other s)) is
-under-more w r past e x ios is io_count state last locks = is
+under-more w r past resident e (Unblock s t a) ios is io_count state last has = ap (filter (is_io_of_other a)) is
+under-more w r past resident e (Fetched s) ios is io_count state last has = ap (filter (fetches_other s)) is
+under-more w r past resident e x ios is io_count state last has = is

@@ -1,5 +1,5 @@
 -- The spaces of aims, owners and lives of a legal run are those of the workload.
-use Rattle.std.proofs.Common.{◌≡◌, ℕ, zero, suc, ◌+◌, ◌<◌, ◌≤◌, ◌⊎◌, inl, inr, refl, sym, ◌∙◌, ap, subst, arith, Some, None, List, [], ◌∷◌, ◌++◌, length, map, take, drop, true, false, append_assoc, append-nil, cond, one-add}
+use Rattle.std.proofs.Common.{◌≡◌, ℕ, zero, suc, ◌+◌, ◌<◌, ◌≤◌, ◌⊎◌, inl, inr, refl, sym, ◌∙◌, ap, subst, arith, Some, None, List, [], ◌∷◌, ◌++◌, length, map, take, drop, true, false, cond, one-add}
 use Rattle.std.specs.Prelude.{Option, Bool, ◌==◌, if◌then◌else◌, is_some, get_or, slice_set, take_while, replicate}
 use Rattle.std.specs.List.{prefix_len}
 use Rattle.std.specs.Option.{option_or}
@@ -13,7 +13,6 @@ use Rattle.sa_base.specs.declared.record.Note.{Note}
 use Rattle.sa_base.specs.declared.record.Record.{Record}
 use Rattle.sa_base.specs.declared.record.Record.TheVariants.{Ins, Out, Stop, Block, Unblock, Up, Told, Move, Want, Aim, Line, Fetch, Fetched, GiveBack, Idle, Spin, Take, Ready, Run, Free, Cont, Back}
 use Rattle.sa_base.specs.declared.record.Item.{Item}
-use Rattle.sa_base.specs.Items.{items_at}
 use Rattle.sa_instr.specs.declared.instr.Instr.{Instr}
 use Rattle.sa_instr.specs.declared.instr.Instr.TheVariants as instr
 use Rattle.sa_spaces.specs.Workload.{WorkloadView}
@@ -38,7 +37,6 @@ use Rattle.sa_histories.proofs.Walk.{item}
 use Rattle.sa_promises.specs.Moments.{Home, home_of, home_in}
 use Rattle.sa_promises.proofs.read.Raised.{home-more}
 use Rattle.sa_histories.proofs.Sizes.{IsSized, sized-step}
-use Rattle.sa_promises.proofs.read.Ends.{HomesIn}
 use Rattle.sa_lemmas.proofs.ListReads.{take_then_drop}
 
 -- each move to a space is to one below this number
@@ -386,6 +384,18 @@ ranged-each w e p r (Aim q None ∷ xs) sized moved moves aims tells =
 ranged-each w e p r (x ∷ xs) sized moved moves aims tells =
     (tt, ranged-each w e p (after_record w e p r x) xs (sized-step w e p r x sized) moved moves aims tells.1)
 
+-- the records of a lawful event
+pub event-ranged : (rules : UserRules) → HasForms rules → (w : WorkloadView) (r : Readings) (e : Event)
+    → ((s : SpaceNo) → aim_of r e.proc ≡ Some s → s.0 < length w.spaces)
+    → IsSized w (event_begun w e r) → IsLawful rules w r e → AllRanged (length w.spaces) e.records
+event-ranged rules meets w r e below sized law =
+    ranged-each w e.number e.proc (event_begun w e r) e.records sized (λ s is. absurd (none-some s is)) (event-moves rules meets w r e law below)
+    (event-aims rules w r e law) law.all_told.told
+
+-- the homes of lives are spaces of the workload
+abbrev pub HomesIn : WorkloadView → List Item → Type 0
+HomesIn w past = (a : ActNo) (home : Home) → home_of past a ≡ Some home → home.space.0 < length w.spaces
+
 -- so aims and the homes of lives stay in range
 pub record IsInRange (w : WorkloadView) (past : List Item) (r : Readings) : Type 0 where
   pub homes : HomesIn w past
@@ -397,7 +407,7 @@ set-aim (x ∷ xs) zero zero v s is = inl is
 set-aim (x ∷ xs) (suc i) (suc j) v s is = set-aim xs i j v s is
 set-aim _ _ _ v s is = inr is
 
-range-step : (w : WorkloadView) (e : ℕ) (p : ProcNo) (past : List Item) (r : Readings) (x : Record) → IsInRange w past r → Ranged (length w.spaces) x
+pub range-step : (w : WorkloadView) (e : ℕ) (p : ProcNo) (past : List Item) (r : Readings) (x : Record) → IsInRange w past r → Ranged (length w.spaces) x
     → IsInRange w (past ++ item e p x ∷ []) (after_record w e p r x)
 range-step w e p past r x inv ranged = record {
   homes = λ a home is. home_one x ranged a home (sym (home-more past e p x a) ∙ is);
@@ -419,22 +429,6 @@ range-step w e p past r x inv ranged = record {
   ]
   aim_one (Aim t None) below q s is = elim (set-aim r.aims t.0 q.0 None s is) [ inl new ↦ absurd (none-some s new) | inr old ↦ inv.aims q s old ]
   aim_one y below q s is = inv.aims q s is
-
-range-records : (w : WorkloadView) (e : ℕ) (p : ProcNo) (past : List Item) (r : Readings) (xs : List Record) → IsInRange w past r
-    → AllRanged (length w.spaces) xs
-    → IsInRange w (past ++ items_at e p xs) (after_records w e p r xs)
-range-records w e p past r [] inv all = subst (λ ys. IsInRange w ys r) (sym (append-nil past)) inv
-range-records w e p past r (x ∷ xs) inv all =
-    subst (λ ys. IsInRange w ys (after_records w e p (after_record w e p r x) xs)) (append_assoc past (item e p x ∷ []) (items_at e p xs))
-    (range-records w e p (past ++ item e p x ∷ []) (after_record w e p r x) xs (range-step w e p past r x inv all.0) all.1)
-
-pub range-event : (rules : UserRules) → HasForms rules → (w : WorkloadView) (past : List Item) (r : Readings) (e : Event) → IsInRange w past r
-    → IsSized w (event_begun w e r) → IsLawful rules w r e
-    → IsInRange w (past ++ items_at e.number e.proc e.records) (Rattle.sa_laws.specs.History.behind_all w e r)
-range-event rules meets w past r e inv sized law =
-    range-records w e.number e.proc past (event_begun w e r) e.records (record { homes = inv.homes; aims = inv.aims })
-    (ranged-each w e.number e.proc (event_begun w e r) e.records sized (λ s is. absurd (none-some s is)) (event-moves rules meets w r e law (λ s is. inv.aims e.proc s is))
-    (event-aims rules w r e law) law.all_told.told)
 
 absent : (n k : ℕ) (s : SpaceNo) → get_or (replicate n None) k None ≡ Some s → ⊥
 absent zero k s is = none-some s is

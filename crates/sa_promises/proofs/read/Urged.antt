@@ -24,7 +24,9 @@ use Rattle.sa_laws.proofs.Lengths.{lines-length}
 use Rattle.sa_ranks.specs.Pairs.{has_pair, is_pair_on, outranked_by, rank_if, rank_in, is_outranked}
 use Rattle.sa_ranks.specs.Inside.{has_entry, settling}
 use Rattle.sa_histories.proofs.Walk.{item}
-use Rattle.sa_promises.specs.Packages.{Package, Fast, Prio, rules_of}
+use Rattle.sa_base.specs.declared.package.PackageName.{PackageName}
+use Rattle.sa_base.specs.declared.package.PackageName.TheVariants.{FastThreads, Priorities}
+use Rattle.sa_ranks.specs.Packages.{rules_of}
 use Rattle.sa_promises.specs.Words.{line_in}
 use Rattle.sa_promises.specs.Moments.{is_first, machine_by, machine_of, record_of_event}
 use Rattle.sa_promises.specs.Urged.{line_said, line_is_raised, is_in_pair, is_paired_on, has_pair_in, asked_at, is_urged}
@@ -157,29 +159,29 @@ pairs-same w r s items state said = ap is_some (least-same w.processors (is_pair
     ∙ ap (λ b. is_in_pair (space_at (machine_of w items) s) s b (runner_on (machine_of w items) (proc_no k))) (said.each (proc_no k) below)))
 
 -- What a package's test of which lives are in asks beyond FastThreads'.
-abbrev pub urges : Package → WorkloadView → Readings → SpaceNo → Bool
-urges Fast w r s = false
-urges Prio w r s = has_pair w r s
+abbrev pub urges : PackageName → WorkloadView → Readings → SpaceNo → Bool
+urges FastThreads w r s = false
+urges Priorities w r s = has_pair w r s
 
-abbrev pub AsksMore : Package → Test → Type 0
+abbrev pub AsksMore : PackageName → Test → Type 0
 AsksMore which test =
     (w : WorkloadView) (before : Readings) (e : Event) (after : Readings) (settled : Bool) (life : Life)
     → test w before e after settled life
     ≡ (is_inside w before e after settled life || (settled && urges which w (settling w before e after) life.space))
 
-pub asks-more : (which : Package) → AsksMore which (rules_of which).inside
-asks-more Prio w before e after settled life = refl
-asks-more Fast w before e after settled life = nothing-more (is_inside w before e after settled life) settled where
+pub asks-more : (which : PackageName) → AsksMore which (rules_of which).inside
+asks-more Priorities w before e after settled life = refl
+asks-more FastThreads w before e after settled life = nothing-more (is_inside w before e after settled life) settled where
   nothing-more : (b settled : Bool) → b ≡ (b || (settled && false))
   nothing-more true settled = refl
   nothing-more false true = refl
   nothing-more false false = refl
 
-pub urged-same : (which : Package) (w : WorkloadView) (past : List Item) (r : Readings) (e : Event) (s : SpaceNo) → e.records ≢ []
+pub urged-same : (which : PackageName) (w : WorkloadView) (past : List Item) (r : Readings) (e : Event) (s : SpaceNo) → e.records ≢ []
     → r.state ≡ machine_of w past → Until past e.number → LinesSaid w past r.lines
     → urges which w (settling w r e (behind_all w e r)) s ≡ is_urged which w (asked_at past e) s
-urged-same Fast w past r e s some state until said = refl
-urged-same Prio w past r e s some state until said = one (has_entry e.records) where
+urged-same FastThreads w past r e s some state until said = refl
+urged-same Priorities w past r e s some state until said = one (has_entry e.records) where
   own-some : (xs : List Record) → xs ≢ [] → own_part xs ≢ []
   own-some [] some same = some same
   own-some (x ∷ xs) some same = absurd (cc)

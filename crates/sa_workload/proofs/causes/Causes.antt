@@ -7,14 +7,14 @@ use Rattle.std.proofs.lemmas.Bool.Decides.{not_from_Decides}
 use Rattle.sa_instr.specs.declared.instr.Instr.{Instr}
 use Rattle.sa_instr.specs.declared.instr.Instr.TheVariants.{End}
 use Rattle.sa_lemmas.proofs.Booleans.{if_either}
-use Rattle.sa_workload_lines.specs.Text.{instr_line}
-use Rattle.sa_workload_lines.specs.Bad.{first_word, Begins, Field, field_cause, cause_in, WordCause}
-use Rattle.sa_workload_lines.specs.Fields.{and_then, line_numbers, index_of}
-use Rattle.sa_workload_lines.specs.Position.{Position, AtAbsent, AtInstr, AtEvict, AtTurn, Closed, shown}
-use Rattle.sa_workload_lines.specs.Steps.{expected}
-use Rattle.sa_workload_lines.specs.Next.{numbers_at, is_full, last_numbers, fields_of, is_end, step, step_instr, next}
-use Rattle.sa_workload_lines.proofs.fields.FieldLemmas.{same_err, and_then-err, AllPass, line-ok}
-use Rattle.sa_workload_lines.proofs.fields.InstrLemmas.{instr-read}
+use Rattle.sa_workload.specs.Text.{instr_line}
+use Rattle.sa_workload.specs.Bad.{first_word, Begins, Field, field_cause, cause_in, WordCause}
+use Rattle.sa_workload.specs.Fields.{and_then, line_numbers, index_of}
+use Rattle.sa_workload.specs.Position.{Position, AtAbsent, AtInstr, AtEvict, AtTurn, Closed, shown}
+use Rattle.sa_workload.specs.Steps.{expected}
+use Rattle.sa_workload.specs.Next.{numbers_at, is_full, last_numbers, fields_of, is_end, step, step_instr, next}
+use Rattle.sa_workload.proofs.fields.FieldLemmas.{same_err, and_then-err, AllPass, line-ok}
+use Rattle.sa_workload.proofs.fields.InstrLemmas.{instr-read}
 use Rattle.sa_workload.proofs.causes.LineAt.{many-Decides, LineAt, line_at}
 use Rattle.sa_workload.proofs.forward.Following.{expects}
 use Rattle.sa_workload.proofs.forward.Standing.{IsAt, Setting, begins-next, expected_words}

@@ -18,14 +18,14 @@ use Rattle.sa_instr.specs.declared.operation.Operation.{Operation}
 use Rattle.sa_instr.specs.declared.operation.Operation.TheVariants as Operations
 use Rattle.sa_instr.specs.Operation.{form_of}
 use Rattle.sa_spaces.specs.Space.{SpaceView, IsSpace}
-use Rattle.sa_workload_lines.specs.Bad.{numbers_before, DeclaredNumbers, Field, within, declared, operand_field, fields_behind, numbers_in, number_in, last_line, count_of_word, IsTooMany}
-use Rattle.sa_workload_lines.specs.Fields.{index_of}
-use Rattle.sa_workload_lines.specs.Position.{Position, AtSlice, AtSpace, AtAbsent, AtInstr, AtEvict, AtTurn, Closed, shown}
-use Rattle.sa_workload_lines.specs.Steps.{expected}
-use Rattle.sa_workload_lines.specs.Next.{nothing_declared, is_last_impatient, numbers_at, is_full, last_numbers, fields_of}
-use Rattle.sa_workload_lines.proofs.fields.InstrLemmas.{operation-fields, expected-operation}
+use Rattle.sa_workload.specs.Bad.{numbers_before, DeclaredNumbers, Field, within, declared, operand_field, fields_behind, numbers_in, number_in, last_line, count_of_word, IsTooMany}
+use Rattle.sa_workload.specs.Fields.{index_of}
+use Rattle.sa_workload.specs.Position.{Position, AtSlice, AtSpace, AtAbsent, AtInstr, AtEvict, AtTurn, Closed, shown}
+use Rattle.sa_workload.specs.Steps.{expected}
+use Rattle.sa_workload.specs.Next.{nothing_declared, is_last_impatient, numbers_at, is_full, last_numbers, fields_of}
+use Rattle.sa_workload.proofs.fields.InstrLemmas.{operation-fields, expected-operation}
 use Rattle.sa_workload.proofs.forward.Says.{reads, heard, is_patient}
-use Rattle.sa_workload_lines.proofs.forward.Sound.{by_word}
+use Rattle.sa_workload.proofs.forward.Sound.{by_word}
 use Rattle.sa_workload.proofs.forward.Standing.{IsAt}
 
 -- there are as many lines of the word as there may be

@@ -21,16 +21,16 @@ use Rattle.sa_instr.specs.Instr.{IsInRange, JumpsBelow, NamesDeclared}
 use Rattle.sa_spaces.specs.declared.workload.Evict.{Evict}
 use Rattle.sa_spaces.specs.Space.{SpaceView, IsSpace}
 use Rattle.sa_spaces.specs.Workload.{WorkloadView, IsWorkload, IsEviction, IsBefore}
-use Rattle.sa_workload_lines.specs.Text.{instr_line, program_lines, sem_line, absent_line, space_line, space_lines, evict_line, turn_line, version_of, machine_lines, closing_lines, workload_lines}
-use Rattle.sa_workload_lines.specs.Bad.{Field, within, list_lt}
-use Rattle.sa_workload_lines.specs.Fields.{and_then, order_cause, line_numbers, index_of}
-use Rattle.sa_workload_lines.specs.Position.{HeaderView, Draft, Position, AtVersion, AtSlice, AtSpaces, AtSpace, AtAbsent, AtInstr, AtEvict, AtTurn, Closed}
-use Rattle.sa_workload_lines.specs.Steps.{expected, after_sem, after_spaces, after_program, after_instr, with_program}
-use Rattle.sa_workload_lines.specs.Next.{draft_numbers, fields_of, is_full, last_numbers, last_of, evict_numbers, is_end, is_last_impatient, step, step_instr, next}
-use Rattle.sa_workload_lines.proofs.fields.FieldLemmas.{line-spelled, spelled_all, AllPass, passes-within, passes-declared}
-use Rattle.sa_workload_lines.proofs.fields.InstrLemmas.{AreSmall, IsAllowed, instr-back, numbers_of_instr, operation-expected}
-use Rattle.sa_workload_lines.proofs.forward.Fronts.{last_is, all_true, true_all}
-use Rattle.sa_workload_lines.proofs.forward.Orders.{none-order, before_evict, less_head}
+use Rattle.sa_workload.specs.Text.{instr_line, program_lines, sem_line, absent_line, space_line, space_lines, evict_line, turn_line, version_of, machine_lines, closing_lines, workload_lines}
+use Rattle.sa_workload.specs.Bad.{Field, within, list_lt}
+use Rattle.sa_workload.specs.Fields.{and_then, order_cause, line_numbers, index_of}
+use Rattle.sa_workload.specs.Position.{HeaderView, Draft, Position, AtVersion, AtSlice, AtSpaces, AtSpace, AtAbsent, AtInstr, AtEvict, AtTurn, Closed}
+use Rattle.sa_workload.specs.Steps.{expected, after_sem, after_spaces, after_program, after_instr, with_program}
+use Rattle.sa_workload.specs.Next.{draft_numbers, fields_of, is_full, last_numbers, last_of, evict_numbers, is_end, is_last_impatient, step, step_instr, next}
+use Rattle.sa_workload.proofs.fields.FieldLemmas.{line-spelled, spelled_all, AllPass, passes-within, passes-declared}
+use Rattle.sa_workload.proofs.fields.InstrLemmas.{AreSmall, IsAllowed, instr-back, numbers_of_instr, operation-expected}
+use Rattle.sa_workload.proofs.forward.Fronts.{last_is, all_true, true_all}
+use Rattle.sa_workload.proofs.forward.Orders.{none-order, before_evict, less_head}
 
 -- what a version says of the patience of all spaces, and of the slice
 pub record IsVersion (v : ℕ) (all none : Bool) : Type 0 where

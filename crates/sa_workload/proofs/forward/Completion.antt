@@ -9,15 +9,15 @@ use Rattle.sa_instr.specs.declared.instr.Instr.{Instr}
 use Rattle.sa_instr.specs.declared.instr.Instr.TheVariants.{Compute, End}
 use Rattle.sa_instr.specs.Operation.{operation_of}
 use Rattle.sa_spaces.specs.Space.{SpaceView}
-use Rattle.sa_workload_lines.specs.Text.{workload_lines}
-use Rattle.sa_workload_lines.specs.Bad.{Begins, within}
-use Rattle.sa_workload_lines.specs.Fields.{index_of, order_cause}
-use Rattle.sa_workload_lines.specs.Position.{HeaderView, Draft, Position, AtVersion, AtProcessors, AtFetch, AtSlice, AtSpaces, AtSpace, AtSem, AtAbsent, AtProgram, AtInstr, AtEvict, AtTurn, Closed, shown, IsReached}
-use Rattle.sa_workload_lines.specs.Steps.{expected, workload, space_of_draft, with_sem, with_program, after_fetch, after_sem, after_spaces, after_program, after_instr}
-use Rattle.sa_workload_lines.specs.Next.{fields_of, is_full, last_numbers, draft_from, is_last_impatient, step, next}
-use Rattle.sa_workload_lines.proofs.fields.FieldLemmas.{AllPass, passes-within}
-use Rattle.sa_workload_lines.proofs.forward.ShownStep.{shown-step}
-use Rattle.sa_workload_lines.proofs.forward.Sound.{GoesTo, took, sound}
+use Rattle.sa_workload.specs.Text.{workload_lines}
+use Rattle.sa_workload.specs.Bad.{Begins, within}
+use Rattle.sa_workload.specs.Fields.{index_of, order_cause}
+use Rattle.sa_workload.specs.Position.{HeaderView, Draft, Position, AtVersion, AtProcessors, AtFetch, AtSlice, AtSpaces, AtSpace, AtSem, AtAbsent, AtProgram, AtInstr, AtEvict, AtTurn, Closed, shown, IsReached}
+use Rattle.sa_workload.specs.Steps.{expected, workload, space_of_draft, with_sem, with_program, after_fetch, after_sem, after_spaces, after_program, after_instr}
+use Rattle.sa_workload.specs.Next.{fields_of, is_full, last_numbers, draft_from, is_last_impatient, step, next}
+use Rattle.sa_workload.proofs.fields.FieldLemmas.{AllPass, passes-within}
+use Rattle.sa_workload.proofs.forward.ShownStep.{shown-step}
+use Rattle.sa_workload.proofs.forward.Sound.{GoesTo, took, sound}
 use Rattle.sa_workload.proofs.forward.Complete.{take-line, space_pass}
 
 -- lines that begin a text, begin it with fewer of them

@@ -7,14 +7,14 @@ use Rattle.sa_instr.specs.declared.limits.TheConstants.{LAST_PAGE, MAX_INSTRUCTI
 use Rattle.sa_spaces.specs.declared.workload.Evict.{Evict}
 use Rattle.sa_spaces.specs.Space.{SpaceView}
 use Rattle.sa_lemmas.proofs.Booleans.{if_either}
-use Rattle.sa_workload_lines.specs.Bad.{is_ordered, numbers_before, Begins, MayFollow, IsRightWord, instr_words, first_word, last_line}
-use Rattle.sa_workload_lines.specs.Fields.{index_of, order_cause}
-use Rattle.sa_workload_lines.specs.Position.{HeaderView, Draft, Position, AtAbsent, AtInstr, AtEvict, AtTurn, Closed, shown}
-use Rattle.sa_workload_lines.specs.Steps.{expected, workload}
-use Rattle.sa_workload_lines.specs.Next.{fields_of, is_full, last_numbers, last_of, evict_numbers, step, next}
-use Rattle.sa_workload_lines.proofs.fields.FieldLemmas.{contained, spelled_all, AllPass, passes-within, passes-declared}
-use Rattle.sa_workload_lines.proofs.forward.Fronts.{last_is}
-use Rattle.sa_workload_lines.proofs.forward.Sound.{by_word, took}
+use Rattle.sa_workload.specs.Bad.{is_ordered, numbers_before, Begins, MayFollow, IsRightWord, instr_words, first_word, last_line}
+use Rattle.sa_workload.specs.Fields.{index_of, order_cause}
+use Rattle.sa_workload.specs.Position.{HeaderView, Draft, Position, AtAbsent, AtInstr, AtEvict, AtTurn, Closed, shown}
+use Rattle.sa_workload.specs.Steps.{expected, workload}
+use Rattle.sa_workload.specs.Next.{fields_of, is_full, last_numbers, last_of, evict_numbers, step, next}
+use Rattle.sa_workload.proofs.fields.FieldLemmas.{contained, spelled_all, AllPass, passes-within, passes-declared}
+use Rattle.sa_workload.proofs.forward.Fronts.{last_is}
+use Rattle.sa_workload.proofs.forward.Sound.{by_word, took}
 use Rattle.sa_workload.proofs.forward.Says.{ordered-Decides}
 use Rattle.sa_workload.proofs.forward.Complete.{take-line}
 use Rattle.sa_workload.proofs.forward.Completion.{left, Nearer, nearer}

@@ -21,13 +21,13 @@ use Rattle.sa_instr.specs.Parts.{parts_of}
 use Rattle.sa_instr.specs.declared.limits.TheConstants.{LAST_PAGE}
 use Rattle.sa_spaces.specs.Space.{SpaceView}
 use Rattle.sa_spaces.specs.Workload.{IsEviction}
-use Rattle.sa_workload_lines.specs.Text.{operand_word, instr_line, space_line, evict_line}
-use Rattle.sa_workload_lines.specs.Bad.{ordered_words, is_ordered, numbers_before, first_word, last_line, last_with, count_of_word, number_in, numbers_of}
-use Rattle.sa_workload_lines.specs.Position.{HeaderView, Draft, Position, AtVersion, AtProcessors, AtFetch, AtSlice, AtSpaces, AtSpace, AtSem, AtAbsent, AtProgram, AtInstr, AtEvict, AtTurn, Closed, IsReached, version_line, processors_line, fetch_line, spaces_line, draft_line}
-use Rattle.sa_workload_lines.specs.Steps.{Steps, step_version, step_processors, step_fetch, step_slice, step_spaces, step_space, step_sem, step_absent, step_first_program, step_program, step_instr, step_evict, step_first_turn, step_turn, step_first_close, step_close, program_line, space_of_draft, with_sem, with_program, after_sem, after_instr, after_spaces, after_program}
-use Rattle.sa_workload_lines.specs.Next.{last_of, evict_numbers}
-use Rattle.sa_workload_lines.proofs.fields.FieldLemmas.{contained, known_word}
-use Rattle.sa_workload_lines.proofs.forward.Fronts.{last_of-push, All-last}
+use Rattle.sa_workload.specs.Text.{operand_word, instr_line, space_line, evict_line}
+use Rattle.sa_workload.specs.Bad.{ordered_words, is_ordered, numbers_before, first_word, last_line, last_with, count_of_word, number_in, numbers_of}
+use Rattle.sa_workload.specs.Position.{HeaderView, Draft, Position, AtVersion, AtProcessors, AtFetch, AtSlice, AtSpaces, AtSpace, AtSem, AtAbsent, AtProgram, AtInstr, AtEvict, AtTurn, Closed, IsReached, version_line, processors_line, fetch_line, spaces_line, draft_line}
+use Rattle.sa_workload.specs.Steps.{Steps, step_version, step_processors, step_fetch, step_slice, step_spaces, step_space, step_sem, step_absent, step_first_program, step_program, step_instr, step_evict, step_first_turn, step_turn, step_first_close, step_close, program_line, space_of_draft, with_sem, with_program, after_sem, after_instr, after_spaces, after_program}
+use Rattle.sa_workload.specs.Next.{last_of, evict_numbers}
+use Rattle.sa_workload.proofs.fields.FieldLemmas.{contained, known_word}
+use Rattle.sa_workload.proofs.forward.Fronts.{last_of-push, All-last}
 
 -- a number reads back
 pub reads : (n : ℕ) → n < 2 ^ 64 → digits_value 10 (decimal n) ≡ n

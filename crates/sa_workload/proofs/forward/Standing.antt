@@ -11,17 +11,17 @@ use Rattle.sa_instr.specs.declared.operation.Operation.TheVariants as Operations
 use Rattle.sa_instr.specs.Operation.{form_of}
 use Rattle.sa_instr.specs.Parts.{parts_of}
 use Rattle.sa_spaces.specs.Workload.{WorkloadView, IsWorkload}
-use Rattle.sa_workload_lines.specs.Text.{version_of, workload_lines}
-use Rattle.sa_workload_lines.specs.Bad.{IsUpTo, Begins, MayFollow, IsRightWord, instr_words, repeated_words, first_word, last_line}
-use Rattle.sa_workload_lines.specs.Fields.{and_then, index_of}
-use Rattle.sa_workload_lines.specs.Position.{Position, AtVersion, AtInstr, Closed, IsReached, shown}
-use Rattle.sa_workload_lines.specs.Steps.{Steps, expected, step_absent, step_instr, step_evict, step_first_turn, step_turn}
-use Rattle.sa_workload_lines.specs.Next.{next}
-use Rattle.sa_workload_lines.proofs.fields.FieldLemmas.{contained, and_then-ok, known_word}
-use Rattle.sa_workload_lines.proofs.forward.ShownStep.{shown-step}
+use Rattle.sa_workload.specs.Text.{version_of, workload_lines}
+use Rattle.sa_workload.specs.Bad.{IsUpTo, Begins, MayFollow, IsRightWord, instr_words, repeated_words, first_word, last_line}
+use Rattle.sa_workload.specs.Fields.{and_then, index_of}
+use Rattle.sa_workload.specs.Position.{Position, AtVersion, AtInstr, Closed, IsReached, shown}
+use Rattle.sa_workload.specs.Steps.{Steps, expected, step_absent, step_instr, step_evict, step_first_turn, step_turn}
+use Rattle.sa_workload.specs.Next.{next}
+use Rattle.sa_workload.proofs.fields.FieldLemmas.{contained, and_then-ok, known_word}
+use Rattle.sa_workload.proofs.forward.ShownStep.{shown-step}
 use Rattle.sa_workload.proofs.forward.Completion.{completes}
 use Rattle.sa_workload.proofs.forward.Says.{Heard, heard, heard-push, Says, says-next, last_line-push}
-use Rattle.sa_workload_lines.proofs.forward.Sound.{took, GoesTo, sound}
+use Rattle.sa_workload.proofs.forward.Sound.{took, GoesTo, sound}
 use Rattle.sa_workload.proofs.forward.Complete.{version_is, run, run-append, run-then, complete}
 
 -- after a line with one of the repeated words the word is expected again

@@ -7,8 +7,8 @@ use Rattle.std.proofs.lemmas.Option.{slice_get_past, slice_get_within, slice_get
 use Rattle.sa_spaces.specs.Workload.{WorkloadView, IsWorkload}
 use Rattle.sa_text.specs.LineText.{LineText, ended_line, line_texts}
 use Rattle.sa_text.specs.Pieces.{pieces_of}
-use Rattle.sa_workload_lines.specs.Text.{workload_lines, text_of}
-use Rattle.sa_workload_lines.specs.Bad.{IsUpTo, IsTooMany, field_cause, fields_behind, WordCause, Begins, LineCause, words_of, IsBad}
+use Rattle.sa_workload.specs.Text.{workload_lines, text_of}
+use Rattle.sa_workload.specs.Bad.{IsUpTo, IsTooMany, field_cause, fields_behind, WordCause, Begins, LineCause, words_of, IsBad}
 use Rattle.sa_workload.specs.Laws.{TextsDiffer}
 use Rattle.sa_workload.proofs.forward.Completion.{begins_front}
 use Rattle.sa_workload.proofs.forward.Standing.{lines-injective}

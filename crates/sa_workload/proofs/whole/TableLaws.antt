@@ -12,19 +12,19 @@ use Rattle.std.proofs.lemmas.List.{length-map}
 use Rattle.std.proofs.lemmas.List.Elements.{All-map}
 use Rattle.sa_lemmas.proofs.Results.{same-ok}
 use Rattle.sa_instr.specs.Parts.{parts_of}
-use Rattle.sa_workload_lines.specs.Text.{instr_line}
-use Rattle.sa_workload_lines.specs.Bad.{ordered_words, is_ordered, first_word, Begins, MayFollow, IsRightWord, IsTooMany, Field, Register, Number, list_lt, numbers_of, instr_words, last_line, fields_behind, fields_by, DeclaredNumbers}
+use Rattle.sa_workload.specs.Text.{instr_line}
+use Rattle.sa_workload.specs.Bad.{ordered_words, is_ordered, first_word, Begins, MayFollow, IsRightWord, IsTooMany, Field, Register, Number, list_lt, numbers_of, instr_words, last_line, fields_behind, fields_by, DeclaredNumbers}
 use Rattle.sa_workload.specs.Laws.{IsFirstWrong, AreRight, IsInOrder, IsFirstWrongPlace, IsFree, FirstWrongWords, IsLastPlace, LastCauseIsNoEnd}
-use Rattle.sa_workload_lines.specs.Fields.{and_then, index_of, order_cause, read_field, fields_at}
-use Rattle.sa_workload_lines.specs.Position.{Position, AtVersion, AtInstr, Closed, shown, shown_spaces, shown_draft}
-use Rattle.sa_workload_lines.specs.Steps.{expected}
-use Rattle.sa_workload_lines.specs.Next.{numbers_at, is_full, last_numbers, fields_of, next}
-use Rattle.sa_workload_lines.proofs.fields.FieldLemmas.{and_then-ok, and_then-err, contained, spelled_all, AllPass, read-ok, behind, fields-ok, fields-spelled, all_long}
-use Rattle.sa_workload_lines.proofs.fields.InstrLemmas.{operation-expected}
+use Rattle.sa_workload.specs.Fields.{and_then, index_of, order_cause, read_field, fields_at}
+use Rattle.sa_workload.specs.Position.{Position, AtVersion, AtInstr, Closed, shown, shown_spaces, shown_draft}
+use Rattle.sa_workload.specs.Steps.{expected}
+use Rattle.sa_workload.specs.Next.{numbers_at, is_full, last_numbers, fields_of, next}
+use Rattle.sa_workload.proofs.fields.FieldLemmas.{and_then-ok, and_then-err, contained, spelled_all, AllPass, read-ok, behind, fields-ok, fields-spelled, all_long}
+use Rattle.sa_workload.proofs.fields.InstrLemmas.{operation-expected}
 use Rattle.sa_workload.proofs.causes.Causes.{is_stuck, Leads, step-leads}
 use Rattle.sa_workload.proofs.forward.Completion.{begins_front}
-use Rattle.sa_workload_lines.proofs.forward.Orders.{none-order}
-use Rattle.sa_workload_lines.proofs.forward.Sound.{by_word, Took, took}
+use Rattle.sa_workload.proofs.forward.Orders.{none-order}
+use Rattle.sa_workload.proofs.forward.Sound.{by_word, Took, took}
 use Rattle.sa_workload.proofs.forward.Complete.{complete, take-line, run, run-append}
 use Rattle.sa_workload.proofs.causes.LineAt.{many-Decides, LineAt, line_at}
 use Rattle.sa_workload.proofs.forward.Says.{reads, ordered-Decides}

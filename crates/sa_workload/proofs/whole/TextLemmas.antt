@@ -13,14 +13,14 @@ use Rattle.sa_text.proofs.LineLemmas.{line_texts-printed, line_texts-joined}
 use Rattle.sa_text.proofs.PieceLemmas.{pieces_of-spaced}
 use Rattle.sa_text.proofs.Spelling.{decimal-is_spelling}
 use Rattle.sa_lemmas.proofs.Texts.{join-spaced}
-use Rattle.sa_workload_lines.specs.Text.{workload_lines, line_text, text_of}
-use Rattle.sa_workload_lines.specs.Bad.{IsPrinted, words_of, Field, Register, Number}
-use Rattle.sa_workload_lines.specs.Fields.{index_of}
-use Rattle.sa_workload_lines.specs.Position.{Position, AtVersion, Closed}
-use Rattle.sa_workload_lines.specs.Steps.{expected}
-use Rattle.sa_workload_lines.specs.Next.{next, fields_of}
-use Rattle.sa_workload_lines.proofs.fields.FieldLemmas.{and_then-ok, contained, spelled, Passes, spelled_all, AllPass}
-use Rattle.sa_workload_lines.proofs.forward.Sound.{took}
+use Rattle.sa_workload.specs.Text.{workload_lines, line_text, text_of}
+use Rattle.sa_workload.specs.Bad.{IsPrinted, words_of, Field, Register, Number}
+use Rattle.sa_workload.specs.Fields.{index_of}
+use Rattle.sa_workload.specs.Position.{Position, AtVersion, Closed}
+use Rattle.sa_workload.specs.Steps.{expected}
+use Rattle.sa_workload.specs.Next.{next, fields_of}
+use Rattle.sa_workload.proofs.fields.FieldLemmas.{and_then-ok, contained, spelled, Passes, spelled_all, AllPass}
+use Rattle.sa_workload.proofs.forward.Sound.{took}
 use Rattle.sa_workload.proofs.forward.Complete.{run, complete}
 use Rattle.sa_workload.proofs.forward.Standing.{version_of-le}
 

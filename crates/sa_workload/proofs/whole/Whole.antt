@@ -16,17 +16,17 @@ use Rattle.sa_spaces.specs.Workload.{WorkloadView}
 use Rattle.sa_text.specs.LineText.{LineText, line_texts}
 use Rattle.sa_text.specs.Pieces.{pieces_of}
 use Rattle.sa_text.proofs.PieceLemmas.{pieces_of-are_pieces}
-use Rattle.sa_workload_lines.specs.Text.{workload_lines, IsText, IsText1}
+use Rattle.sa_workload.specs.Text.{workload_lines, IsText, IsText1}
 use Rattle.sa_workload.specs.Answer.{IfBad}
-use Rattle.sa_workload_lines.specs.Bad.{IsUpTo, Begins, IsPrinted, LineCause, WordCause, IsBad, BadAt, BadAt1, words_of}
-use Rattle.sa_workload_lines.specs.Position.{Position, AtVersion, Closed, IsReached, shown}
-use Rattle.sa_workload_lines.specs.Next.{next}
+use Rattle.sa_workload.specs.Bad.{IsUpTo, Begins, IsPrinted, LineCause, WordCause, IsBad, BadAt, BadAt1, words_of}
+use Rattle.sa_workload.specs.Position.{Position, AtVersion, Closed, IsReached, shown}
+use Rattle.sa_workload.specs.Next.{next}
 use Rattle.sa_text.specs.Pieces.{is_printed}
 use Rattle.sa_lemmas.proofs.Booleans.{if_either}
 use Rattle.sa_workload.specs.Reading.{line_in, finished, after_line, read_from, read_of, IsReading}
-use Rattle.sa_workload_lines.proofs.fields.FieldLemmas.{same_err}
+use Rattle.sa_workload.proofs.fields.FieldLemmas.{same_err}
 use Rattle.sa_workload.proofs.forward.Standing.{IsAt, Setting, any, alone, of_any, of_first, is_first, at_first, at_next, begins, whole_lines}
-use Rattle.sa_workload_lines.proofs.forward.Sound.{took, sound}
+use Rattle.sa_workload.proofs.forward.Sound.{took, sound}
 use Rattle.sa_workload.proofs.causes.Causes.{word_cause, refused}
 use Rattle.sa_workload.proofs.whole.TextLemmas.{IsWords, workload-words, join-printed, text_of-from_words}
 use Rattle.sa_workload.proofs.whole.OneBad.{one-bad, text-not_bad, texts_differ}

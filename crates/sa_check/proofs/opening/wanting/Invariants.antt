@@ -2,7 +2,7 @@ use Rattle.std.proofs.Common.{◌≡◌, map}
 use Rattle.sa_assign.specs.Reaim.{proc_no}
 use Rattle.sa_laws.specs.Closing.{want_one}
 use Rattle.sa_laws.specs.History.{after_records}
-use Rattle.sa_check_moment.specs.declared.rules.Rules.TheVariants.{FastThreads}
+use Rattle.sa_base.specs.declared.package.RulesName.TheVariants.{FastThreads}
 use Rattle.sa_check_moment.specs.Seen.{seen}
 use Rattle.sa_check.specs.Wanting.{wanting}
 use Rattle.sa_check.proofs.EachLemmas.{from}

@@ -4,7 +4,7 @@ use Rattle.sa_base.specs.declared.refusal.Unread.{Unread}
 use Rattle.sa_trace.specs.declared.line.Said.{Said}
 use Rattle.sa_trace.specs.declared.line.Said.TheVariants.{Next}
 use Rattle.sa_trace.specs.Reader.{left, in_front, with_said}
-use Rattle.sa_check_moment.specs.Rules.{rules_of}
+use Rattle.sa_ranks.specs.Packages.{rules_named}
 use Rattle.sa_check_moment.specs.Seen.{Seen, seen, event}
 use Rattle.sa_check.specs.declared.judge.Judged.{Judged}
 use Rattle.sa_check.specs.declared.judge.Judged.TheVariants as judged_as
@@ -46,7 +46,7 @@ loop-said-preserved c =
     record {
       rules = ap (λ (s : Seen). s.rules) right.next ∙ c.loop-said.invariant.rules;
       workload = ap (λ (s : Seen). s.workload) right.next ∙ c.loop-said.invariant.workload;
-      settled = subst (λ (s : Seen). WasSettled s.workload s.readings) (sym right.next) (settled-next (rules_of m.rules) m.workload m.readings e last right.holds);
+      settled = subst (λ (s : Seen). WasSettled s.workload s.readings) (sym right.next) (settled-next (rules_named m.rules) m.workload m.readings e last right.holds);
       calm = stands.calm;
       rest = λ a comes. c.loop-said.invariant.rest a
           (subst (λ (s : Said). Comes c.args.rules w m.readings (with_said s before) a) (sym c.in-Next.is)
@@ -69,7 +69,7 @@ returns-in-Ok-Broken c =
     subst (λ (j : Judged). Judges m (event item.event item.proc c.deref.result.now) last j) c.in-Ok-Broken.field-0-is c.in-Ok-Broken.ensures in
     let breaks = subst (λ (rs : List Record). Judges m (event item.event item.proc rs) last (judged_as.Broken rule)) c.deref.ensures.value here in
     let has = c.in-Ok.ensures.gathers in
-    subst (λ (one : Result Verdict Unread). IsChecked (rules_of c.args.rules) w whole one) (sym c.unless_bad.ensures)
+    subst (λ (one : Result Verdict Unread). IsChecked (rules_named c.args.rules) w whole one) (sym c.unless_bad.ensures)
     (break-found c.args.rules w m.readings (with_said (Next item) before) (with_said c.in-Ok.next after) c.args.first (left c.args.reader.now) (Broken item.event rule)
     (broken-event c.args.rules w m item before after records c.in-Ok.next last rule has c.loop-said.invariant.rules c.loop-said.invariant.workload c.last_told.ensures breaks)
     (λ bad is. bad-event c.args.rules w m.readings item before after records c.in-Ok.next bad has is)
@@ -83,7 +83,7 @@ returns-in-Err-judge_records c =
     let before = left c.loop-said.reader in
     let after = left c.gather.new.reader in
     let whole = in_front (c.args.first ∷ []) (left c.args.reader.now) in
-    subst (λ (one : Result Verdict Unread). IsChecked (rules_of c.args.rules) w whole one) (sym c.unless_bad-in-Err-judge_records.ensures)
+    subst (λ (one : Result Verdict Unread). IsChecked (rules_named c.args.rules) w whole one) (sym c.unless_bad-in-Err-judge_records.ensures)
     (none-found c.args.rules w r (with_said (Next item) before) (with_said c.in-Ok.next after) whole
     (λ bad is. bad-event c.args.rules w r item before after c.gather.new.records.items c.in-Ok.next bad c.in-Ok.ensures.gathers is)
     (λ a comes. c.loop-said.invariant.rest a (subst (λ (s : Said). Comes c.args.rules w r (with_said s before) a) (sym c.in-Next.is) comes)))

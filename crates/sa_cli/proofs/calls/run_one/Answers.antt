@@ -3,15 +3,14 @@ use Rattle.sa_command.specs.declared.command.Command.TheVariants.{Run, Load, Mig
 use Rattle.sa_cli.specs.declared.outcome.Status.{Status}
 use Rattle.sa_cli.specs.Outcome.{RanHere}
 use Rattle.sa_cli.specs.Streams.{UsesStreams, streams, world_by}
-use Rattle.sa_cli.specs.Commands.{MigrateAnswers, CheckAnswers}
-use Rattle.sa_cli.specs.Packages.{rules_by}
+use Rattle.sa_cli.specs.Commands.{MigrateAnswers, CheckAnswers, SearchesNothing}
 use Rattle.sa_cli.specs.Exploring.{ExploreAnswers}
 use Rattle.sa_cli.proofs.TopCalls.{does-along, does, does-nothing}
 use Rattle.sa_io.proofs.InputLemmas.{loses-nothing}
 use Rattle.sa_cli.proofs.calls.run_one.Goals as goal
 
-pub returns-in-None : goal.returns-in-None
-returns-in-None g c = does-along _ _ (sym c.in-None.is) (does-nothing (search rules) (search rules))
+pub returns-in-None-clause-does : goal.returns-in-None-clause-does
+returns-in-None-clause-does g c = does-along _ _ (sym c.in-None.is) (does-nothing (search rules) (search rules))
 
 pub run_text-requires : goal.run_text-requires
 run_text-requires g c =
@@ -19,8 +18,8 @@ run_text-requires g c =
     let range = c.requires.range (Run run.schedule run.budget run.user_level) (run.is ∙ ap Some (rw run.is at run.field-0-is)) in
     record { some = range.least; few = range.most }
 
-pub returns-in-Some-Run : goal.returns-in-Some-Run
-returns-in-Some-Run g c =
+pub returns-in-Some-Run-clause-does : goal.returns-in-Some-Run-clause-does
+returns-in-Some-Run-clause-does g c =
     let run = c.in-Some-Run in
     let said = c.run_text.ensures in
     does-along _ _ (sym (run.is ∙ ap Some (rw run.is at run.field-0-is)))
@@ -32,8 +31,8 @@ run_generated-requires g c =
     let range = c.requires.range (Load load.number load.budget) (load.is ∙ ap Some (rw load.is at load.field-0-is)) in
     record { some = range.least; few = range.most }
 
-pub returns-in-Some-Load : goal.returns-in-Some-Load
-returns-in-Some-Load g c =
+pub returns-in-Some-Load-clause-does : goal.returns-in-Some-Load-clause-does
+returns-in-Some-Load-clause-does g c =
     let load = c.in-Some-Load in
     let said = c.run_generated.ensures in
     let left = g.S.Source.left c.args.source.now in
@@ -47,8 +46,8 @@ pub migrate-requires : goal.migrate-requires
 migrate-requires g c =
     let migrates = c.in-Some-Migrate in (c.requires.range (Migrate migrates.slice) (migrates.is ∙ ap Some (rw migrates.is at migrates.field-0-is))).most
 
-pub returns-in-Some-Migrate : goal.returns-in-Some-Migrate
-returns-in-Some-Migrate g c =
+pub returns-in-Some-Migrate-clause-does : goal.returns-in-Some-Migrate-clause-does
+returns-in-Some-Migrate-clause-does g c =
     let told = world_by g.S.Source.left g.K.Sink.taken g.S.Source.faults g.K.Sink.faults in
     let migrates = c.in-Some-Migrate in
     let said = c.migrate.ensures in
@@ -59,8 +58,8 @@ returns-in-Some-Migrate g c =
     (does (Migrate migrates.slice) (subst RanHere (sym outcome.ran) tt) (λ load. absurd load) (subst (UsesStreams _ _ _ _) (sym outcome.status) said.uses)
     (outcome.ran, subst (λ (v : Status). MigrateAnswers migrates.slice before after v) (sym outcome.status) said.answers))
 
-pub returns-in-Some-Check : goal.returns-in-Some-Check
-returns-in-Some-Check g c =
+pub returns-in-Some-Check-clause-does : goal.returns-in-Some-Check-clause-does
+returns-in-Some-Check-clause-does g c =
     let told = world_by g.S.Source.left g.K.Sink.taken g.S.Source.faults g.K.Sink.faults in
     let checks = c.in-Some-Check in
     let said = c.check_texts.ensures in
@@ -68,8 +67,8 @@ returns-in-Some-Check g c =
     let before = told (streams c.args.source.now c.args.sink.now) in
     let after = told (streams c.check_texts.new.source c.check_texts.new.sink) in
     does-along _ _ (sym (checks.is ∙ ap Some (rw checks.is at checks.field-0-is)))
-    (does (Check checks.user_level) (subst RanHere (sym outcome.ran) tt) (λ load. absurd load) (subst (UsesStreams _ _ _ _) (sym outcome.status) said.uses)
-    (outcome.ran, subst (λ (v : Status). CheckAnswers (rules_by checks.user_level) before after v) (sym outcome.status) said.answers))
+    (does (Check checks.rules) (subst RanHere (sym outcome.ran) tt) (λ load. absurd load) (subst (UsesStreams _ _ _ _) (sym outcome.status) said.uses)
+    (outcome.ran, subst (λ (v : Status). CheckAnswers checks.rules before after v) (sym outcome.status) said.answers))
 
 pub run_virtual-requires : goal.run_virtual-requires
 run_virtual-requires g c =
@@ -77,8 +76,8 @@ run_virtual-requires g c =
     let range = c.requires.range (Vp vp.schedule vp.budget) (vp.is ∙ ap Some (rw vp.is at vp.field-0-is)) in
     record { some = range.least; few = range.most }
 
-pub returns-in-Some-Vp : goal.returns-in-Some-Vp
-returns-in-Some-Vp g c =
+pub returns-in-Some-Vp-clause-does : goal.returns-in-Some-Vp-clause-does
+returns-in-Some-Vp-clause-does g c =
     let vp = c.in-Some-Vp in
     let said = c.run_virtual.ensures in
     does-along _ _ (sym (vp.is ∙ ap Some (rw vp.is at vp.field-0-is)))
@@ -90,8 +89,8 @@ debug_texts-requires g c =
     let range = c.requires.range (Debug debug.budget) (debug.is ∙ ap Some (rw debug.is at debug.field-0-is)) in
     record { some = range.least; few = range.most }
 
-pub returns-in-Some-Debug : goal.returns-in-Some-Debug
-returns-in-Some-Debug g c =
+pub returns-in-Some-Debug-clause-does : goal.returns-in-Some-Debug-clause-does
+returns-in-Some-Debug-clause-does g c =
     let debug = c.in-Some-Debug in
     let said = c.debug_texts.ensures in
     does-along _ _ (sym (debug.is ∙ ap Some (rw debug.is at debug.field-0-is)))
@@ -104,8 +103,8 @@ explore_text-requires g c =
     c.requires.range (Explore explores.states explores.user_level explores.give) (explores.is ∙ ap Some (rw explores.is at explores.field-0-is)) in
     record { some = range.least; few = range.most }
 
-pub returns-in-Some-Explore : goal.returns-in-Some-Explore
-returns-in-Some-Explore g c =
+pub returns-in-Some-Explore-clause-does : goal.returns-in-Some-Explore-clause-does
+returns-in-Some-Explore-clause-does g c =
     let told = world_by g.S.Source.left g.K.Sink.taken g.S.Source.faults g.K.Sink.faults in
     let explores = c.in-Some-Explore in
     let said = c.explore_text.ensures in
@@ -116,3 +115,8 @@ returns-in-Some-Explore g c =
     (does (Explore explores.states explores.user_level explores.give) (subst RanHere (sym outcome.ran) tt) (λ load. absurd load)
     (subst (UsesStreams _ _ _ _) (sym outcome.status) said.uses)
     (outcome.ran, subst (λ (v : Status). ExploreAnswers explores.states explores.user_level explores.give before after v) (sym outcome.status) said.answers))
+
+-- `explore` searches
+pub returns-in-Some-Explore-clause-untold : goal.returns-in-Some-Explore-clause-untold
+returns-in-Some-Explore-clause-untold g c = λ none.
+    let explores = c.in-Some-Explore in absurd (subst SearchesNothing (explores.is ∙ ap Some (rw explores.is at explores.field-0-is)) none)

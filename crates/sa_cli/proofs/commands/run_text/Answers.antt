@@ -1,6 +1,6 @@
 use Rattle.std.proofs.Common.{◌≡◌, ◌⊎◌, [], subst}
 use Rattle.sa_sched.specs.Order.{Order}
-use Rattle.sa_workload_lines.specs.Text.{IsText}
+use Rattle.sa_workload.specs.Text.{IsText}
 use Rattle.sa_run.specs.Run.{RunsTo, RunsUnended}
 use Rattle.sa_cli.specs.Packages.{runs_of}
 use Rattle.sa_cli.specs.Schedules.{order_by}

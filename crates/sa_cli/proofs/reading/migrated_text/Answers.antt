@@ -1,5 +1,5 @@
 use Rattle.std.proofs.Common.{arith, ap, ◌∙◌, inl}
-use Rattle.sa_workload_lines.specs.Bad.{BadAt1}
+use Rattle.sa_workload.specs.Bad.{BadAt1}
 use Rattle.sa_input.specs.declared.limits.TheConstants.{WORKLOAD_LIMIT}
 use Rattle.sa_input.specs.Refusals.{too_long}
 use Rattle.sa_cli.proofs.Refusals.{read-refused}

@@ -1,5 +1,5 @@
 use Rattle.std.proofs.Common.{List, ℕ, subst}
-use Rattle.sa_workload_lines.specs.Bad.{BadAt}
+use Rattle.sa_workload.specs.Bad.{BadAt}
 use Rattle.sa_workload.specs.Answer.{IfBad}
 use Rattle.sa_input.specs.Refusals.{IsInputRefused}
 use Rattle.sa_cli.proofs.Refusals.{unread-refused}

@@ -2,7 +2,8 @@ use Rattle.std.proofs.Common.{◌≡◌, ℕ, ◌-◌, None, sym, ap, ◌∙◌,
 use Rattle.sa_base.specs.declared.limits.TheConstants.{MAX_EVENTS}
 use Rattle.sa_core_model.specs.End.{end_of}
 use Rattle.sa_core.specs.View.{machine}
-use Rattle.sa_explore.proofs.Replays.{none-of, ended-not, ready-on}
+use Rattle.sa_explore_runs.proofs.Ends.{ended-not}
+use Rattle.sa_explore.proofs.Replays.{none-of, ready-on}
 use Rattle.sa_explore.proofs.ahead.look_ahead.Goals as goal
 
 pub make_turn-requires-clause-goes : goal.make_turn-requires-clause-goes

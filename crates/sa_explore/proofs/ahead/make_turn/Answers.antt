@@ -5,7 +5,7 @@ use Rattle.sa_base.specs.declared.limits.TheConstants.{MAX_EVENTS}
 use Rattle.sa_core_model.specs.End.{end_of}
 use Rattle.sa_core.specs.View.{machine}
 use Rattle.sa_explore_model.specs.declared.answer.State.{State}
-use Rattle.sa_explore.proofs.Replays.{not-ended}
+use Rattle.sa_explore_runs.proofs.Ends.{not-ended}
 use Rattle.sa_explore.proofs.ahead.make_turn.Goals as goal
 
 pub turn-requires-clause-not_ended : goal.turn-requires-clause-not_ended

@@ -34,8 +34,7 @@ loop-made-preserved g c =
     let level = (g.met.U.UserLevel g.world.𝓛 g.world.𝓜 g.world.𝓡 ((λ s x. x), (λ x. x), (λ x. x), λ x. x)) in
     let keyed = (g.met.U.Keyed g.world.𝓛 g.world.𝓜 g.world.𝓡 ((λ s x. x), (λ x. x), (λ x. x), λ x. x)) in
     let none : end_of g.U.UserLevel.calls c.loop-made.core.budget (machine c.loop-made.core) ≡ None = sym c.end.ensures ∙ none-of c.end.result (c.is_none.ensures ∙ ap not c.if-is_none.true) in
-    let ready : IsReady g.U.UserLevel.calls g.U.Keyed.plain g.U.Keyed.is_made keyed.ignores_numbers g.U.UserLevel.stands level.keeps c.args.workload.now c.ranges-2.ensures (machine c.loop-made.core)
-    (get_or c.turns-turns.result.now c.loop-made.made (record { 0 = 0 })) =
+    let ready : IsReady g.U.UserLevel.calls (machine c.loop-made.core) (get_or c.turns-turns.result.now c.loop-made.made (record { 0 = 0 })) =
     ready-first g.U.UserLevel.calls g.U.Keyed.plain g.U.Keyed.is_made keyed.ignores_numbers g.U.UserLevel.stands level.keeps c.args.workload.now c.ranges-2.ensures c.turns-turns.result.now c.loop-made.made (record { 0 = 0 })
     (machine c.loop-made.core)
     c.loop-made-test.true (let few = c.turns-turns.ensures.few in omega arith) (c.turns-turns.ensures.range c.loop-made.made (record { 0 = 0 }) c.loop-made-test.true)
@@ -43,7 +42,7 @@ loop-made-preserved g c =
     (ap (λ (n : ℕ). end_of g.U.UserLevel.calls n (machine c.loop-made.core)) (sym c.loop-made.invariant.budget) ∙ none) in
     record {
       within = (let below = c.loop-made-test.true in omega arith);
-      leads = more-at g.U.UserLevel.calls g.U.Keyed.plain g.U.Keyed.is_made keyed.ignores_numbers g.U.UserLevel.stands level.keeps c.args.workload.now c.ranges-2.ensures c.turns-turns.result.now c.loop-made.made (record { 0 = 0 }) (machine c.loop-made.core)
+      leads = more-at g.U.UserLevel.calls c.args.workload.now c.turns-turns.result.now c.loop-made.made (record { 0 = 0 }) (machine c.loop-made.core)
           (machine c.turn.new.self) c.loop-made-test.true c.loop-made.invariant.leads ready c.in_ok-turn.ensures.ok;
       budget = c.turn.ensures.budget ∙ c.loop-made.invariant.budget;
     }

@@ -1,7 +1,8 @@
 use Rattle.std.proofs.Common.{Option, sym, subst}
 use Rattle.std.specs.Prelude.{IfSome}
 use Rattle.sa_explore_model.specs.declared.answer.Found.{Found}
-use Rattle.sa_explore_run.specs.Behind.{CanBeRun, LeadToStuck}
+use Rattle.sa_explore_runs.specs.Runs.{CanBeRun}
+use Rattle.sa_explore_run.specs.Behind.{LeadToStuck}
 use Rattle.sa_explore_run.specs.Answer.{AreStuckWaits}
 use Rattle.sa_explore_run.proofs.Schedules.{stuck-run, stuck-end, are-within}
 use Rattle.sa_explore_run.proofs.run.search.Goals as goal

@@ -2,7 +2,7 @@ use Rattle.std.proofs.Common.{List, length, sym, subst, ◌∙◌}
 use Rattle.sa_base.specs.declared.record.Item.{Item}
 use Rattle.sa_laws.specs.State.{opening_state}
 use Rattle.sa_debug.specs.Reached.{CanPlay}
-use Rattle.sa_explore_run.proofs.Running.{lead-reaches}
+use Rattle.sa_explore_run.proofs.Reaching.{lead-reaches}
 use Rattle.sa_explore_run.proofs.waiting.waits_behind.Goals as goal
 
 pub replayed-requires : goal.replayed-requires

@@ -1,9 +1,9 @@
 use Rattle.std.proofs.Common.{ℕ, List, subst}
 use Rattle.sa_lemmas.proofs.Results.{err_along}
-use Rattle.sa_workload_lines.specs.Bad.{BadAt}
-use Rattle.sa_workload_lines.specs.Text.{IsText}
+use Rattle.sa_workload.specs.Bad.{BadAt}
+use Rattle.sa_workload.specs.Text.{IsText}
 use Rattle.sa_workload.specs.Answer.{IfBad}
-use Rattle.sa_workload_lines.specs.Texts.{workload_part}
+use Rattle.sa_workload.specs.Texts.{workload_part}
 use Rattle.sa_base.specs.declared.refusal.Unread.{Unread}
 use Rattle.sa_input.specs.Refusals.{IsInputRefused}
 use Rattle.sa_input.proofs.parts.parts_of.Goals as goal

@@ -1,19 +1,19 @@
 use Rattle.std.proofs.Common.{sym, ◌∙◌, ap, Some, None}
 use Rattle.sa_check_moment.specs.Seen.{Seen, seen}
-use Rattle.sa_page.specs.Advance.{told}
+use Rattle.sa_check.specs.Items.{told_event}
 use Rattle.sa_page.proofs.AdvanceLemmas.{no-own, no-closing, at-end, advanced, read-own, read-closing}
 use Rattle.sa_page.proofs.advance.advance.Goals as goal
 
 pub returns-in_default : goal.returns-in_default
 returns-in_default c =
-    let e = told c.args.event.now in
+    let e = told_event c.args.event.now in
     let start = seen c.begin-begun.result.moment in
     no-own (seen c.args.view.moment) start e c.begin-begun.ensures
     (read-own start e c.own_part.result.now c.in_ok-own.field-0 None c.own_part.ensures c.in_default.is c.in_ok-own.ensures)
 
 pub returns-in_default-2 : goal.returns-in_default-2
 returns-in_default-2 c =
-    let e = told c.args.event.now in
+    let e = told_event c.args.event.now in
     let start = seen c.begin-begun.result.moment in
     let own = seen c.in-Some.own.moment in
     no-closing (seen c.args.view.moment) start own e c.begin-begun.ensures
@@ -22,7 +22,7 @@ returns-in_default-2 c =
 
 pub invariant_of-result : goal.invariant_of-result
 invariant_of-result c =
-    let e = told c.args.event.now in
+    let e = told_event c.args.event.now in
     let m = seen c.args.view.moment in
     let start = seen c.begin-begun.result.moment in
     let own = seen c.in-Some.own.moment in
@@ -40,7 +40,7 @@ invariant_of-result c =
 
 pub returns : goal.returns
 returns c =
-    let e = told c.args.event.now in
+    let e = told_event c.args.event.now in
     let m = seen c.args.view.moment in
     let start = seen c.begin-begun.result.moment in
     let own = seen c.in-Some.own.moment in

@@ -1,6 +1,6 @@
 use Rattle.sa_laws.specs.Event.{events_of}
 use Rattle.sa_laws.specs.Legal.{before}
-use Rattle.sa_promises.specs.Packages.{rules_of}
+use Rattle.sa_ranks.specs.Packages.{rules_of}
 use Rattle.sa_promises.proofs.packages.Both.{announces_of}
 use Rattle.sa_promises.proofs.consequences.legal_runs_announce_demand.Goals as goal
 

@@ -1,5 +1,5 @@
 use Rattle.sa_promises.proofs.lives.Moments.{lists-are-locked-once, lockers-stand-somewhere}
-use Rattle.sa_promises.specs.Packages.{rules_of}
+use Rattle.sa_ranks.specs.Packages.{rules_of}
 use Rattle.sa_promises.proofs.packages.Both.{apart_of, tells_of}
 use Rattle.sa_promises.proofs.consequences.legal_runs_lock_lists_once.Goals as goal
 

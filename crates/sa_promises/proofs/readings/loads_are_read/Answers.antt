@@ -1,5 +1,5 @@
 use Rattle.sa_promises.proofs.read.Moments.{legal-loads}
-use Rattle.sa_promises.specs.Packages.{rules_of}
+use Rattle.sa_ranks.specs.Packages.{rules_of}
 use Rattle.sa_promises.proofs.packages.Both.{forms_of}
 use Rattle.sa_promises.proofs.readings.loads_are_read.Goals as goal
 

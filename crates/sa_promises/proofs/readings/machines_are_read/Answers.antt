@@ -1,5 +1,5 @@
 use Rattle.sa_promises.proofs.read.Moments.{legal-machines}
-use Rattle.sa_promises.specs.Packages.{rules_of}
+use Rattle.sa_ranks.specs.Packages.{rules_of}
 use Rattle.sa_promises.proofs.packages.Both.{forms_of}
 use Rattle.sa_promises.proofs.readings.machines_are_read.Goals as goal
 

@@ -1,4 +1,4 @@
-use Rattle.sa_promises.specs.Packages.{rules_of}
+use Rattle.sa_ranks.specs.Packages.{rules_of}
 use Rattle.sa_promises.proofs.packages.Both.{forms_of}
 use Rattle.sa_promises.proofs.read.Moments.{legal-steps}
 use Rattle.sa_promises.proofs.read.Urged.{asks-more}

@@ -24,8 +24,8 @@ returns-in_ok-push_mark-in-Mark c =
     let title = line_of c.in-Mark.mark.item in
     let drawn = mark_text c.args.layout c.in-Mark.mark in
     on_ok_weaker c.extend_from_slice-in-Mark-3.result
-    (λ all. titled-appended title drawn c.args.out.now.items c.extend_from_slice-in-Mark.new.self.items c.push_line.new.out.items c.extend_from_slice-in-Mark-2.new.self.items
+    (λ all. titled-appended title drawn c.args.out.now.items c.extend_from_slice-in-Mark.new.self.items c.append_line.new.out.items c.extend_from_slice-in-Mark-2.new.self.items
     c.push_mark.new.out.items c.extend_from_slice-in-Mark-3.new.self.items
-    c.in_ok-extend_from_slice-in-Mark.ensures.items c.in_ok-push_line-in-Mark.ensures c.in_ok-extend_from_slice-in-Mark-2.ensures.items c.in_ok-push_mark-in-Mark.ensures all
+    c.in_ok-extend_from_slice-in-Mark.ensures.items c.in_ok-append_line-in-Mark.ensures c.in_ok-extend_from_slice-in-Mark-2.ensures.items c.in_ok-push_mark-in-Mark.ensures all
     ∙ ap (λ (s : Shape). c.args.out.now.items ++ shape_text c.args.layout c.args.window c.args.items.now s) (sym c.in-Mark.is))
     (where-ok c.extend_from_slice-in-Mark-3.result c.extend_from_slice-in-Mark-3.new.self.items (c.push_mark.new.out.items ++ codes "</g>\n") c.push_mark.new.out.items c.extend_from_slice-in-Mark-3.ensures.items)

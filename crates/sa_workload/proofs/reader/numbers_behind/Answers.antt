@@ -1,10 +1,10 @@
 use Rattle.std.proofs.Common.{◌∙◌, Ok, Err, sym, ap, map}
 use Rattle.std.proofs.lemmas.Result.{err_from_is_err_and}
 use Rattle.sa_base.specs.Cause.{cause_number}
-use Rattle.sa_workload_lines.specs.Fields.{unless, fields_at, at_end, order_cause}
-use Rattle.sa_workload_lines.specs.Next.{fields_of, last_numbers}
-use Rattle.sa_workload_lines.specs.Stage.{field_of, position_of}
-use Rattle.sa_workload_lines.proofs.fields.FieldLemmas.{fields-ok}
+use Rattle.sa_workload.specs.Fields.{unless, fields_at, at_end, order_cause}
+use Rattle.sa_workload.specs.Next.{fields_of, last_numbers}
+use Rattle.sa_workload.specs.Stage.{field_of, position_of}
+use Rattle.sa_workload.proofs.fields.FieldLemmas.{fields-ok}
 use Rattle.sa_workload.proofs.OneLine.{as_long, line_by}
 use Rattle.sa_workload.proofs.reader.numbers_behind.Goals as goal
 

@@ -1,8 +1,8 @@
 use Rattle.std.proofs.Common.{ap, sym, ◌∙◌, map}
 use Rattle.sa_text.specs.Line.{text_of_line}
-use Rattle.sa_workload_lines.specs.Position.{AtVersion}
+use Rattle.sa_workload.specs.Position.{AtVersion}
 use Rattle.sa_workload.specs.Reading.{read_of, read_from}
-use Rattle.sa_workload_lines.specs.Stage.{position_of}
+use Rattle.sa_workload.specs.Stage.{position_of}
 use Rattle.sa_workload.proofs.OneLine.{read_on}
 use Rattle.sa_workload.proofs.whole.Whole.{reached_behind}
 use Rattle.sa_workload.proofs.reader.read_versions.Goals as goal

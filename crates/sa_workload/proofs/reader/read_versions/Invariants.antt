@@ -1,8 +1,8 @@
 use Rattle.std.proofs.Common.{◌≡◌, length, map}
 use Rattle.sa_text.specs.Line.{text_of_line}
-use Rattle.sa_workload_lines.specs.Position.{IsReached}
+use Rattle.sa_workload.specs.Position.{IsReached}
 use Rattle.sa_workload.specs.Reading.{read_of, read_from}
-use Rattle.sa_workload_lines.specs.Stage.{position_of}
+use Rattle.sa_workload.specs.Stage.{position_of}
 use Rattle.sa_workload.proofs.reader.read_versions.Given as goal
 
 -- from the position after the lines so far, the lines that are left are read as the whole text is

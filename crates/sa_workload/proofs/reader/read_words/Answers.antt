@@ -1,10 +1,10 @@
 use Rattle.std.proofs.Common.{List, ℕ, Ok, Err, sym, subst}
 use Rattle.std.proofs.lemmas.Result.{err_from_is_err_and}
 use Rattle.sa_base.specs.Cause.{cause_number}
-use Rattle.sa_workload_lines.specs.Next.{last_numbers, step}
-use Rattle.sa_workload_lines.specs.Stage.{position_of, Gives}
+use Rattle.sa_workload.specs.Next.{last_numbers, step}
+use Rattle.sa_workload.specs.Stage.{position_of, Gives}
 use Rattle.sa_workload.proofs.OneLine.{not_known, too_many, numbered_next}
-use Rattle.sa_workload_lines.proofs.calls.Rooms.{have_room}
+use Rattle.sa_workload.proofs.calls.Rooms.{have_room}
 use Rattle.sa_workload.proofs.reader.read_words.Goals as goal
 
 pub returns-then-not-expects : goal.returns-then-not-expects

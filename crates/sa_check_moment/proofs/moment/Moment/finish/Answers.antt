@@ -16,12 +16,12 @@ returns c before runs low over =
     let start = c.args.start in
     let urged = c.args.urged in
     let step : c.step_by-step.result ≡ step_by (seen m) start.lowers start.running urged records = c.step_by-step.ensures in
-    let up : c.up_by-up.result ≡ up_by (seen m) p urged records = c.up_by-up.ensures in
+    let up : c.up_by-up.result ≡ up_by (seen m) start.lowers p urged records = c.up_by-up.ensures in
     let lives : lives_of c.end_event.new.lives
-    ≡ arisen_if (up_by (seen m) p urged records) p (stepped_if (step_by (seen m) start.lowers start.running urged records) start.running (lives_of m.lives)) =
+    ≡ arisen_if (up_by (seen m) start.lowers p urged records) p (stepped_if (step_by (seen m) start.lowers start.running urged records) start.running (lives_of m.lives)) =
     c.in_ok-parts.ensures.lives ∙ ap (λ x. arisen_if x p (stepped_if c.step_by-step.result start.running (lives_of parts.lives))) up
-    ∙ ap (λ x. arisen_if (up_by (seen m) p urged records) p (stepped_if x start.running (lives_of parts.lives))) step
-    ∙ ap (λ (k : Kept). arisen_if (up_by (seen m) p urged records) p (stepped_if (step_by (seen m) start.lowers start.running urged records) start.running
+    ∙ ap (λ x. arisen_if (up_by (seen m) start.lowers p urged records) p (stepped_if x start.running (lives_of parts.lives))) step
+    ∙ ap (λ (k : Kept). arisen_if (up_by (seen m) start.lowers p urged records) p (stepped_if (step_by (seen m) start.lowers start.running urged records) start.running
     (lives_of k.lives))) same in
     let count : c.in_ok-parts.field-0 ≡ parts.number + 1 = c.in_ok-parts.ensures.number in
     finish-whole m _ before c.args.number p records urged start.running start.lowers over runs low

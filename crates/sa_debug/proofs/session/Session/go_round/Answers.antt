@@ -1,8 +1,8 @@
 use Rattle.std.proofs.Common.{◌≡◌, ◌-◌, Some, None, refl, sym, ap, ◌∙◌, subst}
+use Rattle.sa_lemmas.proofs.Options.{some-is, not_some-is}
 use Rattle.sa_lemmas.proofs.Results.{on_err}
 use Rattle.sa_core.specs.View.{machine}
 use Rattle.sa_core_model.specs.End.{end_of}
-use Rattle.sa_core_model.proofs.Phases.{some-is, none-is}
 use Rattle.sa_debug.specs.Session.{first, IsNext, Turns, RunsTo}
 use Rattle.sa_debug.specs.OverMachines.{SessionView, over_machines, session}
 use Rattle.sa_debug.proofs.Keeping.{same-end, few-processors}
@@ -24,7 +24,7 @@ loop-turn-preserved g c =
     let few = few-processors g.U.UserLevel.calls c.self.inside.core c.loop-turn.self.core c.self.inside.follower c.self.invariant core in
     let on : end_of g.U.UserLevel.calls c.args.self.now.core.budget (machine c.loop-turn.self.core) ≡ None =
     sym (same-end g.U.UserLevel.calls c.self.inside.core c.loop-turn.self.core c.args.self.now.core.budget core c.loop-turn.invariant.budget)
-    ∙ none-is (end_of g.U.UserLevel.calls c.self.inside.core.budget (machine c.self.inside.core)) (sym c.has_ended.ensures ∙ c.if-has_ended.false) in
+    ∙ not_some-is (end_of g.U.UserLevel.calls c.self.inside.core.budget (machine c.self.inside.core)) (sym c.has_ended.ensures ∙ c.if-has_ended.false) in
     let next : IsNext (over_machines g.U.UserLevel.calls c.args.self.now.core.budget) s (record { 0 = c.first.result }) =
     next-free (over_machines g.U.UserLevel.calls c.args.self.now.core.budget) s (record { 0 = c.first.result }) c.loop-turn.invariant.free
     (subst (λ n. c.first.result ≡ first (over_machines g.U.UserLevel.calls n) (machine c.loop-turn.self.core)) c.loop-turn.invariant.budget

@@ -4,7 +4,7 @@ use Rattle.sa_base.specs.declared.number.ProcNo.{ProcNo}
 use Rattle.sa_keys.specs.Key.{key_of}
 use Rattle.sa_states.specs.Store.{store_of}
 use Rattle.sa_explore_runs.specs.Runs.{CanLead}
-use Rattle.sa_explore_runs.specs.Searching.{IsOpen}
+use Rattle.sa_explore_runs.specs.Runs.{IsOpen}
 use Rattle.sa_explore.specs.Doing.{states_of}
 use Rattle.sa_explore.proofs.Doings.{way-leads, way-open}
 use Rattle.sa_explore.proofs.Aheads.{ahead-from, taken-on, kept-beside}

@@ -1,0 +1,2 @@
+mod Ran
+mod Seats

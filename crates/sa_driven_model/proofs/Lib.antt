@@ -1,0 +1,14 @@
+pub mod Sets
+pub mod Locks
+pub mod Places
+pub mod Ghost
+pub mod Drained
+pub mod Changing
+pub mod InsRule
+pub mod Rules
+pub mod StepRule
+pub mod GoRule
+pub mod BeginRule
+pub mod Able
+pub mod Below
+pub mod Keeping

@@ -1,4 +1,0 @@
-pub mod fields
-pub mod forward
-pub mod calls
-mod Splitting

@@ -1,7 +1,0 @@
-use Rattle.std.proofs.Common.{◌≡◌, ◌++◌, take}
-use Rattle.std.specs.List.{flat_map}
-use Rattle.sa_workload_lines.specs.Text.{line_text, evict_line}
-use Rattle.sa_workload_lines.proofs.printing.push_evictions.Given as goal
-
-abbrev pub invariant-loop-evict : goal.invariant-loop-evict
-invariant-loop-evict l = l.out.items ≡ l.initial.out.items ++ flat_map (λ e. line_text (evict_line e)) (take l.evict-index l.evictions)

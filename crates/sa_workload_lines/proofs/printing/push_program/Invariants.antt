@@ -1,7 +1,0 @@
-use Rattle.std.proofs.Common.{◌≡◌, ◌++◌, take}
-use Rattle.std.specs.List.{flat_map}
-use Rattle.sa_workload_lines.specs.Text.{line_text, instr_line}
-use Rattle.sa_workload_lines.proofs.printing.push_program.Given as goal
-
-abbrev pub invariant-loop-pc : goal.invariant-loop-pc
-invariant-loop-pc l = l.out.items ≡ l.initial.out.items ++ flat_map (λ i. line_text (instr_line i)) (take l.pc l.program)

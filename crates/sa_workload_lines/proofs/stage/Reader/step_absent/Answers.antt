@@ -1,5 +1,0 @@
-use Rattle.std.proofs.Common.{Ok, ap, sym}
-use Rattle.sa_workload_lines.proofs.stage.Reader.step_absent.Goals as goal
-
-pub returns : goal.returns
-returns c = rw (sym c.if-is.ensures) (ap Ok (sym c.step_program.ensures))

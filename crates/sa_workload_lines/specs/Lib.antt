@@ -1,9 +1,0 @@
-pub mod Text
-pub mod Fields
-pub mod Bad
-pub mod Position
-pub mod Steps
-pub mod Next
-pub mod Stage
-pub mod Rooms
-pub mod Texts
