@@ -159,11 +159,10 @@ def bodies():
 
 
 def manuals():
-    """Prints the words of the man pages, with tabs between: the page, a word of FORMATS that belongs to its program, and what is wrong with it, if
-    anything."""
-    formats = pathlib.Path("docs/FORMATS.md").read_text()
-    run, picture = formats[: formats.index("## The workload text")], formats[formats.index("## The picture") :]
-    for page, part in ("sa", run), ("sa_picture", picture):
+    """Prints the words of the man pages, with tabs between: the page, a word of the document that has its program's words, and what is wrong with it,
+    if anything."""
+    for page, document in ("sa", "WORDS"), ("sa_picture", "PICTURES"):
+        part = pathlib.Path(f"docs/{document}.md").read_text()
         text = pathlib.Path(f"docs/{page}.1").read_text().replace("\\-", "-")
         commands = re.findall(r"^\| `([a-z]+)(?: N)?` \| (?:a workload|nothing)", part, re.M)
         options = re.findall(r"^\| `(--[a-z]+) ", part, re.M)
@@ -174,7 +173,7 @@ def manuals():
                 found = re.search(rf'^\.BI? "?{word}(?: "?|$)', text, re.M)
                 print(f"docs/{page}.1", f"{kind} {word}", "" if found else "is not there", sep="\t")
         for word in sorted(set(re.findall(r"--[a-z]+", text)) - set(options)):
-            print(f"docs/{page}.1", f"option {word}", "is not in FORMATS", sep="\t")
+            print(f"docs/{page}.1", f"option {word}", f"is not in {document}", sep="\t")
 
 
 {"links": links, "names": names, "bodies": bodies, "manuals": manuals}[sys.argv[1]]()

@@ -1,5 +1,5 @@
 """Workloads after the application of the paper's section 5: a main thread that makes a thread for each task, waits for all of them, and
-begins again. What a task does is said by the fields of an Application; the text of a workload is in docs/FORMATS.md."""
+begins again. What a task does is said by the fields of an Application; the text of a workload is in docs/WORKLOAD.md."""
 
 import dataclasses
 import random
