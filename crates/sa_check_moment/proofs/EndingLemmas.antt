@@ -16,7 +16,7 @@ use Rattle.sa_laws.specs.Life.{Life}
 use Rattle.sa_laws.specs.Readings.{Readings, running_of, life_if, life_on, demand_of}
 use Rattle.sa_laws.specs.Record.{with_life}
 use Rattle.sa_laws.specs.Shape.{is_own, own_part, closing_part}
-use Rattle.sa_laws.specs.Any.{says_idle, has_heard_hand}
+use Rattle.sa_laws.specs.Any.{says_idle, has_heard_hand, is_tied, begins_local}
 use Rattle.sa_laws.specs.History.{Test, behind, ended, stepped, arisen, is_step, is_up, settles, scans_after, with_step, with_up}
 use Rattle.sa_ranks.specs.Pairs.{has_pair}
 use Rattle.sa_ranks.specs.Inside.{is_of_entry, begins_entry, has_entry, settling}
@@ -143,7 +143,9 @@ module _ (m : Seen) (before : Readings) (number : ℕ) (p : ProcNo) (records : L
         → is_in_by l m low settled records urged life ≡ (rules_named l).inside w before e r settled life
     in-by FastThreads is settled life runs = refl
     in-by Priorities is settled life runs = ap (λ b. is_inside_at m settled life || (settled && b)) (owes-is is life runs)
-    in-by Any is settled life runs = ap (λ b. has_heard_hand r life || (not b && is_inside_at m settled life)) known
+    in-by Any is true life runs = refl
+    in-by Any is false life runs =
+        ap (λ b. if begins_local w r records then life.inside else (has_heard_hand r life || (not b && is_tied life))) known
 
     -- a life that is there by its number is the one whose test was made
     tested : (settled : Bool) (a : Option ActNo) (act : ActNo) (life : Life) → a ≡ Some act → r.lives act.0 ≡ Some life

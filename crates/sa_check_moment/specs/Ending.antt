@@ -9,7 +9,7 @@ use Rattle.sa_laws.specs.State.{thread_at}
 use Rattle.sa_laws.specs.Life.{Life}
 use Rattle.sa_laws.specs.Readings.{Readings, life_if, life_on}
 use Rattle.sa_laws.specs.Event.{Event}
-use Rattle.sa_laws.specs.Any.{has_heard_hand}
+use Rattle.sa_laws.specs.Any.{has_heard_hand, is_tied, is_hint_due, begins_local}
 use Rattle.sa_laws.specs.History.{is_inside, behind_all, is_step, is_up, is_free, is_running_or_blocked}
 use Rattle.sa_check_lives.specs.declared.change.Scan.{Scan}
 use Rattle.sa_check_lives.specs.declared.change.Scan.TheVariants.{More, Same, Over}
@@ -36,12 +36,19 @@ idles_by low (Idle ∷ others) = true
 idles_by low (Want s n ∷ others) = low
 idles_by low _ = false
 
--- the life is in, at the end of an own event with these records that settled it or did not: by FastThreads' test; or by a pair; or,
--- whatever the user level, by FastThreads' test until it says that it is idle, and by the threads in its hand
+-- the life is in by the test of any user level
+abbrev pub is_in_any : Seen → Bool → Bool → List Record → Life → Bool
+is_in_any m low true records life = has_heard_hand m.readings life || is_tied life || is_hint_due m.workload m.readings life
+is_in_any m low false records life =
+    if begins_local m.workload m.readings records then life.inside
+    else (has_heard_hand m.readings life || (not (idles_by low records) && is_tied life))
+
+-- the life is in, at the end of an own event with these records that settled it or did not: by FastThreads' test; or also by a pair;
+-- or by the test of any user level
 abbrev pub is_in_by : RulesName → Seen → Bool → Bool → List Record → Bool → Life → Bool
 is_in_by FastThreads m low settled records urged life = is_inside_at m settled life
 is_in_by Priorities m low settled records urged life = is_inside_at m settled life || (settled && owes_pair m records urged life)
-is_in_by Any m low settled records urged life = has_heard_hand m.readings life || (not (idles_by low records) && is_inside_at m settled life)
+is_in_by Any m low settled records urged life = is_in_any m low settled records life
 
 abbrev pub is_in : Seen → Bool → Bool → List Record → Bool → Life → Bool
 is_in m low settled records urged life = is_in_by m.rules m low settled records urged life

@@ -13,24 +13,24 @@ use Rattle.sa_fast.specs.Instruction.{run_says}
 use Rattle.sa_driven_model.specs.declared.context.DrivenContext.{DrivenContext}
 use Rattle.sa_driven_model.specs.declared.space.DrivenSpace.{DrivenSpace}
 use Rattle.sa_driven_model.specs.Threads.{with_all}
-use Rattle.sa_driven_model.specs.Step.{after_run, run_of, ran_by, ran}
+use Rattle.sa_driven_model.specs.Step.{after_run, run_of, is_next_local, ran_by, ran}
 use Rattle.sa_driven.specs.Does.{Does}
 
 -- the value and the records are the same whatever became of the thread
-ran_same : (u : DrivenSpace) (seen : Seen) (c : DrivenContext) (first : Option ThreadNo) (answer : Ran) (says : List Record)
-    → ((ran_by u seen c first answer says).user ≡ u) × ((ran_by u seen c first answer says).says ≡ says)
-ran_same u seen c first Goes says = (refl, refl)
-ran_same u seen c first Leaves says = (refl, refl)
-ran_same u seen c first (Blocks length page) says = (refl, refl)
+ran_same : (u : DrivenSpace) (seen : Seen) (c : DrivenContext) (local : Bool) (answer : Ran) (says : List Record)
+    → ((ran_by u seen c local answer says).user ≡ u) × ((ran_by u seen c local answer says).says ≡ says)
+ran_same u seen c local Goes says = (refl, refl)
+ran_same u seen c local Leaves says = (refl, refl)
+ran_same u seen c local (Blocks length page) says = (refl, refl)
 
 -- of its parts
-does_by : (v : DrivenSpace) (seen : Seen) (d : DrivenContext) (first : Option ThreadNo) (answer : Ran) (says : List Record) (old new : Recorded)
+does_by : (v : DrivenSpace) (seen : Seen) (d : DrivenContext) (local : Bool) (answer : Ran) (says : List Record) (old new : Recorded)
     (ctx : DrivenContext) (result : Step)
-    → ctx ≡ (ran_by v seen d first answer says).ctx → result ≡ (ran_by v seen d first answer says).answer
+    → ctx ≡ (ran_by v seen d local answer says).ctx → result ≡ (ran_by v seen d local answer says).answer
     → new.items ≡ old.items ++ items_at seen.event seen.proc says → new.spare + length says ≡ old.spare
-    → Does (ran_by v seen d first answer says) seen old v ctx result new
-does_by v seen d first answer says old new ctx result is_ctx is_answer items spare =
-    let same = ran_same v seen d first answer says in
+    → Does (ran_by v seen d local answer says) seen old v ctx result new
+does_by v seen d local answer says old new ctx result is_ctx is_answer items spare =
+    let same = ran_same v seen d local answer says in
     record {
       user = sym same.0;
       ctx = is_ctx;
@@ -40,20 +40,20 @@ does_by v seen d first answer says old new ctx result is_ctx is_answer items spa
     }
 
 pub ran_does : (u : DrivenSpace) (seen : Seen) (c : DrivenContext) (t : ThreadNo) (old new : Recorded) (v : DrivenSpace) (d ctx : DrivenContext)
-    (first : Option ThreadNo) (answer : Ran) (result : Step)
+    (local : Bool) (answer : Ran) (result : Step)
     → v ≡ after_run u (run_of u seen t)
     → d ≡ record c { hand = with_all c.hand (work_of (run_of u seen t).shared.works (run_of u seen t).work) }
-    → answer ≡ (run_of u seen t).answer → first ≡ (run_of u seen t).work
-    → ((says : List Record) → ctx ≡ (ran_by v seen d first answer says).ctx) → ((says : List Record) → result ≡ (ran_by v seen d first answer says).answer)
+    → answer ≡ (run_of u seen t).answer → local ≡ is_next_local u t
+    → ((says : List Record) → ctx ≡ (ran_by v seen d local answer says).ctx) → ((says : List Record) → result ≡ (ran_by v seen d local answer says).answer)
     → new.items ≡ old.items ++ items_at seen.event seen.proc (run_says u.base.def seen.pages u.base.shared t)
     → new.spare + length (run_says u.base.def seen.pages u.base.shared t) ≡ old.spare
     → Does (ran u seen c (Some t)) seen old v ctx result new
-ran_does u seen c t old new v d ctx first answer result is_v is_d is_answer is_first is_ctx is_result items spare =
+ran_does u seen c t old new v d ctx local answer result is_v is_d is_answer is_local is_ctx is_result items spare =
     let says = run_says u.base.def seen.pages u.base.shared t in
-    let by = does_by v seen d first answer says old new ctx result (is_ctx says) (is_result says) items spare in
-    let a = subst (λ w. Does (ran_by w seen d first answer says) seen old v ctx result new) is_v by in
-    let b = subst (λ x. Does (ran_by (after_run u (run_of u seen t)) seen x first answer says) seen old v ctx result new) is_d a in
-    let e = subst (λ f. Does (ran_by (after_run u (run_of u seen t)) seen
-    (record c { hand = with_all c.hand (work_of (run_of u seen t).shared.works (run_of u seen t).work) }) f answer says) seen old v ctx result new) is_first b in
+    let by = does_by v seen d local answer says old new ctx result (is_ctx says) (is_result says) items spare in
+    let a = subst (λ w. Does (ran_by w seen d local answer says) seen old v ctx result new) is_v by in
+    let b = subst (λ x. Does (ran_by (after_run u (run_of u seen t)) seen x local answer says) seen old v ctx result new) is_d a in
+    let e = subst (λ l. Does (ran_by (after_run u (run_of u seen t)) seen
+    (record c { hand = with_all c.hand (work_of (run_of u seen t).shared.works (run_of u seen t).work) }) l answer says) seen old v ctx result new) is_local b in
     subst (λ r. Does (ran_by (after_run u (run_of u seen t)) seen
-    (record c { hand = with_all c.hand (work_of (run_of u seen t).shared.works (run_of u seen t).work) }) (run_of u seen t).work r says) seen old v ctx result new) is_answer e
+    (record c { hand = with_all c.hand (work_of (run_of u seen t).shared.works (run_of u seen t).work) }) (is_next_local u t) r says) seen old v ctx result new) is_answer e

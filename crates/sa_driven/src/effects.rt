@@ -49,7 +49,7 @@ impl Driven {
         ctx.inside = self.has_hand(ctx) || is_bound(ctx) || self.hints(seen, ctx);
     }
 
-    /// The same after an instruction after which the thread runs on, and which handed threads over.
+    /// The same after an instruction after which the thread runs on: no hint counts.
     pub(crate) fn go_on(&self, ctx: &mut DrivenContext)
         ensures { ctx.new ≡ goes_on self.now ctx.old }
     {

@@ -3,11 +3,13 @@ ghost use Rattle.std.specs.Prelude.{◌≡◌, ◌+◌, ◌≤◌, ◌<◌, ◌+
 ghost use Rattle.sa_base.specs.Items.{items_at, items_from};
 ghost use Rattle.sa_base.specs.declared.limits.TheConstants.{MAX_THREADS};
 ghost use Rattle.sa_fast.specs.Work.{work_of};
-ghost use Rattle.sa_fast.specs.Instruction.{run_says};
+ghost use Rattle.sa_instr.specs.Local.{local_answer};
+ghost use Rattle.sa_fast.specs.Threads.{block_at};
+ghost use Rattle.sa_fast.specs.Instruction.{IsAt, run_says};
 ghost use Rattle.sa_package_model.specs.Step.{block_after, says_between};
 ghost use Rattle.sa_driven_model.specs.Threads.{with_all};
 ghost use Rattle.sa_driven_model.specs.Conditions.{IsAlone, CanIns, CanGo};
-ghost use Rattle.sa_driven_model.specs.Step.{page_of, after_run, run_of, ran_by, ran, went_at};
+ghost use Rattle.sa_driven_model.specs.Step.{page_of, after_run, run_of, is_within_thread, is_next_local, ran_by, ran, went_at};
 ghost use Rattle.sa_driven.specs.Does.{Does};
 
 use crate::driven::Driven;
@@ -16,7 +18,7 @@ use sa_abstract::Step;
 use sa_base::{MAX_EVENTS, PACKAGE_PAGE, Record, Seen, SpaceNo, ThreadNo, Trace};
 use sa_driven_model::{DrivenContext, DrivenSpace, ThreadSet};
 use sa_fast::{Block, Ran, WorkLists, run};
-use sa_instr::{Program, local};
+use sa_instr::{Instr, Program, local};
 
 impl Driven {
     /// The next instruction of the context's thread.
@@ -32,25 +34,30 @@ impl Driven {
         ensures { Does (ran self.old seen.now ctx.old (Some thread)) seen.now trace.old
             self.new ctx.new result trace.new }
     {
-        let (ran, first) = run_thread(&mut self.space, ctx, thread, seen, trace);
-        self.end_ins(seen, ctx, ran, first)
+        let local = self.is_next_local(thread);
+        let ran = run_thread(&mut self.space, ctx, thread, seen, trace);
+        self.end_ins(seen, ctx, ran, local)
     }
 
-    // The end of an instruction of the context's thread, where `first` is the first thread that it handed over, if it did
-    // some.
-    fn end_ins(
-        &self,
-        seen: &Seen,
-        ctx: &mut DrivenContext,
-        ran: Ran,
-        first: Option<ThreadNo>,
-    ) -> Step
-        ensures ctx { (says : _) → ctx.new ≡ (ran_by self.now seen.now ctx.old first ran says).ctx }
-        ensures answer { (says : _) → result ≡ (ran_by self.now seen.now ctx.old first ran says).answer }
+    // The thread's next instruction stays within it.
+    fn is_next_local(&self, thread: ThreadNo) -> bool
+        requires below { thread.0 < MAX_THREADS }
+        requires at { IsAt self.now.base.def (block_at self.now.base.shared.threads thread.0) }
+        ensures { result ≡ is_next_local self.now thread }
+    {
+        let block = self.space.base.shared.threads.block(thread);
+        let program = &self.space.base.def.programs()[usize::from(block.program)];
+        is_within_thread(program.at(block.pc))
+    }
+
+    // The end of an instruction of the context's thread, which was local or not.
+    fn end_ins(&self, seen: &Seen, ctx: &mut DrivenContext, ran: Ran, local: bool) -> Step
+        ensures ctx { (says : _) → ctx.new ≡ (ran_by self.now seen.now ctx.old local ran says).ctx }
+        ensures answer { (says : _) → result ≡ (ran_by self.now seen.now ctx.old local ran says).answer }
     {
         match ran {
             Ran::Goes => {
-                if first.is_some() {
+                if !local {
                     self.go_on(ctx);
                 }
                 Step::Did
@@ -96,22 +103,30 @@ impl Driven {
     }
 }
 
-// Runs the next instruction of a thread, and hands out the threads that it forks or wakes: what became of the thread, and the
-// first of those.
+// The instruction stays within its thread.
+fn is_within_thread(instr: Instr) -> bool
+    ensures { result ≡ is_within_thread (local_answer instr) }
+{
+    matches!(
+        instr,
+        Instr::Compute | Instr::Set(..) | Instr::Add(..) | Instr::Sub(..) | Instr::Jnz(..)
+    )
+}
+
+// Runs the next instruction of a thread, and hands out the threads that it forks or wakes: what became of the thread.
 fn run_thread(
     space: &mut DrivenSpace,
     ctx: &mut DrivenContext,
     thread: ThreadNo,
     seen: &Seen,
     trace: &mut Trace,
-) -> (Ran, Option<ThreadNo>)
+) -> Ran
     requires can { CanIns space.old seen.now thread }
     requires room { 2 ≤ trace.old.spare }
     ensures space { space.new ≡ after_run space.old (run_of space.old seen.now thread) }
     ensures ctx { let o = run_of space.old seen.now thread in
         ctx.new ≡ record ctx.old { hand = with_all ctx.old.hand (work_of o.shared.works o.work) } }
-    ensures ran { result.0 ≡ (run_of space.old seen.now thread).answer }
-    ensures first { result.1 ≡ (run_of space.old seen.now thread).work }
+    ensures ran { result ≡ (run_of space.old seen.now thread).answer }
     ensures items { let says = run_says space.old.base.def seen.now.pages space.old.base.shared thread in
         trace.new.items ≡ trace.old.items ++ items_at seen.now.event seen.now.proc says }
     ensures spare { let says = run_says space.old.base.def seen.now.pages space.old.base.shared thread in
@@ -133,7 +148,7 @@ fn run_thread(
         &mut ctx.hand,
         &mut space.handed,
     );
-    (ran, work)
+    ran
 }
 
 // Takes all threads out of the only work list that has some, in order, into two sets.

@@ -272,15 +272,15 @@ module _ (s : Setting) (e : ℕ) (u : DrivenSpace) (cs : Contexts DrivenContext)
         hand = ap length in_hand ∙ hand_kept;
       }
 
-      goes_change : (f : ℕ) (first : Option ThreadNo) → e < f → o.answer ≡ Goes → Changes f (after_ins (after_run u o) d first)
-      goes_change f None later answer = stays_change f d later refl refl refl (λ v. ap (λ r. stays_with r t v) answer)
-      goes_change f (Some first) later answer =
+      goes_change : (f : ℕ) (local : Bool) → e < f → o.answer ≡ Goes → Changes f (after_ins (after_run u o) d local)
+      goes_change f true later answer = stays_change f d later refl refl refl (λ v. ap (λ r. stays_with r t v) answer)
+      goes_change f false later answer =
           stays_change f (goes_on (after_run u o) d) later refl refl refl (λ v. ap (λ r. stays_with r t v) answer)
 
-      pub ran_change : (f : ℕ) (seen : Seen) (answer : Ran) (says : List Record) → e < f → o.answer ≡ answer
-          → let r = ran_by (after_run u o) seen d o.work answer says in IsChange s f u r.user (Some c) r.ctx 0
-      ran_change f seen Goes says later answer = goes_change f o.work later answer
-      ran_change f seen Leaves says later answer = record {
+      pub ran_change : (f : ℕ) (seen : Seen) (local : Bool) (answer : Ran) (says : List Record) → e < f → o.answer ≡ answer
+          → let r = ran_by (after_run u o) seen d local answer says in IsChange s f u r.user (Some c) r.ctx 0
+      ran_change f seen local Goes says later answer = goes_change f local later answer
+      ran_change f seen local Leaves says later answer = record {
         value = value f later;
         carries = λ v.
             let gone : stays_with o.answer t v ≡ 0 = ap (λ r. stays_with r t v) answer in
@@ -288,4 +288,4 @@ module _ (s : Setting) (e : ℕ) (u : DrivenSpace) (cs : Contexts DrivenContext)
         locks = omega arith;
         hand = hand_kept;
       }
-      ran_change f seen (Blocks length page) says later answer = stays_change f d later refl refl refl (λ v. ap (λ r. stays_with r t v) answer)
+      ran_change f seen local (Blocks length page) says later answer = stays_change f d later refl refl refl (λ v. ap (λ r. stays_with r t v) answer)

@@ -50,7 +50,7 @@ use Rattle.sa_driven_model.specs.declared.reply.Reply.TheVariants.{Ins, Run, Rea
 use Rattle.sa_driven_model.specs.Threads.{has, with_some, without_thread, with_all}
 use Rattle.sa_driven_model.specs.Context.{settled, says_idle}
 use Rattle.sa_driven_model.specs.Reply.{can, can_cont, can_want}
-use Rattle.sa_driven_model.specs.Step.{moved, handed_over, picked_up, carries, asks_for, idles, faults, faulted, page_of, ran_by, after_run, run_of, ran, runs, readies, wants, done, done_if, without_reply, stepped, took_over, told_of, told}
+use Rattle.sa_driven_model.specs.Step.{moved, handed_over, picked_up, carries, asks_for, idles, faults, faulted, page_of, is_next_local, ran_by, after_run, run_of, ran, runs, readies, wants, done, done_if, without_reply, stepped, took_over, told_of, told}
 use Rattle.sa_driven_model.specs.Stands.{IsStanding, driven_stands}
 use Rattle.sa_driven_model.proofs.Places.{carried_free}
 use Rattle.sa_driven_model.proofs.Changing.{IsValue, IsChange, change-stands, join-stands}
@@ -185,12 +185,12 @@ module _ (s : Setting) (e : ℕ) (u : DrivenSpace) (cs : Contexts DrivenContext)
   says_own t b _ = one _ h.made.space
 
   -- by the answer, whatever the value and the context are afterwards
-  outcome_well : (v : DrivenSpace) (d : DrivenContext) (first : Option ThreadNo) (answer : Ran) (says : List Record)
-      → IsStanding s seen.event (ran_by v seen d first answer says).user (put cs a (Some (ran_by v seen d first answer says).ctx))
-      → CanBlock answer → Own says → Well (ran_by v seen d first answer says)
-  outcome_well v d first Goes says there blocks own = record { value = there; asked = tt; own = own.0; few = own.1 }
-  outcome_well v d first Leaves says there blocks own = record { value = there; asked = tt; own = own.0; few = own.1 }
-  outcome_well v d first (Blocks length page) says there blocks own =
+  outcome_well : (v : DrivenSpace) (d : DrivenContext) (local : Bool) (answer : Ran) (says : List Record)
+      → IsStanding s seen.event (ran_by v seen d local answer says).user (put cs a (Some (ran_by v seen d local answer says).ctx))
+      → CanBlock answer → Own says → Well (ran_by v seen d local answer says)
+  outcome_well v d local Goes says there blocks own = record { value = there; asked = tt; own = own.0; few = own.1 }
+  outcome_well v d local Leaves says there blocks own = record { value = there; asked = tt; own = own.0; few = own.1 }
+  outcome_well v d local (Blocks length page) says there blocks own =
       record { value = there; asked = (blocks.0, blocks.1, page_fits (faults seen d) page blocks.2); own = own.0; few = own.1 }
 
   ran_well : (t : Option ThreadNo) → c.thread ≡ t → Well (ran u seen c t)
@@ -202,10 +202,11 @@ module _ (s : Setting) (e : ℕ) (u : DrivenSpace) (cs : Contexts DrivenContext)
       let d : DrivenContext = record c { hand = with_all c.hand (work_of o.shared.works o.work) } in
       let free = carried_free u.base.shared u.handed t.0 (h.somewhere t.0) (thread_runs s e u cs h a c is t at) in
       let there : IsAt u.base.def b = h.parts.at t.0 (made_below u.base.shared.state.lists t.0 (omega (arith, free.0))) in
-      outcome_well (after_run u o) d o.work o.answer says
-      (change-stands s e u cs h seen.event a 0 (ran_by (after_run u o) seen d o.work o.answer says).user (Some c)
-      (ran_by (after_run u o) seen d o.work o.answer says).ctx is
-      (ran_change s e u cs h a c is t at seen.pages seen.event seen o.answer says later refl) (omega (arith, later)) (inl refl))
+      let local = is_next_local u t in
+      outcome_well (after_run u o) d local o.answer says
+      (change-stands s e u cs h seen.event a 0 (ran_by (after_run u o) seen d local o.answer says).user (Some c)
+      (ran_by (after_run u o) seen d local o.answer says).ctx is
+      (ran_change s e u cs h a c is t at seen.pages seen.event seen local o.answer says later refl) (omega (arith, later)) (inl refl))
       (blocks u.base.fetch seen.pages u.base.shared None t b (instr_of u.base.def b) some_fetch few_fetch
       (in_range u.base.def b (subst IsSpace (sym h.made.def) h.made.setting.def) there))
       (says_own t b (instr_of u.base.def b))

@@ -33,7 +33,7 @@ with_inside c inside = record c { inside = inside }
 abbrev pub settled : DrivenSpace → Seen → DrivenContext → DrivenContext
 settled u seen c = with_inside c (has_hand u c || is_bound c || hints u seen c)
 
--- not so after an instruction after which the thread runs on, and which handed threads over
+-- after an instruction after which the thread runs on no hint counts
 abbrev pub goes_on : DrivenSpace → DrivenContext → DrivenContext
 goes_on u c = with_inside c (has_hand u c || is_bound c)
 

@@ -10,6 +10,9 @@ use Rattle.sa_base.specs.declared.record.Note.TheVariants.{Add, Preempted, Block
 use Rattle.sa_base.specs.declared.record.Record.{Record}
 use Rattle.sa_base.specs.declared.record.Record.TheVariants as records
 use Rattle.sa_base.specs.Pages.{has_page}
+use Rattle.sa_instr.specs.declared.answer.Local.{Local}
+use Rattle.sa_instr.specs.declared.answer.Local.TheVariants.{Went}
+use Rattle.sa_instr.specs.Local.{local_answer}
 use Rattle.sa_spaces.specs.Space.{SpaceView}
 use Rattle.sa_abstract.specs.declared.answer.SeatState.{SeatState}
 use Rattle.sa_abstract.specs.declared.answer.SeatState.TheVariants.{Away}
@@ -30,7 +33,7 @@ use Rattle.sa_fast.specs.declared.instruction.Ran.{Ran}
 use Rattle.sa_fast.specs.declared.instruction.Ran.TheVariants.{Goes, Leaves, Blocks}
 use Rattle.sa_fast.specs.Threads.{unmade, at_start, block_at, with_block}
 use Rattle.sa_fast.specs.Work.{work_of}
-use Rattle.sa_fast.specs.Instruction.{Outcome, with_thread as with_instr, run, run_says}
+use Rattle.sa_fast.specs.Instruction.{Outcome, with_thread as with_instr, instr_of, run, run_says}
 use Rattle.sa_package_model.specs.declared.package.Package.{Package}
 use Rattle.sa_package_model.specs.Rules.{with_shared, placed_in}
 use Rattle.sa_package_model.specs.Step.{block_after, says_between, stands_at, tally}
@@ -96,20 +99,27 @@ faults seen c = nat_lt 0 c.locks && not (has_page seen.pages PACKAGE_PAGE)
 abbrev pub faulted : DrivenSpace → DrivenContext → Stepped DrivenSpace DrivenContext
 faulted u c = asks_for (moved u c.thread place.Blocked) c [] (asks.Block u.base.fetch (Some PACKAGE_PAGE))
 
--- ins: an instruction of the thread. The threads that it forks or wakes join the hand; where it runs on and hands none over,
--- the context goes on as before
+-- ins: an instruction of the thread. The threads that it forks or wakes join the hand; a local instruction leaves the context as it
+-- was
 abbrev pub page_of : Bool → Option ℕ → Option ℕ
 page_of true (Some page) = Some PACKAGE_PAGE
 page_of _ page = page
 
-abbrev pub after_ins : DrivenSpace → DrivenContext → Option ThreadNo → DrivenContext
-after_ins u c None = c
-after_ins u c (Some first) = goes_on u c
+abbrev pub is_within_thread : Local → Bool
+is_within_thread Went = true
+is_within_thread _ = false
 
-abbrev pub ran_by : DrivenSpace → Seen → DrivenContext → Option ThreadNo → Ran → List Record → Stepped DrivenSpace DrivenContext
-ran_by u seen c first Goes says = asks_for u (after_ins u c first) says asks.Did
-ran_by u seen c first Leaves says = asks_for u (settled u seen (carries c None)) says asks.Did
-ran_by u seen c first (Blocks length page) says = asks_for u c says (asks.Block length (page_of (faults seen c) page))
+abbrev pub is_next_local : DrivenSpace → ThreadNo → Bool
+is_next_local u t = is_within_thread (local_answer (instr_of u.base.def (block_at u.base.shared.threads t.0)))
+
+abbrev pub after_ins : DrivenSpace → DrivenContext → Bool → DrivenContext
+after_ins u c true = c
+after_ins u c false = goes_on u c
+
+abbrev pub ran_by : DrivenSpace → Seen → DrivenContext → Bool → Ran → List Record → Stepped DrivenSpace DrivenContext
+ran_by u seen c local Goes says = asks_for u (after_ins u c local) says asks.Did
+ran_by u seen c local Leaves says = asks_for u (settled u seen (carries c None)) says asks.Did
+ran_by u seen c local (Blocks length page) says = asks_for u c says (asks.Block length (page_of (faults seen c) page))
 
 abbrev pub after_run : DrivenSpace → Outcome → DrivenSpace
 after_run u o = record u {
@@ -124,7 +134,7 @@ abbrev pub ran : DrivenSpace → Seen → DrivenContext → Option ThreadNo → 
 ran u seen c None = idles u c
 ran u seen c (Some t) =
     let o = run_of u seen t in
-    ran_by (after_run u o) seen (record c { hand = with_all c.hand (work_of o.shared.works o.work) }) o.work o.answer
+    ran_by (after_run u o) seen (record c { hand = with_all c.hand (work_of o.shared.works o.work) }) (is_next_local u t) o.answer
     (run_says u.base.def seen.pages u.base.shared t)
 
 -- run, ready: an effect on the ready lists, or a fault

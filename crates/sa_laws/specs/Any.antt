@@ -1,6 +1,6 @@
 -- The rules of any user level: what the kernel and the machine ask of whoever decides which thread runs. List locks are the user
 -- level's own affair: only whether a life has one is read of them.
-use Rattle.std.specs.Prelude.{◌≡◌, ◌≢◌, ℕ, ◌+◌, ◌≤◌, ◌<◌, ◌⊎◌, nat_lt, Bool, true, false, not, ◌&&◌, ◌||◌, List, [], ◌∷◌, map, Option, Some, None}
+use Rattle.std.specs.Prelude.{◌≡◌, ◌≢◌, ℕ, ◌+◌, ◌≤◌, ◌<◌, ◌⊎◌, nat_lt, Bool, true, false, not, ◌&&◌, ◌||◌, if◌then◌else◌, List, [], ◌∷◌, map, Option, Some, None, is_none}
 use Rattle.std.specs.List.{list_any}
 use Rattle.sa_base.specs.declared.number.ProcNo.{ProcNo}
 use Rattle.sa_base.specs.declared.number.SpaceNo.{SpaceNo}
@@ -11,12 +11,15 @@ use Rattle.sa_base.specs.declared.record.Note.TheVariants.{Preempted, Unblocked}
 use Rattle.sa_base.specs.declared.record.Record.{Record}
 use Rattle.sa_base.specs.declared.record.Record.TheVariants.{Ins, Run, Block, Cont, Back, Ready, Take, Free, Want, Line, GiveBack, Idle, Spin}
 use Rattle.sa_spaces.specs.Workload.{WorkloadView}
+use Rattle.sa_instr.specs.declared.answer.Local.{Local}
+use Rattle.sa_instr.specs.declared.answer.Local.TheVariants.{Went}
+use Rattle.sa_instr.specs.Local.{local_answer}
 use Rattle.sa_laws.specs.Event.{Event}
 use Rattle.sa_laws.specs.State.{space_at, thread_in, instr_of, is_carried, is_due}
-use Rattle.sa_laws.specs.Life.{Life}
-use Rattle.sa_laws.specs.Readings.{Readings, owner_of, line_of, life_of, life_on, demand_of, untold_of, taken_of, carried_by}
+use Rattle.sa_laws.specs.Life.{Life, has_lock}
+use Rattle.sa_laws.specs.Readings.{Readings, owner_of, line_of, life_of, life_on, demand_of, untold_of, taken_of, carried_by, usable, many_taken}
 use Rattle.sa_laws.specs.Record.{is_thread}
-use Rattle.sa_laws.specs.History.{Test, is_inside, event_begun}
+use Rattle.sa_laws.specs.History.{Test, event_begun}
 use Rattle.sa_laws.specs.Upcalls.{OwnLines}
 use Rattle.sa_laws.specs.Turns.{Steps, IsInsOf, IsPassage}
 use Rattle.sa_laws.specs.Rules.{UserRules}
@@ -49,11 +52,32 @@ says_idle before (Idle ∷ others) = true
 says_idle before (Want s n ∷ others) = nat_lt n (demand_of before s)
 says_idle before _ = false
 
--- the test of any user level: a life that says it is idle has nothing left but the threads in its hand; before it says anything,
--- FastThreads' test stands
+-- an event begins with a local instruction
+abbrev pub is_within_thread : Local → Bool
+is_within_thread Went = true
+is_within_thread _ = false
+
+abbrev pub begins_local : WorkloadView → Readings → List Record → Bool
+begins_local w r (Ins s t i ∷ others) = is_within_thread (local_answer (instr_of w r.state s t i))
+begins_local w r _ = false
+
+-- the life has a lock, or a cont without its back
+abbrev pub is_tied : Life → Bool
+is_tied life = has_lock life || life.cont
+
+-- the demand is below what the load can use; or the life carries no thread while 8 or more lives of its space are taken
+abbrev pub is_hint_due : WorkloadView → Readings → Life → Bool
+is_hint_due w r life =
+    nat_lt (demand_of r life.space) (usable w r life.space) || (is_none (carried_by r life) && many_taken r life.space)
+
+-- The test of any user level. A life that an event settled, or whose up it has, is in if a thread of its hand is heard of, if it is
+-- tied, or if a hint is due. A local instruction leaves it as it was; a life that says that it is idle has nothing left but its
+-- hand; after another event that does not settle it no hint counts.
 abbrev pub is_inside_any : Test
-is_inside_any w before e after settled life =
-    has_heard_hand after life || (not (says_idle before e.records) && is_inside w before e after settled life)
+is_inside_any w before e after true life = has_heard_hand after life || is_tied life || is_hint_due w after life
+is_inside_any w before e after false life =
+    if begins_local w after e.records then life.inside
+    else (has_heard_hand after life || (not (says_idle before e.records) && is_tied life))
 
 -- a hint raises the demand to at most the processors, or lowers it by one
 abbrev pub CanHintAny : WorkloadView → Readings → SpaceNo → ℕ → Type 0

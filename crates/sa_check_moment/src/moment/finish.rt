@@ -3,11 +3,13 @@
 
 ghost use Rattle.std.specs.Prelude.{◌≡◌, ◌+◌, IfOk, OnOk};
 ghost use Rattle.sa_laws.specs.Readings.{Readings, running_of, life_if};
+ghost use Rattle.sa_instr.specs.Local.{local_answer};
+ghost use Rattle.sa_laws.specs.Any.{is_within_thread, begins_local, is_tied, is_hint_due};
 ghost use Rattle.sa_check_lives.specs.View.{lives_of};
 ghost use Rattle.sa_base.specs.declared.package.RulesName.TheVariants.{Priorities};
 ghost use Rattle.sa_check_moment.specs.Seen.{seen, event, at_end, lowers};
 ghost use Rattle.sa_check_moment.specs.Urged.{asks_last};
-ghost use Rattle.sa_check_moment.specs.Ending.{IsOver, is_inside_at, owes_pair, idles_by, is_in, is_in_if, settles_by, scan_by, step_by, up_by, stepped_if, arisen_if};
+ghost use Rattle.sa_check_moment.specs.Ending.{IsOver, is_inside_at, owes_pair, idles_by, is_in_any, is_in, is_in_if, settles_by, scan_by, step_by, up_by, stepped_if, arisen_if};
 
 use crate::has_entry;
 use crate::moment::{Moment, Parts};
@@ -15,6 +17,7 @@ use crate::start::Start;
 use sa_base::{ActNo, ProcNo, Record, RulesName};
 use sa_check_lives::{KeptLife, Lives, Scan, Stepped};
 use sa_check_shapes::{closing_part, has_up, is_step};
+use sa_instr::Instr;
 use sa_laws::Place;
 use std::alloc::AllocError;
 
@@ -151,10 +154,38 @@ impl Moment {
             RulesName::Priorities => {
                 self.is_inside(settled, life) || (settled && self.owes_pair(life, records, urged))
             }
-            RulesName::Any => {
-                self.has_heard_hand(life)
-                    || (!idles_by(lowers, records) && self.is_inside(settled, life))
-            }
+            RulesName::Any => self.is_in_any(lowers, settled, life, records),
+        }
+    }
+
+    // The life is in by the test of any user level.
+    fn is_in_any(&self, lowers: bool, settled: bool, life: &KeptLife, records: &[Record]) -> bool
+        ensures { result ≡ is_in_any (seen self.now) lowers settled records.now life.now }
+    {
+        if settled {
+            self.has_heard_hand(life) || is_tied(life) || self.is_hint_due(life)
+        } else if self.begins_local(records) {
+            life.inside()
+        } else {
+            self.has_heard_hand(life) || (!idles_by(lowers, records) && is_tied(life))
+        }
+    }
+
+    // The demand is below what the load can use, or no thread is carried while many lives are taken.
+    fn is_hint_due(&self, life: &KeptLife) -> bool
+        ensures { let m = seen self.now in result ≡ is_hint_due m.workload m.readings life.now }
+    {
+        self.demand(life.space()) < self.usable(life.space())
+            || (self.carried(life.proc()).is_none() && self.many_taken(life.space()))
+    }
+
+    // The records begin with a local instruction.
+    fn begins_local(&self, records: &[Record]) -> bool
+        ensures { let m = seen self.now in result ≡ begins_local m.workload m.readings records.now }
+    {
+        match records {
+            [Record::Ins(s, t, place), ..] => is_within_thread(self.instr_of(*s, *t, *place)),
+            _ => false,
         }
     }
 
@@ -181,6 +212,23 @@ impl Moment {
             || (settled && self.demand(life.space()) < self.usable(life.space()))
             || (settled && self.carried(life.proc()).is_none() && self.many_taken(life.space()))
     }
+}
+
+// The life has a lock, or a cont without its back.
+fn is_tied(life: &KeptLife) -> bool
+    ensures { result ≡ is_tied life.now }
+{
+    life.has_lock() || life.cont()
+}
+
+// The instruction stays within its thread.
+fn is_within_thread(instr: Instr) -> bool
+    ensures { result ≡ is_within_thread (local_answer instr) }
+{
+    matches!(
+        instr,
+        Instr::Compute | Instr::Set(..) | Instr::Add(..) | Instr::Sub(..) | Instr::Jnz(..)
+    )
 }
 
 // Pairs are asked for after all these records of an event.
