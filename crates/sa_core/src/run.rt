@@ -25,7 +25,7 @@ const EVENTS_AT_ONCE: usize = 64;
 #[derive(Drop)]
 pub struct Core<U: UserLevel> {
     budget: u64,
-    machine: MachineParts<U>,
+    pub(crate) machine: MachineParts<U>,
     // for how many events there is room
     spare: usize,
 }

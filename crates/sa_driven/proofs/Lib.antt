@@ -1,2 +1,3 @@
+pub mod Alike
 mod Ran
 mod Seats

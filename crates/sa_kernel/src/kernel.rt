@@ -44,7 +44,7 @@ impl<C: Drop> Model for Kernel<C> {
 impl<C: Drop> Kernel<C> {
     ghost use Rattle.sa_kernel.specs.Kept.{KernelView, kernel_of, scene, processors};
     ghost use Rattle.sa_kernel_model.specs.Entering.{need_of, MayEnter, upcalls};
-    ghost use Rattle.sa_kernel_model.specs.State.{owner_of, line_of, untold_of, taken_of};
+    ghost use Rattle.sa_kernel_model.specs.State.{owner_of, life_of, line_of, untold_of, taken_of};
     ghost use Rattle.sa_kernel_model.specs.Closing.{closed, first_space};
     ghost use Rattle.sa_kernel_model.specs.Entries.{entered, next_note, after_fetch, evicted_at};
     ghost use Rattle.sa_kernel_model.specs.Opening.{opened};
@@ -215,6 +215,14 @@ impl<C: Drop> Kernel<C> {
         ensures { result ≡ owner_of (kernel_of self.now) p }
     {
         self.parts.assign.owner(p)
+    }
+
+    /// The activation that runs on the processor.
+    pub fn life(&self, p: ProcNo) -> Option<ActNo>
+        requires { p.0 < processors self.now }
+        ensures { result ≡ life_of (kernel_of self.now) p }
+    {
+        self.parts.life(p)
     }
 
     /// The event that raised the processor's line, or `None` where the line is low.

@@ -8,6 +8,7 @@ ghost use Rattle.sa_core_model.specs.Run.{setting, started_from};
 ghost use Rattle.sa_machine.specs.Users.{one_unless, is_over, is_still, unfinished, active, stopped_of};
 
 use sa_abstract::{SeatState, Step, Tally, UserLevel};
+use sa_asked::Asked;
 use sa_base::{Note, Seen, SpaceNo, Stopped, Trace};
 use sa_spaces::{SpaceDef, Workload};
 use std::alloc::{AllocError, Global};
@@ -278,5 +279,25 @@ impl<U: UserLevel> Users<U> {
         ensures { (u : U) → slice_get self.now s.0 ≡ Some u → result ≡ U.calls.local u ctx.now }
     {
         self.levels[usize::from(s.0)].local(ctx)
+    }
+}
+
+impl<U: Asked> Users<U> {
+    /// Puts the reply that the next step of a space does.
+    pub fn put(&mut self, s: SpaceNo, reply: U::Reply)
+        requires { s.0 < length self.old }
+        ensures { (u : U) → slice_get self.old s.0 ≡ Some u
+            → self.new ≡ slice_set self.old s.0 (U.replies.put u reply) }
+    {
+        self.levels[usize::from(s.0)].put(reply);
+    }
+
+    /// Whether the next step of a context can do a reply.
+    pub fn can(&self, s: SpaceNo, seen: &Seen, ctx: &U::Ctx, reply: U::Reply) -> bool
+        requires { s.0 < length self.now }
+        ensures { (u : U) → slice_get self.now s.0 ≡ Some u
+            → result ≡ U.replies.can u seen.now ctx.now reply }
+    {
+        self.levels[usize::from(s.0)].can(seen, ctx, reply)
     }
 }
