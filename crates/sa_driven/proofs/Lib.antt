@@ -1,3 +1,2 @@
-pub mod Alike
 mod Ran
 mod Seats

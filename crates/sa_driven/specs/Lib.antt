@@ -1,2 +1,3 @@
 pub mod Does
 pub mod Replies
+pub mod RepliesKeep

@@ -6,7 +6,7 @@ use sa_driven_model::{DrivenContext, Reply};
 
 impl Asked for Driven {
     ghost use Rattle.sa_driven.specs.Replies.{driven_replies, are_alike};
-    ghost use Rattle.sa_driven.proofs.Alike.{driven_keeps_replies};
+    ghost use Rattle.sa_driven.specs.RepliesKeep.{driven_keeps_replies};
 
     type Reply = Reply;
 

@@ -166,66 +166,97 @@ module _ {U C : Type 0} (level : UserLevel U C) where
       ∙ events-items 0 (opening_event w ∷ events)
       (lawful-numbered level.rules w (opening_readings w) (opening_event w ∷ events) c.lawful)
 
+  -- WHAT WAS REACHED has a legal trace.
+  pub legal-of : (w : WorkloadView) (events : List Event) (m : Machine U C) → IsReached w events m → IsLegal level.rules w m.items
+  legal-of w events m c =
+      let all = opening_event w ∷ events in
+      subst (λ (items : List Item). IsLegal level.rules w items) (sym c.composed.history.items)
+      (legal-items level.rules w all (legal-along level.rules w all (not-empty (opening_event w) events) c.composed.lawful))
+
+  pub count-of : (w : WorkloadView) (events : List Event) (m : Machine U C) → IsReached w events m → length (events_of m.items) ≡ m.event + 1
+  count-of w events m c =
+      let count = numbers-count level.rules w (opening_readings w) (opening_event w ∷ events) in
+      let number = c.composed.number in
+      let size : length (opening_event w ∷ events) ≡ m.event + 1 = omega (arith, count, number) in
+      ap (λ (es : List Event). length es) (events-are w events m c.composed) ∙ size
+
+  pub end-of : (w : WorkloadView) (events : List Event) (m : Machine U C) (budget : ℕ) → IsReached w events m
+      → EndOf level.rules w budget m.items (end_of level.calls budget m)
+  end-of w events m budget c =
+      let count = count-of w events m c in
+      let size : length (events_of m.items) - 1 ≡ m.event = omega (arith, count) in
+      subst (λ (i : ℕ). EndsWith budget (readings level.rules.inside w (events_of m.items)) i (end_of level.calls budget m)) (sym size)
+      (subst (λ (es : List Event). EndsWith budget (readings level.rules.inside w es) m.event (end_of level.calls budget m))
+      (sym (events-are w events m c.composed)) (ends-with level w events m budget c.composed c.home))
+
+  pub number-of : (w : WorkloadView) (events : List Event) (m : Machine U C) → IsReached w events m
+      → (k : ℕ) (e : Event) → slice_get (events_of m.items) k ≡ Some e → e.number ≡ k
+  number-of w events m c k e is =
+      let at : slice_get (opening_event w ∷ events) k ≡ Some e =
+      ap (λ (es : List Event). slice_get es k) (sym (events-are w events m c.composed)) ∙ is in
+      let there : e.number ≡ 0 + k =
+      numbered-at level.rules w (opening_readings w) (opening_event w ∷ events) c.composed.lawful k e at in
+      omega (arith, there)
+
+  pub processors-are : (w : WorkloadView) (events : List Event) (m : Machine U C) → IsReached w events m
+      → procs_of (events_of m.items) ≡ proc_no 0 ∷ procs_of events
+  processors-are w events m c = ap procs_of (events-are w events m c.composed)
+
   -- EACH RUN IS LEGAL.
   pub runs-are-legal : (w : WorkloadView) (moves : List Move) (after : Machine U C) → IsWorkload w
       → IsRun level.calls (opening level.calls w) moves after → IsLegal level.rules w after.items
   runs-are-legal w moves after ok run =
       let done = reached-run w [] (opening level.calls w) moves after (reached-opening w ok) run in
-      let events = opening_event w ∷ done.0 in
-      subst (λ (items : List Item). IsLegal level.rules w items) (sym done.1.composed.history.items)
-      (legal-items level.rules w events (legal-along level.rules w events (not-empty (opening_event w) done.0) done.1.composed.lawful))
+      legal-of w done.0 after done.1
 
   -- IT ENDS AS THE MACHINE SAYS, both ways.
   pub runs-end : (w : WorkloadView) (moves : List Move) (after : Machine U C) (budget : ℕ) → IsWorkload w
       → IsRun level.calls (opening level.calls w) moves after → EndOf level.rules w budget after.items (end_of level.calls budget after)
   runs-end w moves after budget ok run =
       let done = reached-run w [] (opening level.calls w) moves after (reached-opening w ok) run in
-      let events = opening_event w ∷ done.0 in
-      let count = numbers-count level.rules w (opening_readings w) events in
-      let number = done.1.composed.number in
-      let size : length events - 1 ≡ after.event = omega (arith, count, number) in
-      subst (λ (es : List Event). EndsWith budget (readings level.rules.inside w es) (length es - 1)
-      (end_of level.calls budget after)) (sym (events-are w done.0 after done.1.composed))
-      (subst (λ (i : ℕ). EndsWith budget (readings level.rules.inside w events) i (end_of level.calls budget after)) (sym size)
-      (ends-with level w done.0 after budget done.1.composed done.1.home))
+      end-of w done.0 after budget done.1
+
+  -- WHAT TURNS ALONE HAVE REACHED is strict.
+  pub record IsStrictly (w : WorkloadView) (events : List Event) (m : Machine U C) : Type 0 where
+    pub composed : IsComposed level w events m
+    pub strict : AreStrict level.rules w (opening_readings w) (opening_event w ∷ events)
+
+  pub strictly-opening : (w : WorkloadView) → IsWorkload w → IsStrictly w [] (opening level.calls w)
+  strictly-opening w ok =
+      record { composed = composed-opening level w ok; strict = (record { strict = λ io later due low. absurd (omega (arith, later)) }, tt) }
+
+  pub strictly-turn : (w : WorkloadView) (events : List Event) (m : Machine U C) (p : ProcNo) (after : Machine U C) → IsStrictly w events m
+      → IsMove level.calls m (turn p) after → (ev : Event) × IsStrictly w (events ++ ev ∷ []) after
+  strictly-turn w events m p after c made =
+      let go = composed-turn level w events m p made.1.fresh c.composed made.0 made.1.unused in (
+        go.0,
+        record {
+          composed = subst (λ (z : Machine U C). IsComposed level w (events ++ go.0 ∷ []) z) (sym made.1.is)
+              (composed-goes level w events m p (turned level.calls p made.1.fresh m) go.0 c.composed go.1);
+          strict = strict-push level.rules w (opening_readings w) (opening_event w ∷ events) go.0 c.strict go.1.strict;
+        },
+      )
+
+  pub strict-of : (w : WorkloadView) (events : List Event) (m : Machine U C) → IsStrictly w events m → IsStrictRun level.rules w m.items
+  strict-of w events m c = record {
+    each = subst (λ (es : List Event). (n : ℕ) (e : Event) → slice_get es n ≡ Some e → IsStrict (before level.rules w es n) e)
+        (sym (events-are w events m c.composed)) (strict-at level.rules w (opening_readings w) (opening_event w ∷ events) c.strict);
+  }
 
   -- A RUN OF TURNS ALONE IS STRICT.
   strict-run : (w : WorkloadView) (events : List Event) (m : Machine U C) (moves : List Move) (after : Machine U C)
-      → IsComposed level w events m
-      → AreStrict level.rules w (opening_readings w) (opening_event w ∷ events) → AreTurns moves → IsRun level.calls m moves after
-      → (more : List Event) × IsComposed level w (events ++ more) after
-      × AreStrict level.rules w (opening_readings w) (opening_event w ∷ (events ++ more))
-  strict-run w events m [] after c strict turns run = (
-    [],
-    subst (λ (es : List Event). IsComposed level w es after) (sym (append-nil events))
-        (subst (λ (z : Machine U C). IsComposed level w events z) (sym run) c),
-    subst (λ (es : List Event). AreStrict level.rules w (opening_readings w) (opening_event w ∷ es)) (sym (append-nil events)) strict,
-  )
-  strict-run w events m (turn p ∷ moves) after c strict turns run =
-      let made = run.1 in
-      let go = composed-turn level w events m p made.1.fresh c made.0 made.1.unused in
-      let next = subst (λ (z : Machine U C). IsComposed level w (events ++ go.0 ∷ []) z) (sym made.1.is)
-      (composed-goes level w events m p (turned level.calls p made.1.fresh m) go.0 c go.1) in
-      let rest = strict-run w (events ++ go.0 ∷ []) run.0 moves after next
-      (strict-push level.rules w (opening_readings w) (opening_event w ∷ events) go.0 strict go.1.strict) turns run.2 in
-      let again = append_assoc events (go.0 ∷ []) rest.0 in (
-        go.0 ∷ rest.0,
-        subst (λ (es : List Event). IsComposed level w es after) again rest.1,
-        subst
-            (λ (es : List Event). AreStrict level.rules w (opening_readings w) (opening_event w ∷ es)) again rest.2,
-      )
-  strict-run w events m (commit p n ∷ moves) after c strict turns run = absurd turns
+      → IsStrictly w events m → AreTurns moves → IsRun level.calls m moves after → (all : List Event) × IsStrictly w all after
+  strict-run w events m [] after c turns run = (events, subst (λ (z : Machine U C). IsStrictly w events z) (sym run) c)
+  strict-run w events m (turn p ∷ moves) after c turns run =
+      let go = strictly-turn w events m p run.0 c run.1 in
+      strict-run w (events ++ go.0 ∷ []) run.0 moves after go.1 turns run.2
+  strict-run w events m (commit p n ∷ moves) after c turns run = absurd turns
 
   pub turns-are-strict : (w : WorkloadView) (moves : List Move) (after : Machine U C) → IsWorkload w → AreTurns moves
       → IsRun level.calls (opening level.calls w) moves after → IsStrictRun level.rules w after.items
   turns-are-strict w moves after ok turns run =
-      let done = strict-run w [] (opening level.calls w) moves after (composed-opening level w ok)
-      (record { strict = λ io later due low. absurd (omega (arith, later)) }, tt) turns run in
-      let events = opening_event w ∷ done.0 in
-      record {
-        each = subst (λ (es : List Event). (n : ℕ) (e : Event) → slice_get es n ≡ Some e → IsStrict (before level.rules w es n) e)
-            (sym (events-are w done.0 after done.1)) (strict-at level.rules w (opening_readings w) events done.2);
-      }
+      let done = strict-run w [] (opening level.calls w) moves after (strictly-opening w ok) turns run in
+      strict-of w done.0 after done.1
 
   -- EVENT k IS OF THE PROCESSOR OF THE k-TH MOVE, where a commit of n instructions counts as n moves; it has that number;
   -- and the number of events is the last one's.
@@ -234,26 +265,18 @@ module _ {U C : Type 0} (level : UserLevel U C) where
       → procs_of (events_of after.items) ≡ proc_no 0 ∷ processors_of moves
   runs-follow w moves after ok run =
       let done = reached-run w [] (opening level.calls w) moves after (reached-opening w ok) run in
-      ap procs_of (events-are w done.0 after done.1.composed) ∙ ap (λ (ps : List ProcNo). proc_no 0 ∷ ps) done.2
+      processors-are w done.0 after done.1 ∙ ap (λ (ps : List ProcNo). proc_no 0 ∷ ps) done.2
 
   pub runs-number : (w : WorkloadView) (moves : List Move) (after : Machine U C) → IsWorkload w
       → IsRun level.calls (opening level.calls w) moves after
       → (k : ℕ) (e : Event) → slice_get (events_of after.items) k ≡ Some e → e.number ≡ k
   runs-number w moves after ok run =
       let done = reached-run w [] (opening level.calls w) moves after (reached-opening w ok) run in
-      let events = opening_event w ∷ done.0 in
-      let each : (k : ℕ) (e : Event) → slice_get events k ≡ Some e → e.number ≡ k = λ k e is.
-      let there : e.number ≡ 0 + k =
-      numbered-at level.rules w (opening_readings w) events done.1.composed.lawful k e is in omega (arith, there) in
-      subst (λ (es : List Event). (k : ℕ) (e : Event) → slice_get es k ≡ Some e → e.number ≡ k)
-      (sym (events-are w done.0 after done.1.composed)) each
+      number-of w done.0 after done.1
 
   pub runs-count : (w : WorkloadView) (moves : List Move) (after : Machine U C) → IsWorkload w
       → IsRun level.calls (opening level.calls w) moves after
       → length (events_of after.items) ≡ after.event + 1
   runs-count w moves after ok run =
       let done = reached-run w [] (opening level.calls w) moves after (reached-opening w ok) run in
-      let count = numbers-count level.rules w (opening_readings w) (opening_event w ∷ done.0) in
-      let number = done.1.composed.number in
-      let size : length (opening_event w ∷ done.0) ≡ after.event + 1 = omega (arith, count, number) in
-      ap (λ (es : List Event). length es) (events-are w done.0 after done.1.composed) ∙ size
+      count-of w done.0 after done.1

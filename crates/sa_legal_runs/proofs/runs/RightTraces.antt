@@ -21,7 +21,7 @@ use Rattle.sa_histories.proofs.Numbers.{number-next}
 use Rattle.sa_kernel_laws.proofs.entries.Walks.{not-empty}
 use Rattle.sa_core_model.specs.Machine.{Machine}
 use Rattle.sa_core_model.specs.End.{end_of}
-use Rattle.sa_core_model.specs.Run.{opening, Move, IsRun}
+use Rattle.sa_core_model.specs.Run.{opening, Move, IsMove, IsRun}
 use Rattle.sa_user_laws.specs.Level.{UserLevel}
 use Rattle.sa_legal_runs.proofs.matching.Composed.{read}
 use Rattle.sa_legal_runs.proofs.user.GoingOn.{GoOn, go-on-cons}
@@ -78,63 +78,79 @@ go-on-at test w r (e ∷ x ∷ es) zero on inside = on.0
 go-on-at test w r (e ∷ x ∷ es) (suc n) on inside = go-on-at test w (after_event test w r e) (x ∷ es) n on.1 (omega (arith, inside))
 
 module _ {U C : Type 0} (level : UserLevel U C) where
-  driven : (w : WorkloadView) (events : List Event) (budget : ℕ) (m : Machine U C) (moves : List Move) (after : Machine U C)
-      (run : IsRun level.calls m moves after) → IsReached level w events m
-      → GoOn level.rules.inside w (opening_readings w) (opening_event w ∷ events) → NotEnded level.calls budget m moves after run
-      → (more : List Event) × IsReached level w (events ++ more) after
-      × GoOn level.rules.inside w (opening_readings w) (opening_event w ∷ (events ++ more))
-  driven w events budget m [] after run c on none = (
-    [],
-    subst (λ (es : List Event). IsReached level w es after) (sym (append-nil events))
-        (subst (λ (z : Machine U C). IsReached level w events z) (sym run) c),
-    subst (λ (es : List Event). GoOn level.rules.inside w (opening_readings w) (opening_event w ∷ es)) (sym (append-nil events)) on,
-  )
-  driven w events budget m (move ∷ moves) after run c on none =
-      let first = reached-move level w events m move run.0 c run.1 in
+  -- WHAT MOVES HAVE REACHED before which the machine had not ended: the run goes on after each event but the last.
+  pub record IsDriven (w : WorkloadView) (events : List Event) (m : Machine U C) : Type 0 where
+    pub reached : IsReached level w events m
+    pub on : GoOn level.rules.inside w (opening_readings w) (opening_event w ∷ events)
+
+  pub driven-opening : (w : WorkloadView) → IsWorkload w → IsDriven w [] (opening level.calls w)
+  driven-opening w ok = record { reached = reached-opening level w ok; on = tt }
+
+  pub driven-move : (w : WorkloadView) (events : List Event) (budget : ℕ) (m : Machine U C) (move : Move) (after : Machine U C)
+      → IsDriven w events m → end_of level.calls budget m ≡ None → IsMove level.calls m move after
+      → (more : List Event) × IsDriven w (events ++ more) after
+  driven-move w events budget m move after c none made =
+      let go = reached-move level w events m move after c.reached made in
       let goes : GoesOn (read level w events) =
-      (subst (λ (o : Option End). EndsWith budget (read level w events) m.event o) none.0
-      (ends-with level w events m budget c.composed c.home)).0 in
-      let rest = driven w (events ++ first.0) budget run.0 moves after run.2 first.1
-      (go-on-append level.rules.inside w (opening_readings w) (opening_event w ∷ events) first.0 on goes first.2) none.1 in
-      let again = append_assoc events first.0 rest.0 in (
-        first.0 ++ rest.0,
-        subst (λ (es : List Event). IsReached level w es after) again rest.1,
-        subst
-            (λ (es : List Event). GoOn level.rules.inside w (opening_readings w) (opening_event w ∷ es)) again rest.2,
+      (subst (λ (o : Option End). EndsWith budget (read level w events) m.event o) none
+      (ends-with level w events m budget c.reached.composed c.reached.home)).0 in (
+        go.0,
+        record {
+          reached = go.1;
+          on = go-on-append level.rules.inside w (opening_readings w) (opening_event w ∷ events) go.0 c.on goes go.2;
+        },
       )
+
+  pub go-on-of : (w : WorkloadView) (events : List Event) (m : Machine U C) → IsDriven w events m
+      → (n : ℕ) → n + 1 < length (events_of m.items) → GoesOn (before level.rules w (events_of m.items) (n + 1))
+  go-on-of w events m c n inside =
+      let is = events-are level w events m c.reached.composed in
+      let next : suc n ≡ n + 1 = omega arith in
+      subst (λ (es : List Event). GoesOn (before level.rules w es (n + 1))) (sym is)
+      (subst (λ (k : ℕ). GoesOn (before level.rules w (opening_event w ∷ events) k)) next
+      (go-on-at level.rules.inside w (opening_readings w) (opening_event w ∷ events) n c.on
+      (let below = subst (λ (es : List Event). n + 1 < length es) is inside in omega (arith, below))))
+
+  pub right-of : (w : WorkloadView) (events : List Event) (budget : ℕ) (m : Machine U C) (end : End) → IsDriven w events m
+      → end_of level.calls budget m ≡ Some end → IsRight level.rules w m.items (record { end = end; events = m.event })
+  right-of w events budget m end driven ended =
+      let all = opening_event w ∷ events in
+      let c = driven.reached.composed in
+      let line : LastLine = record { end = end; events = m.event } in
+      let told : IsToldEnd (read level w events) end =
+      told-end budget m.event (read level w events) end
+      (subst (λ (o : Option End). EndsWith budget (read level w events) m.event o) ended
+      (ends-with level w events m budget c driven.reached.home)) in
+      let number = c.number in
+      let counted = numbers-count level.rules w (opening_readings w) all in
+      let is = events-are level w events m c in
+      record {
+        some = subst (λ (es : List Event). es ≢ []) (sym is) (not-empty (opening_event w) events);
+        each = subst (λ (es : List Event). HoldsBefore level.rules w es line (length es)) (sym is)
+            (λ n e below at. rights level.rules w (opening_readings w) all line c.lawful driven.on told
+            (omega (arith, number, counted)) n e at);
+      }
+
+  driven-run : (w : WorkloadView) (events : List Event) (budget : ℕ) (m : Machine U C) (moves : List Move) (after : Machine U C)
+      (run : IsRun level.calls m moves after) → IsDriven w events m → NotEnded level.calls budget m moves after run
+      → (all : List Event) × IsDriven w all after
+  driven-run w events budget m [] after run c none = (events, subst (λ (z : Machine U C). IsDriven w events z) (sym run) c)
+  driven-run w events budget m (move ∷ moves) after run c none =
+      let go = driven-move w events budget m move run.0 c none.0 run.1 in
+      driven-run w (events ++ go.0) budget run.0 moves after run.2 go.1 none.1
 
   -- THE RUN GOES ON after each event but the last.
   pub runs-go-on : (w : WorkloadView) (budget : ℕ) (moves : List Move) (after : Machine U C) → IsWorkload w
       → (run : IsRun level.calls (opening level.calls w) moves after) → NotEnded level.calls budget (opening level.calls w) moves after run
       → (n : ℕ) → n + 1 < length (events_of after.items) → GoesOn (before level.rules w (events_of after.items) (n + 1))
   runs-go-on w budget moves after ok run none n inside =
-      let done = driven w [] budget (opening level.calls w) moves after run (reached-opening level w ok) tt none in
-      let is = events-are level w done.0 after done.1.composed in
-      let next : suc n ≡ n + 1 = omega arith in
-      subst (λ (es : List Event). GoesOn (before level.rules w es (n + 1))) (sym is)
-      (subst (λ (k : ℕ). GoesOn (before level.rules w (opening_event w ∷ done.0) k)) next
-      (go-on-at level.rules.inside w (opening_readings w) (opening_event w ∷ done.0) n done.2
-      (let below = subst (λ (es : List Event). n + 1 < length es) is inside in omega (arith, below))))
+      let done = driven-run w [] budget (opening level.calls w) moves after run (driven-opening w ok) none in
+      go-on-of w done.0 after done.1 n inside
 
   -- THE TRACE IS RIGHT, with its last line.
   pub runs-are-right : (w : WorkloadView) (budget : ℕ) (moves : List Move) (after : Machine U C) (end : End) → IsWorkload w
       → (run : IsRun level.calls (opening level.calls w) moves after) → NotEnded level.calls budget (opening level.calls w) moves after run
       → end_of level.calls budget after ≡ Some end → IsRight level.rules w after.items (record { end = end; events = after.event })
   runs-are-right w budget moves after end ok run none ended =
-      let done = driven w [] budget (opening level.calls w) moves after run (reached-opening level w ok) tt none in
-      let events = opening_event w ∷ done.0 in
-      let c = done.1.composed in
-      let line : LastLine = record { end = end; events = after.event } in
-      let told : IsToldEnd (read level w done.0) end =
-      told-end budget after.event (read level w done.0) end
-      (subst (λ (o : Option End). EndsWith budget (read level w done.0) after.event o) ended
-      (ends-with level w done.0 after budget c done.1.home)) in
-      let number = c.number in
-      let counted = numbers-count level.rules w (opening_readings w) events in
-      let is = events-are level w done.0 after c in
-      record {
-        some = subst (λ (es : List Event). es ≢ []) (sym is) (not-empty (opening_event w) done.0);
-        each = subst (λ (es : List Event). HoldsBefore level.rules w es line (length es)) (sym is)
-            (λ n e below at. rights level.rules w (opening_readings w) events line c.lawful done.2 told
-            (omega (arith, number, counted)) n e at);
-      }
+      let done = driven-run w [] budget (opening level.calls w) moves after run (driven-opening w ok) none in
+      right-of w done.0 budget after end done.1 ended

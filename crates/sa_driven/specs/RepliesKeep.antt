@@ -1,10 +1,10 @@
--- A driven user level does not look at the reply, but in a step.
-use Rattle.std.proofs.Common.{◌≡◌, ℕ, refl, sym, ap, subst}
+-- The calls of a driven user level but for the step do not look at the reply.
+use Rattle.std.proofs.Common.{◌≡◌, ℕ, Bool, List, refl, sym, ap, subst}
 use Rattle.sa_base.specs.declared.context.Seen.{Seen}
 use Rattle.sa_abstract.specs.Setting.{Setting}
 use Rattle.sa_abstract.specs.Calls.{Contexts}
-use Rattle.sa_abstract.specs.declared.answer.Tally.{Tally}
 use Rattle.sa_asked.specs.Replies.{KeepsReplies}
+use Rattle.sa_package_model.specs.declared.package.Package.{Package}
 use Rattle.sa_package_model.specs.Step.{tally}
 use Rattle.sa_driven_model.specs.declared.context.DrivenContext.{DrivenContext}
 use Rattle.sa_driven_model.specs.declared.space.DrivenSpace.{DrivenSpace}
@@ -19,7 +19,8 @@ use Rattle.sa_driven.specs.Replies.{driven_replies, are_alike}
 stands-but : (s : Setting) (e : ℕ) (u v : DrivenSpace) (cs : Contexts DrivenContext) → v.base ≡ u.base → v.handed ≡ u.handed
     → IsStanding s e u cs → IsStanding s e v cs
 stands-but s e u v cs base handed st =
-    let there : IsStanding s e (record v { base = u.base; handed = u.handed }) cs = record {
+    subst (λ (x : List Bool). IsStanding s e (record v { handed = x }) cs) (sym handed)
+    (subst (λ (b : Package). IsStanding s e (record v { base = b; handed = u.handed }) cs) (sym base) (record {
       made = st.made;
       parts = st.parts;
       unused = st.unused;
@@ -30,8 +31,7 @@ stands-but s e u v cs base handed st =
       within = st.within;
       handed = st.handed;
       hands = st.hands;
-    } in
-    rw (base, handed) there
+    }))
 
 -- no page decides whether a reply can be done
 no-page : (u : DrivenSpace) (seen : Seen) (c : DrivenContext) (reply : Reply) (pages : ℕ)
