@@ -72,6 +72,10 @@ module _ {U C : Type 0} {f : Calls U C} {xs : List U} {n k : ℕ} (counted : Cou
           few = rw (length-set xs i v) counted.few;
         }
 
+    -- it is another with the same tally
+    pub counted-same : {v : U} → was ≡ f.tally v → Counted f (set xs i v) n k
+    counted-same {v} same = counted-set {v = v} same refl refl
+
 -- one of a list, as it was read there
 module _ {U : Type 0} {xs ys : List U} {i j : ℕ} (same : xs ≡ ys) (here : j ≡ i) (within : i < length ys) where
   pub user-within : j < length xs

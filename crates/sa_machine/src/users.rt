@@ -289,7 +289,8 @@ impl<U: Asked> Users<U> {
         ensures { (u : U) → slice_get self.old s.0 ≡ Some u
             → self.new ≡ slice_set self.old s.0 (U.replies.put u reply) }
     {
-        self.levels[usize::from(s.0)].put(reply);
+        let level = &mut self.levels[usize::from(s.0)];
+        level.put(reply);
     }
 
     /// Whether the next step of a context can do a reply.
