@@ -10,7 +10,7 @@ import sys
 
 CRATE = r"(?:sa|tests)_[a-z0-9_]*[a-z0-9]"
 ITEM = r"(?:fn|struct|enum|trait|type|const|static|mod|union)"
-PAGES = sorted([pathlib.Path("README.md"), *pathlib.Path("docs").glob("*.md"), *pathlib.Path("examples").rglob("*.md")])
+PAGES = sorted([pathlib.Path("README.md"), pathlib.Path("CHANGELOG.md"), *pathlib.Path("docs").glob("*.md"), *pathlib.Path("examples").rglob("*.md")])
 
 
 def anchors(page):
