@@ -14,12 +14,12 @@ use Rattle.sa_core_model.specs.Turn.{next_event}
 use Rattle.sa_asked.specs.declared.question.Question.{Question}
 use Rattle.sa_asked.specs.Replies.{Replies}
 
-module _ {U C : Type 0} where
-  -- the space of which the turn of a processor is a step, if it is one: no line is raised, and no I/O is due
-  abbrev pub steps_by : Option ℕ → Option IoNo → Option SpaceNo → Option SpaceNo
-  steps_by None None owner = owner
-  steps_by _ _ _ = None
+-- the space of which a turn is a step, if it is one: no line is raised, and no I/O is due
+abbrev pub steps_by : Option ℕ → Option IoNo → Option SpaceNo → Option SpaceNo
+steps_by None None owner = owner
+steps_by _ _ _ = None
 
+module _ {U C : Type 0} where
   abbrev pub steps_in : Machine U C → ProcNo → Option SpaceNo
   steps_in m p = steps_by (line_of m.kernel p) (option_map io_no (due_of (m.event + 1) m.kernel.under_way)) (owner_of m.kernel p)
 
