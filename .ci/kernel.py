@@ -82,6 +82,12 @@ def generated(seed):
     return ('\n'.join([*lines, 'close']) + '\n').encode('ascii')
 
 
+def workload_of(path):
+    """The workload of a stored text, without what comes after it."""
+    text = path.read_bytes()
+    return text[:text.index(b'\nclose\n') + len(b'\nclose\n')]
+
+
 def schedules(seed):
     return [], ['--schedule', 'given'], ['--schedule', f'seed:{seed}'], ['--schedule', f'hold:0:{1 + seed % 40}']
 
@@ -110,7 +116,7 @@ def main():
     count, seed = int(sys.argv[2]), int(sys.argv[3])
     tasks = []
     for path in sorted((TOP / 'examples').glob('*.workload')):
-        tasks += [(f'{path.stem} {" ".join(words)}', path.read_bytes(), words) for words in schedules(1)]
+        tasks += [(f'{path.stem} {" ".join(words)}', workload_of(path), words) for words in schedules(1)]
     for number in range(seed, seed + count):
         words = ['--budget', '2000', *schedules(number)[number % 4]]
         tasks.append((f'generated {number} {" ".join(words)}', generated(number), words))
