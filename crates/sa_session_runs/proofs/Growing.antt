@@ -1,9 +1,9 @@
 -- A session goes on by one move more; and a run is a session.
-use Rattle.std.proofs.Common.{◌≡◌, ℕ, refl, sym, ap, subst, ◌∙◌, List, [], ◌∷◌, ◌++◌, map}
+use Rattle.std.proofs.Common.{◌≡◌, refl, ap, subst, ◌∙◌, List, [], ◌∷◌, ◌++◌}
 use Rattle.sa_abstract.specs.Calls.{Calls}
 use Rattle.sa_core_model.specs.Machine.{Machine}
 use Rattle.sa_core_model.specs.Run.{Move, IsRun}
-use Rattle.sa_session_runs.specs.Sessions.{SessionMove, IsSessionMove, IsSession, moves_of}
+use Rattle.sa_session_runs.specs.Sessions.{SessionMove, IsSessionMove, IsSession, moves_of, session_of}
 use Rattle.sa_session_runs.specs.Sessions.SessionMove.{does, puts}
 
 module _ {U C : Type 0} (f : Calls U C) (alike : U → U → Type 0) where
@@ -15,7 +15,7 @@ module _ {U C : Type 0} (f : Calls U C) (alike : U → U → Type 0) where
       (session.0, session.1, session-push session.0 moves between move after session.2 made)
 
   pub run-is-session : (m : Machine U C) (moves : List Move) (after : Machine U C) → IsRun f m moves after
-      → IsSession f alike m (map (λ (move : Move). does {U = U} move) moves) after
+      → IsSession f alike m (session_of {U = U} moves) after
   run-is-session m [] after run = run
   run-is-session m (move ∷ moves) after run = (run.0, run.1, run-is-session run.0 moves after run.2)
 

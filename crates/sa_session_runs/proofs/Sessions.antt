@@ -6,16 +6,16 @@ use Rattle.sa_base.specs.declared.number.SpaceNo.{SpaceNo}
 use Rattle.sa_base.specs.declared.record.End.{End}
 use Rattle.sa_spaces.specs.Workload.{WorkloadView, IsWorkload}
 use Rattle.sa_assign.specs.Reaim.{proc_no}
-use Rattle.sa_acts.specs.declared.acts.Act.{Act}
 use Rattle.sa_laws.specs.Event.{Event, events_of}
 use Rattle.sa_laws.specs.Ends.{GoesOn}
 use Rattle.sa_laws.specs.Legal.{IsLegal, IsStrictRun, IsRight, EndOf, before}
 use Rattle.sa_core_model.specs.Machine.{Machine}
 use Rattle.sa_core_model.specs.End.{end_of}
-use Rattle.sa_core_model.specs.Run.{opening, Move, IsMove}
+use Rattle.sa_core_model.specs.Run.{opening, Move}
 use Rattle.sa_core_model.specs.Run.Move.{turn, commit}
 use Rattle.sa_user_laws.specs.Level.{UserLevel}
 use Rattle.sa_legal_runs.specs.Moves.{AreTurns, processors_of, procs_of}
+use Rattle.sa_legal_runs.proofs.runs.Homes.{AreHomed}
 use Rattle.sa_legal_runs.proofs.runs.LegalRuns.{IsReached, reached-opening, reached-move, legal-of, end-of, number-of, count-of, processors-are, IsStrictly, strictly-opening, strictly-turn, strict-of}
 use Rattle.sa_legal_runs.proofs.runs.RightTraces.{IsDriven, driven-opening, driven-move, go-on-of, right-of}
 use Rattle.sa_session_runs.specs.Sessions.{KeepsAlike, SessionMove, IsPut, IsSession, NotEnded, moves_of}
@@ -28,7 +28,7 @@ module _ {U C : Type 0} (level : UserLevel U C) (alike : U → U → Type 0) (ke
       → IsReached level w events m → IsPut alike s u m after → IsReached level w events after
   reached-put w events m s u after c put = record {
     composed = composed-put level alike keep w events m s u after c.composed put;
-    home = subst (λ (z : Machine U C). Rattle.sa_legal_runs.proofs.runs.Homes.AreHomed (length w.spaces) z.kernel.acts) (sym put.is) c.home;
+    home = subst (λ (z : Machine U C). AreHomed (length w.spaces) z.kernel.acts) (sym put.is) c.home;
   }
 
   first-and : (move : Move) (moves : List Move) → processors_of (move ∷ []) ++ processors_of moves ≡ processors_of (move ∷ moves)
