@@ -24,6 +24,7 @@ module _ {U C : Type 0} (f : Calls U C) (alike : U → U → Type 0) where
       (session : IsSession f alike m moves between) (made : IsSessionMove f alike between move after) → NotEnded f alike budget m moves between session
       → GoesOnBefore budget between move
       → NotEnded f alike budget m (moves ++ move ∷ []) after (session-push m moves between move after session made)
+  unfolding session-push
   not-ended-push budget m [] between (does move) after session made none on = (subst (λ (z : Machine U C). end_of f budget z ≡ None) session on, tt)
   not-ended-push budget m [] between (puts s u) after session made none on = tt
   not-ended-push budget m (does x ∷ moves) between move after session made none on =
