@@ -1,5 +1,5 @@
 -- A value that is alike leaves all that is kept from move to move.
-use Rattle.std.proofs.Common.{◌≡◌, refl, sym, ◌∙◌, subst, List}
+use Rattle.std.proofs.Common.{refl, sym, ◌∙◌, subst, List}
 use Rattle.std.proofs.lemmas.List.{length-set}
 use Rattle.sa_base.specs.declared.number.SpaceNo.{SpaceNo}
 use Rattle.sa_spaces.specs.Workload.{WorkloadView}
