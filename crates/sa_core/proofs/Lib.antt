@@ -1,2 +1,3 @@
 pub mod CoreLemmas
+mod AskLemmas
 mod DueLemmas

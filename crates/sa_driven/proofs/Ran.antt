@@ -1,5 +1,5 @@
 -- A step that is an instruction.
-use Rattle.std.proofs.Common.{◌≡◌, ◌+◌, ◌++◌, List, length, Option, Some, refl, sym, ap, ◌∙◌, subst}
+use Rattle.std.proofs.Common.{◌≡◌, ◌+◌, ◌++◌, Bool, List, length, Some, refl, sym, ap, ◌∙◌, subst}
 use Rattle.sa_base.specs.Recorded.{Recorded}
 use Rattle.sa_base.specs.Items.{items_at}
 use Rattle.sa_base.specs.declared.number.ThreadNo.{ThreadNo}

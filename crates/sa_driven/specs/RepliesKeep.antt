@@ -12,7 +12,7 @@ use Rattle.sa_driven_model.specs.declared.reply.Reply.{Reply}
 use Rattle.sa_driven_model.specs.declared.reply.Reply.TheVariants.{Ins, Run, Ready, Cont, Back, Take, Free, Spin, Idle, Want, GiveBack, Line}
 use Rattle.sa_driven_model.specs.Reply.{can}
 use Rattle.sa_driven_model.specs.Stands.{driven_stands, IsStanding}
-use Rattle.sa_driven_model.specs.Step.{driven_calls, without_reply}
+use Rattle.sa_driven_model.specs.Step.{driven_calls}
 use Rattle.sa_driven.specs.Replies.{driven_replies, are_alike}
 
 -- the reply is no part of what stands

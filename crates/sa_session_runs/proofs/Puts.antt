@@ -1,17 +1,16 @@
 -- A value that is alike leaves all that is kept from move to move.
-use Rattle.std.proofs.Common.{◌≡◌, ℕ, refl, sym, ◌∙◌, subst, List}
+use Rattle.std.proofs.Common.{refl, sym, ◌∙◌, subst, List}
 use Rattle.std.proofs.lemmas.List.{length-set}
 use Rattle.sa_base.specs.declared.number.SpaceNo.{SpaceNo}
 use Rattle.sa_spaces.specs.Workload.{WorkloadView}
 use Rattle.sa_laws.specs.Event.{Event}
 use Rattle.sa_core_model.specs.Machine.{Machine}
 use Rattle.sa_core_model.specs.Run.{setting}
-use Rattle.sa_core_model.specs.Standing.{contexts_of}
+use Rattle.sa_core_model.specs.Standing.{contexts_of, Stands}
 use Rattle.sa_core_model.proofs.Phases.{values-put}
 use Rattle.sa_user_laws.specs.Level.{UserLevel}
 use Rattle.sa_legal_runs.proofs.matching.Composed.{IsComposed, read}
 use Rattle.sa_legal_runs.proofs.matching.Spaces.{fit-put, but-all}
-use Rattle.sa_asked.specs.Questions.{with_user}
 use Rattle.sa_session_runs.specs.Sessions.{KeepsAlike, IsPut}
 
 module _ {U C : Type 0} (level : UserLevel U C) (alike : U → U → Type 0) (keep : KeepsAlike level alike) where
@@ -50,5 +49,5 @@ module _ {U C : Type 0} (level : UserLevel U C) (alike : U → U → Type 0) (ke
         (but-all level w (read level w events) s.0 m.users (contexts_of m) c.fit);
   })
     where
-      st : Rattle.sa_core_model.specs.Standing.Stands level.stands m.event m
+      st : Stands level.stands m.event m
       st = c.between.standing

@@ -6,16 +6,16 @@ use Rattle.sa_base.specs.declared.number.SpaceNo.{SpaceNo}
 use Rattle.sa_base.specs.declared.record.End.{End}
 use Rattle.sa_spaces.specs.Workload.{WorkloadView, IsWorkload}
 use Rattle.sa_assign.specs.Reaim.{proc_no}
-use Rattle.sa_acts.specs.declared.acts.Act.{Act}
 use Rattle.sa_laws.specs.Event.{Event, events_of}
 use Rattle.sa_laws.specs.Ends.{GoesOn}
 use Rattle.sa_laws.specs.Legal.{IsLegal, IsStrictRun, IsRight, EndOf, before}
 use Rattle.sa_core_model.specs.Machine.{Machine}
 use Rattle.sa_core_model.specs.End.{end_of}
-use Rattle.sa_core_model.specs.Run.{opening, Move, IsMove}
+use Rattle.sa_core_model.specs.Run.{opening, Move}
 use Rattle.sa_core_model.specs.Run.Move.{turn, commit}
 use Rattle.sa_user_laws.specs.Level.{UserLevel}
 use Rattle.sa_legal_runs.specs.Moves.{AreTurns, processors_of, procs_of}
+use Rattle.sa_legal_runs.proofs.runs.Homes.{AreHomed}
 use Rattle.sa_legal_runs.proofs.runs.LegalRuns.{IsReached, reached-opening, reached-move, legal-of, end-of, number-of, count-of, processors-are, IsStrictly, strictly-opening, strictly-turn, strict-of}
 use Rattle.sa_legal_runs.proofs.runs.RightTraces.{IsDriven, driven-opening, driven-move, go-on-of, right-of}
 use Rattle.sa_session_runs.specs.Sessions.{KeepsAlike, SessionMove, IsPut, IsSession, NotEnded, moves_of}
@@ -23,13 +23,22 @@ use Rattle.sa_session_runs.specs.Sessions.SessionMove.{does, puts}
 use Rattle.sa_session_runs.proofs.Puts.{composed-put}
 
 module _ {U C : Type 0} (level : UserLevel U C) (alike : U → U → Type 0) (keep : KeepsAlike level alike) where
-  -- A value that is alike changes nothing of what was reached.
-  reached-put : (w : WorkloadView) (events : List Event) (m : Machine U C) (s : SpaceNo) (u : U) (after : Machine U C)
+  -- A VALUE THAT IS ALIKE changes nothing of what was reached.
+  pub reached-put : (w : WorkloadView) (events : List Event) (m : Machine U C) (s : SpaceNo) (u : U) (after : Machine U C)
       → IsReached level w events m → IsPut alike s u m after → IsReached level w events after
   reached-put w events m s u after c put = record {
     composed = composed-put level alike keep w events m s u after c.composed put;
-    home = subst (λ (z : Machine U C). Rattle.sa_legal_runs.proofs.runs.Homes.AreHomed (length w.spaces) z.kernel.acts) (sym put.is) c.home;
+    home = subst (λ (z : Machine U C). AreHomed (length w.spaces) z.kernel.acts) (sym put.is) c.home;
   }
+
+  pub strictly-put : (w : WorkloadView) (events : List Event) (m : Machine U C) (s : SpaceNo) (u : U) (after : Machine U C)
+      → IsStrictly level w events m → IsPut alike s u m after → IsStrictly level w events after
+  strictly-put w events m s u after c put =
+      record { composed = composed-put level alike keep w events m s u after c.composed put; strict = c.strict }
+
+  pub driven-put : (w : WorkloadView) (events : List Event) (m : Machine U C) (s : SpaceNo) (u : U) (after : Machine U C)
+      → IsDriven level w events m → IsPut alike s u m after → IsDriven level w events after
+  driven-put w events m s u after c put = record { reached = reached-put w events m s u after c.reached put; on = c.on }
 
   first-and : (move : Move) (moves : List Move) → processors_of (move ∷ []) ++ processors_of moves ≡ processors_of (move ∷ moves)
   first-and (turn p) moves = refl
@@ -67,7 +76,7 @@ module _ {U C : Type 0} (level : UserLevel U C) (alike : U → U → Type 0) (ke
   strict-session w events m (does (commit p n) ∷ moves) after c turns session = absurd turns
   strict-session w events m (puts s u ∷ moves) after c turns session =
       strict-session w events session.0 moves after
-      (record { composed = composed-put level alike keep w events m s u session.0 c.composed session.1; strict = c.strict }) turns session.2
+      (strictly-put w events m s u session.0 c session.1) turns session.2
 
   driven-session : (w : WorkloadView) (events : List Event) (budget : ℕ) (m : Machine U C) (moves : List (SessionMove U)) (after : Machine U C)
       (session : IsSession level.calls alike m moves after) → IsDriven level w events m → NotEnded level.calls alike budget m moves after session
@@ -78,7 +87,7 @@ module _ {U C : Type 0} (level : UserLevel U C) (alike : U → U → Type 0) (ke
       driven-session w (events ++ go.0) budget session.0 moves after session.2 go.1 none.1
   driven-session w events budget m (puts s u ∷ moves) after session c none =
       driven-session w events budget session.0 moves after session.2
-      (record { reached = reached-put w events m s u session.0 c.reached session.1; on = c.on }) none
+      (driven-put w events m s u session.0 c session.1) none
 
   module _ (w : WorkloadView) (moves : List (SessionMove U)) (after : Machine U C) (ok : IsWorkload w)
       (session : IsSession level.calls alike (opening level.calls w) moves after) where

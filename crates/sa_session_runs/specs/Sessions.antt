@@ -50,3 +50,8 @@ abbrev pub moves_of : {U : Type 0} → List (SessionMove U) → List Move
 moves_of [] = []
 moves_of (does move ∷ moves) = move ∷ moves_of moves
 moves_of (puts s u ∷ moves) = moves_of moves
+
+-- moves of the machine as a session without a reply
+abbrev pub session_of : {U : Type 0} → List Move → List (SessionMove U)
+session_of [] = []
+session_of (move ∷ moves) = does move ∷ session_of moves

@@ -15,14 +15,14 @@ returns c =
     let seen = a.seen.now in
     let t = a.thread in
     let old : DrivenContext = a.ctx.now in
-    let r = c.run_thread in
-    ran_does a.self.now seen old t a.trace.now r.new.trace r.new.space r.new.ctx c.end_ins.new.ctx c.is_next_local.result r.result c.end_ins.result
+    let r = c.run_thread-ran in
+    ran_does a.self.now seen old t a.trace.now r.new.trace r.new.space r.new.ctx c.end_ins.new.ctx c.is_next_local-local.result r.result c.end_ins.result
     (r.ensures.space ∙ ap (λ (u : DrivenSpace). after_run u (run_of u seen t)) c.self.view_is)
     (r.ensures.ctx ∙ ap {B = DrivenContext} (λ (u : DrivenSpace). record old {
       hand = with_all old.hand (work_of (run_of u seen t).shared.works (run_of u seen t).work);
     }) c.self.view_is)
     (r.ensures.ran ∙ ap (λ (u : DrivenSpace). (run_of u seen t).answer) c.self.view_is)
-    c.is_next_local.ensures
+    c.is_next_local-local.ensures
     c.end_ins.ensures.ctx c.end_ins.ensures.answer
     (r.ensures.items ∙ ap (λ (u : DrivenSpace). a.trace.now.items ++ items_at seen.event seen.proc (run_says u.base.def seen.pages u.base.shared t)) c.self.view_is)
     (sym (ap (λ (u : DrivenSpace). r.new.trace.spare + length (run_says u.base.def seen.pages u.base.shared t)) c.self.view_is) ∙ r.ensures.spare)
