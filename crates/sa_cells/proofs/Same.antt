@@ -1,5 +1,5 @@
 -- What a text is made of is the same at two moments, so the text is.
-use Rattle.std.proofs.Common.{◌≡◌, ℕ, ◌-◌, ◌==◌, Bool, true, false, not, ◌&&◌, if◌then◌else◌, List, [], ◌∷◌, ◌++◌, length, nat_lt, slice_index_or, codes, flat_map, Option, Some, None, refl, sym, ◌∙◌, ap}
+use Rattle.std.proofs.Common.{◌≡◌, ℕ, suc, arith, ◌-◌, ◌==◌, Bool, true, false, not, ◌&&◌, if◌then◌else◌, List, [], ◌∷◌, ◌++◌, length, nat_lt, slice_index_or, codes, flat_map, Option, Some, None, refl, sym, ◌∙◌, ap}
 use Rattle.std.proofs.lemmas.Bool.{false≢true, and_parts, and_from, eqb-true}
 use Rattle.sa_base.specs.declared.number.ProcNo.{ProcNo}
 use Rattle.sa_base.specs.declared.number.SpaceNo.{SpaceNo}
@@ -83,7 +83,7 @@ lockless (lock ∷ locks) h = absurd (false≢true h)
 
 empty : {A : Type 0} (xs : List A) → (length xs == 0) ≡ true → xs ≡ []
 empty [] h = refl
-empty (x ∷ xs) h = absurd (false≢true h)
+empty (x ∷ xs) h = absurd (let e : suc (length xs) ≡ 0 = eqb-true (length (x ∷ xs)) 0 h in omega (arith, e))
 
 locking : (x y : Option Life) → both_if no_lock x y ≡ true → of_life (λ (life : Life). locks_text life.locks) x ≡ of_life (λ (life : Life). locks_text life.locks) y
 locking None y h = absurd (false≢true h)
@@ -176,10 +176,10 @@ waiting w s x y true program pc place same =
 waiting w s x y false program pc place same = refl
 
 waits-alike : (a b c : Bool) → (if a then b && c else not b) ≡ true → (a ≡ b) × (a ≡ true → c ≡ true)
-waits-alike true true c h = (refl, λ yes. h)
+waits-alike true true c h = (refl, λ is. h)
 waits-alike true false c h = absurd (false≢true h)
 waits-alike false true c h = absurd (false≢true h)
-waits-alike false false c h = (refl, λ yes. absurd (false≢true yes))
+waits-alike false false c h = (refl, λ is. absurd (false≢true is))
 
 making : (w : WorkloadView) (a b : State) (s : SpaceNo) (t : ThreadNo) → made_same w a b s t ≡ true → made_text w a s t ≡ made_text w b s t
 making w a b s t h =

@@ -67,14 +67,14 @@ sync-same text a b s spaces same =
 module _ (ups : List ActNo) (m : Seen) (e : Event) (test : Test) where
   spaces-same : (touched : Record → Bool) → list_any touched e.records ≡ false
       → length (later m e test).readings.state.spaces ≡ length m.readings.state.spaces
-  spaces-same touched no =
-      kept (λ (r : Readings). length r.state.spaces) touched m.workload e.number e.proc (λ r x un. spaces-stay m.workload e.number e.proc r x) (begun m e) e.records no
+  spaces-same touched un =
+      kept (λ (r : Readings). length r.state.spaces) touched m.workload e.number e.proc (λ r x un. spaces-stay m.workload e.number e.proc r x) (begun m e) e.records un
 
   sync-stays-at : (text : Sync → List ℕ) (s : SpaceNo) → list_any (is_instr s) e.records ≡ false
       → of_sync text (later m e test).readings.state s ≡ of_sync text m.readings.state s
-  sync-stays-at text s no =
-      sync-same text m.readings.state (later m e test).readings.state s (spaces-same (is_instr s) no)
-      (kept (λ (r : Readings). (space_at r.state s).sync) (is_instr s) m.workload e.number e.proc (sync-stays s m.workload e.number e.proc) (begun m e) e.records no)
+  sync-stays-at text s un =
+      sync-same text m.readings.state (later m e test).readings.state s (spaces-same (is_instr s) un)
+      (kept (λ (r : Readings). (space_at r.state s).sync) (is_instr s) m.workload e.number e.proc (sync-stays s m.workload e.number e.proc) (begun m e) e.records un)
 
   pub stays-by-records : (c : Cell) → stays e.records c ≡ true → text_of ups (later m e test) c ≡ text_of ups m c
   stays-by-records (Owner p) h =

@@ -1,5 +1,6 @@
 // Which cells stay in an event for certain: no text of these is written.
 ghost use Rattle.std.specs.Prelude.{◌≡◌, ◌<◌, true, length, List};
+ghost use Rattle.std.specs.List.{list_any};
 ghost use Rattle.std.specs.Option.{option_map};
 ghost use Rattle.sa_base.specs.declared.number.ActNo.{ActNo};
 ghost use Rattle.sa_base.specs.declared.number.ThreadNo.{ThreadNo};
@@ -49,7 +50,13 @@ pub(crate) fn is_kept(
 fn stays(records: &[Record], cell: Cell) -> bool
     ensures { result ≡ stays records.now cell }
 {
-    is_told(cell) && !records.iter().any(|what| touches(cell, what))
+    is_told(cell) && !is_touched(records, cell)
+}
+
+fn is_touched(records: &[Record], cell: Cell) -> bool
+    ensures { result ≡ list_any (touches cell) records.now }
+{
+    records.iter().any(|what| touches(cell, what))
 }
 
 fn is_told(cell: Cell) -> bool
