@@ -1,5 +1,5 @@
 -- An item that passes a track leaves it as it is: it goes on to show the same, and no slice ends.
-use Rattle.std.proofs.Common.{◌≡◌, ℕ, Bool, true, false, not, ◌==◌, ◌&&◌, if◌then◌else◌, List, [], ◌++◌, refl, sym, ◌∙◌, ap, append-nil}
+use Rattle.std.proofs.Common.{◌≡◌, ℕ, Bool, true, false, not, ◌&&◌, if◌then◌else◌, List, ◌++◌, refl, sym, ◌∙◌, ap, append-nil}
 use Rattle.std.proofs.lemmas.Bool.{false≢true, and_parts}
 use Rattle.sa_base.specs.declared.number.ProcNo.{ProcNo}
 use Rattle.sa_base.specs.declared.number.SpaceNo.{SpaceNo}
@@ -17,7 +17,7 @@ use Rattle.sa_trace_events.specs.declared.slices.State.{State}
 use Rattle.sa_trace_events.specs.declared.slices.State.TheVariants as state
 use Rattle.sa_trace_events.specs.State.{is_thread, is_thread_of, left, at_list, own_or_left, doing_by, same_doing}
 use Rattle.sa_trace_events.specs.Events.{names_thread}
-use Rattle.sa_trace_events.specs.Slices.{after, same_state, going_by, closed, closed_unless, slice_goes_on}
+use Rattle.sa_trace_events.specs.Slices.{after, same_state, going_by, closed_unless, slice_goes_on}
 use Rattle.sa_trace_events.specs.Passing.{is_at, passes_by, passes}
 
 untrue : (b : Bool) → not b ≡ true → b ≡ false
