@@ -3,3 +3,6 @@ mod PlainPieces
 mod PlainWords
 mod Plain
 mod Holders
+mod Kept
+mod Same
+mod Stayed

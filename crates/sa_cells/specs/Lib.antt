@@ -8,5 +8,6 @@ pub mod Thread
 pub mod Sync
 pub mod Text
 pub mod Cells
+pub mod Stays
 pub mod Change
 pub mod Laws

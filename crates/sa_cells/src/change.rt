@@ -3,13 +3,15 @@ ghost use Rattle.std.specs.Prelude.{◌≡◌, ◌++◌, OnOk};
 ghost use Rattle.std.specs.List.{flat_map};
 ghost use Rattle.sa_check_moment.specs.Seen.{seen};
 ghost use Rattle.sa_cells.specs.Name.{name_of};
+ghost use Rattle.sa_cells.specs.Stays.{Follows};
 ghost use Rattle.sa_cells.specs.Change.{cell_line, opening_line, opening_lines, changed_line, change_line, change_lines};
 
 use crate::cell::{Cell, push_name};
 use crate::cells::cells_of;
+use crate::stays::is_kept;
 use crate::text::push_text;
 use crate::view::View;
-use sa_base::{ActNo, Record};
+use sa_base::{ActNo, ProcNo, Record};
 use sa_text::print_number;
 use std::alloc::{AllocError, Global};
 
@@ -50,41 +52,68 @@ fn push_opening_cell(
     push_cell_line(out, b"-", cell, &text)
 }
 
-/// Appends the line of each cell whose text changed in the event of this number with these records, before which this was
-/// seen, and after which this is seen, and these were all ups.
+/// Appends the line of each cell whose text changed in the event of this number and processor with these records, before which
+/// this was seen, and after which this is seen, and these were all ups. Only the cells that the event may touch are written out and compared.
 #[tactic(auto, unfolding(crate::specs::Change::change_lines))]
 pub fn push_changes(
     out: &mut Vec<u8>,
     alloc: Global,
     event: u64,
+    p: ProcNo,
     ups: &[ActNo],
     before: &View,
     view: &View,
     records: &[Record],
 ) -> Result<(), AllocError>
+    requires { Follows (seen before.now.moment) (seen view.now.moment) event p records.now }
     ensures { OnOk result (out.new.items ≡ out.old.items
         ++ change_lines event ups.now (seen before.now.moment) (seen view.now.moment) records.now) }
 {
     let cells = cells_of(alloc, &before.moment, &view.moment, records)?;
-    push_changed_cells(out, alloc, event, ups, before, view, &cells)
+    push_changed_cells(out, alloc, event, p, ups, before, view, records, &cells)
 }
 
 fn push_changed_cells(
     out: &mut Vec<u8>,
     alloc: Global,
     event: u64,
+    p: ProcNo,
     ups: &[ActNo],
     before: &View,
     view: &View,
+    records: &[Record],
     cells: &[Cell],
 ) -> Result<(), AllocError>
+    requires { Follows (seen before.now.moment) (seen view.now.moment) event p records.now }
     ensures { OnOk result (out.new.items ≡ out.old.items
         ++ flat_map (change_line event ups.now (seen before.now.moment) (seen view.now.moment)) cells.now) }
 {
     for cell in cells {
-        push_changed_cell(out, alloc, event, ups, before, view, *cell)?;
+        push_touched_cell(out, alloc, event, p, ups, before, view, records, *cell)?;
     }
     Ok(())
+}
+
+// Appends the line of a cell, unless the event keeps it for certain.
+fn push_touched_cell(
+    out: &mut Vec<u8>,
+    alloc: Global,
+    event: u64,
+    p: ProcNo,
+    ups: &[ActNo],
+    before: &View,
+    view: &View,
+    records: &[Record],
+    cell: Cell,
+) -> Result<(), AllocError>
+    requires { Follows (seen before.now.moment) (seen view.now.moment) event p records.now }
+    ensures { OnOk result (out.new.items ≡ out.old.items
+        ++ change_line event ups.now (seen before.now.moment) (seen view.now.moment) cell) }
+{
+    if is_kept(before, view, event, p, records, cell) {
+        return Ok(());
+    }
+    push_changed_cell(out, alloc, event, ups, before, view, cell)
 }
 
 fn push_changed_cell(

@@ -9,6 +9,7 @@ mod life;
 mod pieces;
 mod processor;
 mod space;
+mod stays;
 mod sync;
 mod text;
 mod thread;

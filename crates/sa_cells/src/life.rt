@@ -50,8 +50,8 @@ fn push_on_or_off(
     }
 }
 
-// The life runs on its processor.
-fn is_on(moment: &Moment, a: ActNo, life: &KeptLife) -> bool
+/// The life runs on its processor.
+pub(crate) fn is_on(moment: &Moment, a: ActNo, life: &KeptLife) -> bool
     ensures { result ≡ is_on (seen moment.now).readings a life.now }
 {
     match moment.running(life.proc()) {

@@ -49,8 +49,8 @@ fn push_made(out: &mut Vec<u8>, view: &View, s: SpaceNo, t: ThreadNo) -> Result<
     }
 }
 
-// The thread is in a queue.
-fn waits(view: &View, s: SpaceNo, t: ThreadNo) -> bool
+/// The thread is in a queue.
+pub(crate) fn waits(view: &View, s: SpaceNo, t: ThreadNo) -> bool
     ensures { result ≡ waits (seen view.now.moment).readings.state s t }
 {
     view.moment.thread(s, t).place() == Place::Waiting && !view.replay.is_due(s, t)
@@ -84,8 +84,8 @@ fn push_mutex(out: &mut Vec<u8>, sync: &SyncState, m: u16) -> Result<(), AllocEr
     push_held_by(out, holder_of(sync, m))
 }
 
-// The thread that holds the mutex.
-fn holder_of(sync: &SyncState, m: u16) -> Option<ThreadNo>
+/// The thread that holds the mutex.
+pub(crate) fn holder_of(sync: &SyncState, m: u16) -> Option<ThreadNo>
     ensures { option_map (λ (t : ThreadNo). t.0) result ≡ (mutex_at sync.now m).holder }
 {
     if m < sync.mutexes() {

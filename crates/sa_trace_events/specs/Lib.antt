@@ -4,6 +4,7 @@ pub mod Slices
 pub mod Words
 pub mod Json
 pub mod Events
+pub mod Passing
 pub mod Arrows
 pub mod Whole
 pub mod Laws

@@ -13,8 +13,8 @@ use sa_base::{Item, Note, Record, SpaceNo, ThreadNo};
 use sa_trace::append_record;
 use std::alloc::{AllocError, Global};
 
-// The record names the thread.
-fn names_thread(s: SpaceNo, t: ThreadNo, what: &Record) -> bool
+/// The record names the thread.
+pub(crate) fn names_thread(s: SpaceNo, t: ThreadNo, what: &Record) -> bool
     ensures { result ≡ names_thread s t what.now }
 {
     match *what {

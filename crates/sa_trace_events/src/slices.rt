@@ -1,7 +1,9 @@
 // The slices of a track.
 ghost use Rattle.std.specs.Prelude.{◌≡◌, ◌++◌, OnOk};
-ghost use Rattle.sa_trace_events.specs.Slices.{level_of, shown_context, is_work, shown_doing, shown_holder, start, after, same_state, is_shown, is_block, is_free, is_lock, is_over_after, since, slice_begun, going_by, closed, closed_unless, slices};
+ghost use Rattle.sa_trace_events.specs.Slices.{level_of, shown_context, is_work, shown_doing, shown_holder, start, after, same_state, is_shown, is_block, is_free, is_lock, is_over_after, since, slice_begun, going_by, closed, closed_unless, slice_goes_on, clock_at, slices};
+ghost use Rattle.sa_trace_events.specs.Passing.{passes};
 
+use crate::events::names_thread;
 use crate::state::{Context, Doing, Holder, Tally};
 use crate::track::{Level, Track};
 use sa_base::{Item, Record};
@@ -190,6 +192,18 @@ impl Track {
         is_block(what) || (self.is_lock() && is_free(what))
     }
 
+    // The item leaves the track as it is, which shows its state.
+    fn passes(self, going: &Going, item: &Item) -> bool
+        ensures { result ≡ passes self going.now item.now }
+    {
+        match (self, going.shown, going.state) {
+            (Track::Thread(s, t), State::Doing(shown), State::Doing(doing)) => {
+                (shown.is_same(doing) && !doing.is_at(item.proc)) && !names_thread(s, t, &item.what)
+            }
+            _ => false,
+        }
+    }
+
     // The event from which on a track shows what the item makes it show.
     fn since(self, item: &Item) -> u64
         ensures { result ≡ since self item.now }
@@ -266,14 +280,36 @@ pub(crate) fn push_slices(
 {
     let mut going = Going::slice_begun(track, span.begin);
     for (k, item) in items.iter().enumerate() {
-        let next = track.after(going.state, item);
-        let clock = going.clock.max(track.since(item));
-        let same = track.is_same(going.shown, next);
-        push_unless(out, same, track, going, clock, k)?;
-        going = going.moved(same, next, clock, k);
+        push_step(out, &mut going, track, item, k)?;
     }
     let end = going.clock.max(span.end);
     push_closed(out, track, going, end, items.len())
+}
+
+// Goes over the item of this index. Most items pass a thread: then only the clock goes on.
+#[tactic(auto, using(crate::proofs::Passing::passed_written, crate::proofs::Passing::passed_going))]
+fn push_step(
+    out: &mut Vec<Slice>,
+    going: &mut Going,
+    track: Track,
+    item: &Item,
+    k: usize,
+) -> Result<(), AllocError>
+    ensures written { OnOk result (out.new.items ≡ out.old.items
+        ++ closed_unless (slice_goes_on track going.old item.now) track going.old (clock_at track going.old item.now) k) }
+    ensures going { OnOk result (going.new ≡ going_by (slice_goes_on track going.old item.now) going.old
+        (after track going.old.state item.now) (clock_at track going.old item.now) k) }
+{
+    let clock = going.clock.max(track.since(item));
+    if track.passes(going, item) {
+        going.clock = clock;
+        return Ok(());
+    }
+    let next = track.after(going.state, item);
+    let same = track.is_same(going.shown, next);
+    push_unless(out, same, track, *going, clock, k)?;
+    *going = going.moved(same, next, clock, k);
+    Ok(())
 }
 
 // Appends the slice, unless the track goes on to show the same.

@@ -60,7 +60,16 @@ fn push_event(
         return Ok(None);
     };
     push_ups(&mut ups, event.records)?;
-    push_changes(out, alloc, event.number, &ups, &before, &now, event.records)?;
+    push_changes(
+        out,
+        alloc,
+        event.number,
+        event.proc,
+        &ups,
+        &before,
+        &now,
+        event.records,
+    )?;
     let Some(before) = advance(before, event)? else {
         return Ok(None);
     };
