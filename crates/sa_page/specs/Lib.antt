@@ -1,5 +1,7 @@
 pub mod Gathered
 pub mod Advance
 pub mod Shown
+pub mod Shell
+pub mod Said
 pub mod Page
 pub mod Laws

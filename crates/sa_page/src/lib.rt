@@ -6,6 +6,7 @@ mod event;
 pub mod laws;
 mod lines;
 mod page;
+mod said;
 mod shell;
 mod shown;
 

@@ -22,13 +22,17 @@ returns c =
           (subst (λ (ups : List ActNo). Shows (opened c.args.rules c.args.workload.now) ups (events_of c.items-2.result.now) w.text) c.in_ok-pair.ensures.ups
           (subst (λ (m : Seen). Shows m c.in_ok-pair.pair.ups.items (events_of c.items-2.result.now) w.text) start w.shows));
       is =
-          behind _ _ _ _ _ c.in_ok-extend_from_slice-5.ensures.items
+          behind _ _ _ _ _ c.in_ok-push_back.ensures
           (behind _ _ _ _ _ w.written
           (behind _ _ _ _ _ c.in_ok-push_opening.ensures
-          (behind _ _ _ _ _ c.in_ok-extend_from_slice-4.ensures.items
+          (behind _ _ _ _ _ c.in_ok-extend_from_slice-5.ensures.items
           (behind _ _ _ _ _ c.in_ok-push_items.ensures
+          (behind _ _ _ _ _ c.in_ok-extend_from_slice-4.ensures.items
           (behind _ _ _ _ _ c.in_ok-extend_from_slice-3.ensures.items
+          (behind _ _ _ _ _ c.in_ok-extend_from_slice-2.ensures.items
           (behind _ _ _ _ _ c.in_ok-push_end.ensures
-          (behind _ _ _ _ _ c.in_ok-extend_from_slice-2.ensures.items (begins-with _ _ _ c.in_ok-extend_from_slice.ensures.items c.new-out.ensures.items)
-          (c.deref.ensures.value ∙ c.in_ok-verdict_line.ensures)) refl) refl) (ap (said c.args.workload.now) c.items.ensures)) refl) (ap opening_lines start)) refl) refl;
+          (behind _ _ _ _ _ c.in_ok-push_verdict.ensures
+          (behind _ _ _ _ _ c.in_ok-extend_from_slice.ensures.items
+          (begins-with _ _ _ c.in_ok-push_front.ensures c.new-out.ensures.items) refl) refl) refl) refl)
+          (c.deref.ensures.value ∙ c.in_ok-workload_text.ensures)) refl) (ap (said c.args.workload.now) c.items.ensures)) refl) (ap opening_lines start)) refl) refl;
     }
