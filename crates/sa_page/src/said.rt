@@ -46,7 +46,8 @@ fn legal_words(rules: RulesName) -> &'static [u8]
         RulesName::Priorities => {
             b"Every rule of the kernel and of thread priorities holds at every event.\n"
         }
-        RulesName::Any => b"Every rule of the kernel, and of any user level, holds at every event.\n",
+        RulesName::Any =>
+            b"Every rule of the kernel, and of any user level, holds at every event.\n",
     }
 }
 
@@ -77,15 +78,19 @@ fn rule_words(rules: RulesName, rule: Rule) -> &'static [u8]
         Rule::Stepwise => b"each record is a step of the abstract machine of threads",
         Rule::ToldOnce => b"each stop, block and return is told at most once",
         Rule::ToldInTime => b"each stop, block and return is told in time",
-        Rule::WhereOwned => b"each processor is owned by the space of the activation that runs there",
+        Rule::WhereOwned =>
+            b"each processor is owned by the space of the activation that runs there",
         Rule::AllTold => b"an upcall is in a fresh activation, and tells all",
         Rule::UpcallGiven => b"a block gives an upcall",
-        Rule::InterruptNext => b"a raised line is an interrupt at the next turn of its processor, and nothing else is",
+        Rule::InterruptNext =>
+            b"a raised line is an interrupt at the next turn of its processor, and nothing else is",
         Rule::LineCause => b"a line has its cause",
         Rule::WantCause => b"a want has its cause",
-        Rule::SharesCovered => b"each space has at least its share of aims, and aims come in their order",
+        Rule::SharesCovered =>
+            b"each space has at least its share of aims, and aims come in their order",
         Rule::DemandAnnounced => demand_words(rules),
-        Rule::TurnsTaken => b"an event is one of those that may come, with the records that belong to it",
+        Rule::TurnsTaken =>
+            b"an event is one of those that may come, with the records that belong to it",
         Rule::LocksKept => lock_words(rules),
         Rule::OrderKept => order_words(rules),
         Rule::EndTold => b"no event comes after the end, and the last line says it",
@@ -97,7 +102,8 @@ fn demand_words(rules: RulesName) -> &'static [u8]
     ensures { result.now ≡ demand_words rules }
 {
     match rules {
-        RulesName::Priorities => b"demand is announced, and a ready thread that outranks a running one of its space is not left waiting by a thread that goes on",
+        RulesName::Priorities =>
+            b"demand is announced, and a ready thread that outranks a running one of its space is not left waiting by a thread that goes on",
         _ => b"demand is announced",
     }
 }
@@ -107,8 +113,10 @@ fn lock_words(rules: RulesName) -> &'static [u8]
     ensures { result.now ≡ lock_words rules }
 {
     match rules {
-        RulesName::FastThreads => b"the lock of a list is held where a thread is put into it or taken from it, and by one at a time",
-        RulesName::Priorities => b"the lock of list 0 is held where a thread is put into it or taken from it, and by one at a time",
+        RulesName::FastThreads =>
+            b"the lock of a list is held where a thread is put into it or taken from it, and by one at a time",
+        RulesName::Priorities =>
+            b"the lock of list 0 is held where a thread is put into it or taken from it, and by one at a time",
         RulesName::Any => b"a thread that is made ready or continued is heard of",
     }
 }
@@ -118,7 +126,8 @@ fn order_words(rules: RulesName) -> &'static [u8]
     ensures { result.now ≡ order_words rules }
 {
     match rules {
-        RulesName::Priorities => b"a thread that runs is of the greatest rank, and of these the newest",
+        RulesName::Priorities =>
+            b"a thread that runs is of the greatest rank, and of these the newest",
         _ => b"a thread that runs is the newest of its own list, or the oldest of another",
     }
 }

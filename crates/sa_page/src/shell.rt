@@ -28,7 +28,8 @@ pub(crate) const SAID: &[u8] = b"<script type=\"text/plain\" id=\"said-lines\">\
 pub(crate) const WORKLOAD: &[u8] = b"</script>\n<script type=\"text/plain\" id=\"workload\">\n";
 
 // Between the workload and the trace: the part for names, in which nothing is.
-pub(crate) const TRACE: &[u8] = b"</script>\n<script type=\"text/plain\" id=\"names\">\n</script>\n<script type=\"text/plain\" id=\"trace\">\n";
+pub(crate) const TRACE: &[u8] =
+    b"</script>\n<script type=\"text/plain\" id=\"names\">\n</script>\n<script type=\"text/plain\" id=\"trace\">\n";
 
 // Between the trace and the cells.
 pub(crate) const CELLS: &[u8] = b"</script>\n<script type=\"text/plain\" id=\"cells\">\n";

@@ -137,7 +137,7 @@ const said = [];
 const allSaid = (kind) => said.filter((one) => one.word[0] === kind);
 const firstSaid = (kind) => allSaid(kind)[0];
 const isStuck = firstSaid('end').word[1] === 'stuck';
-const broken = allSaid('broken').map(({ word, words }) => ({ number: +word[1], rule: word[2], record: word[3] === '-' ? -1 : +word[3], words }))[0];
+const broken = allSaid('broken').map(({ word, words }) => ({ number: +word[1], rule: word[2], words }))[0];
 const breaksAt = (event) => broken !== undefined && broken.number === numbers[event];
 
 // ---- The programs of each space, and the names of a source, where there is one.

@@ -134,6 +134,7 @@ const fillActivation = (row, number) => {
 const fillActivations = () => {
   const shown = activations.filter(isShownActivation);
   const count = Math.min(MOST_ROWS, shown.length);
+  hide(activationTable, count === 0);
   const rows = activationTable.tBodies[0].rows;
   while (rows.length < count) addRow(activationTable, '', each(3, () => ({ name: '' })));
   for (let k = 0; k < rows.length; k += 1) {
@@ -241,7 +242,7 @@ const fillPrograms = () => {
 
 // ---- The event: its records in words, and the threads.
 
-const makeRecord = (record, k) => {
+const makeRecord = (record) => {
   const item = make('li');
   const line = make('p');
   const words = make('p', wordsOf(record));
@@ -249,10 +250,7 @@ const makeRecord = (record, k) => {
   const instruction = ran && instructionOf(ran.s, ran.t, ran.place);
   if (instruction) words.append(' ', make('code', instruction));
   line.append(make('code', lineOf(record), 'line'));
-  if (breaksAt(chosen) && (broken.record === k || broken.record < 0)) {
-    item.className = 'bad';
-    if (broken.record === k) line.append(make('span', ` breaks rule ${broken.rule}`, 'bad-words'));
-  }
+  if (breaksAt(chosen)) item.className = 'bad';
   item.append(line, words);
   return item;
 };
