@@ -1,0 +1,6 @@
+pub mod Changed
+pub mod Runners
+pub mod Handed
+pub mod Inside
+pub mod Turned
+pub mod Frames
