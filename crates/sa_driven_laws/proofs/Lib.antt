@@ -4,3 +4,5 @@ pub mod Handed
 pub mod Inside
 pub mod Turned
 pub mod Frames
+pub mod Untold
+pub mod Ceases
