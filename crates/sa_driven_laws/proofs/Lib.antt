@@ -6,3 +6,5 @@ pub mod Turned
 pub mod Frames
 pub mod Untold
 pub mod Ceases
+pub mod Ups
+pub mod Told
