@@ -8,3 +8,9 @@ pub mod Untold
 pub mod Ceases
 pub mod Ups
 pub mod Told
+pub mod EndLaws
+pub mod NoticeLaws
+pub mod Scenes
+pub mod Answers
+pub mod Openings
+pub mod Moves
