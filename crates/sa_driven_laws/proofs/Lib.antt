@@ -14,3 +14,5 @@ pub mod Scenes
 pub mod Answers
 pub mod Openings
 pub mod Moves
+pub mod Replies
+pub mod ReplySteps

@@ -87,23 +87,23 @@ module _ (set : Setting) (e : ℕ) (u : DrivenSpace) (cs : Contexts DrivenContex
   rest0 = held-others set.space r r0 begun a cs (λ x d l ne at is. i.fits.rest x d l at is)
 
   -- A STEP THAT ASKS FOR NOTHING says x and then xs, and leads to the value v and the context new.
-  pub record IsMove (x : Record) (xs : List Record) (v : DrivenSpace) (new : DrivenContext) : Type 0 where
+  pub record IsMove (x : Record) (xs : List Record) (v : DrivenSpace) (new : DrivenContext) (now : Life) : Type 0 where
     pub first : is_step x ≡ true
     pub no_up : list_any is_up (x ∷ xs) ≡ false
     pub needs : AreSteps w seen.event p (event_begun_at w seen.event p r) (x ∷ xs)
     pub turned_so : IsTurned set.space (event_begun_at w seen.event p r) (after_records w seen.event p (event_begun_at w seen.event p r) (x ∷ xs))
-        u.base.shared v.base.shared a c new
+        u.base.shared v.base.shared a c new now
     pub table : AnyStepBy w (event_begun_at w seen.event p r) p life x xs
     pub heard : (behind : List Record) → NamesHeard (event_begun_at w seen.event p r) (x ∷ behind)
     pub demands : (after_records w seen.event p (event_begun_at w seen.event p r) (x ∷ xs)).demands ≡ r.demands
     pub taken : (after_records w seen.event p (event_begun_at w seen.event p r) (x ∷ xs)).taken ≡ r.taken
     pub lowers : new.lowers ≡ false
     pub inside : (closing : List Record) (last : Readings)
-        → IsBehind set seen.event v (put cs a.0 (Some new)) a new turned_so.life seen
+        → IsBehind set seen.event v (put cs a.0 (Some new)) a new now seen
         (after_records w seen.event p (event_begun_at w seen.event p r) (x ∷ xs)) last
-        → is_inside_any w r (event_with seen.event p (x ∷ xs) closing) last (settles r last x) turned_so.life ≡ new.inside
+        → is_inside_any w r (event_with seen.event p (x ∷ xs) closing) last (settles r last x) now ≡ new.inside
 
-  module _ (x : Record) (xs : List Record) (v : DrivenSpace) (new : DrivenContext) (m : IsMove x xs v new)
+  module _ (x : Record) (xs : List Record) (v : DrivenSpace) (new : DrivenContext) (now : Life) (m : IsMove x xs v new now)
       (well : IsStepped driven_stands set seen cs a.0 (asks_for v new (x ∷ xs) asked.Did)) where
     abbrev q : Readings
     q = after_records w seen.event p (event_begun_at w seen.event p r) (x ∷ xs)
@@ -111,19 +111,16 @@ module _ (set : Setting) (e : ℕ) (u : DrivenSpace) (cs : Contexts DrivenContex
     abbrev ds : Contexts DrivenContext
     ds = put cs a.0 (Some new)
 
-    abbrev now : Life
-    now = m.turned_so.life
-
     mine : ds a.0 ≡ Some new
     mine = put-same cs a.0 (Some new)
 
     q-holds : Holds set.space q v.base.shared ds
     q-holds = changed-holds set.space r0 q u.base.shared v.base.shared cs ds a now new
-        (turned set e u cs i.stands set.space r0 q v.base.shared k0 a c new i.on.mine m.turned_so) k0
+        (turned set e u cs i.stands set.space r0 q v.base.shared k0 a c new i.on.mine now m.turned_so) k0
 
     q-others : RestBut set.space q a ds
     q-others = changed-others set.space r0 q u.base.shared v.base.shared cs ds a now new
-        (turned set e u cs i.stands set.space r0 q v.base.shared k0 a c new i.on.mine m.turned_so) rest0
+        (turned set e u cs i.stands set.space r0 q v.base.shared k0 a c new i.on.mine now m.turned_so) rest0
 
     behind-is : (last : Readings) → Alike q last → IsBehind set seen.event v ds a new now seen q last
     behind-is last same =

@@ -38,12 +38,11 @@ use Rattle.sa_driven_laws.proofs.Changed.{life-here, IsNamed, Stays, IsGone, IsC
 use Rattle.sa_driven_laws.proofs.Runners.{carried-apart, carried-not}
 
 -- A STEP
-pub record IsTurned (s : SpaceNo) (r q : Readings) (u v : Shared) (a : ActNo) (c new : DrivenContext) : Type 0 where
+pub record IsTurned (s : SpaceNo) (r q : Readings) (u v : Shared) (a : ActNo) (c new : DrivenContext) (life : Life) : Type 0 where
   pub space : FitsShared v (space_at q.state s)
   pub load : load_of q s ≡ loaded v.threads
   pub was : Life
   pub old : life_of r a ≡ Some was
-  pub life : Life
   pub lives : q.lives ≡ put r.lives a.0 (Some life)
   pub proc : life.proc ≡ was.proc
   pub of : was.space ≡ s
@@ -59,23 +58,24 @@ carried-is true e = refl
 carried-is false e = absurd (omega (arith, e))
 
 module _ (set : Setting) (e : ℕ) (u : DrivenSpace) (cs : Contexts DrivenContext) (h : IsStanding set e u cs) (s : SpaceNo) (r q : Readings) (v : Shared)
-    (k : Holds s r u.base.shared cs) (a : ActNo) (c new : DrivenContext) (is : cs a.0 ≡ Some c) (i : IsTurned s r q u.base.shared v a c new) where
-  pub turned : IsChanged s r q u.base.shared v cs (put cs a.0 (Some new)) a i.life new
+    (k : Holds s r u.base.shared cs) (a : ActNo) (c new : DrivenContext) (is : cs a.0 ≡ Some c) (life : Life)
+    (i : IsTurned s r q u.base.shared v a c new life) where
+  pub turned : IsChanged s r q u.base.shared v cs (put cs a.0 (Some new)) a life new
   turned = record {
     space = i.space;
     load = i.load;
-    here = ap (λ (f : ℕ → Option Life). f a.0) i.lives ∙ put-same r.lives a.0 (Some i.life);
+    here = ap (λ (f : ℕ → Option Life). f a.0) i.lives ∙ put-same r.lives a.0 (Some life);
     mine = put-same cs a.0 (Some new);
-    own = subst (λ g. HasLife s v (space_at q.state s) g new i.life) (sym (stage-same s r q i.untold i.running a i.life)) i.own;
+    own = subst (λ g. HasLife s v (space_at q.state s) g new life) (sym (stage-same s r q i.untold i.running a life)) i.own;
     single = λ x. subst (λ ns. count_by (is_of x) ns ≤ 1) (sym i.untold) (k.single x);
     runs = λ y at.
         let at_r : running_of r y ≡ Some a = sym (ap (λ ps. slice_index_or ps y.0 None) i.running) ∙ at in
         let old = k.runs y a i.was at_r i.old i.of in (
           i.proc ∙ old.1,
-          stage-same s r q i.untold i.running a i.life ∙ ap (stage_on r s a) i.proc ∙ old.2,
+          stage-same s r q i.untold i.running a life ∙ ap (stage_on r s a) i.proc ∙ old.2,
         );
     others = λ x ne. inl (record {
-      life = ap (λ (f : ℕ → Option Life). f x.0) i.lives ∙ put-other r.lives a.0 x.0 (Some i.life) ne;
+      life = ap (λ (f : ℕ → Option Life). f x.0) i.lives ∙ put-other r.lives a.0 x.0 (Some life) ne;
       ctx = put-other cs a.0 x.0 (Some new) ne;
       stage = λ y. stage-same s r q i.untold i.running x (record i.was { proc = y });
       runs = λ y at. sym (ap (λ ps. slice_index_or ps y.0 None) i.running) ∙ at;
