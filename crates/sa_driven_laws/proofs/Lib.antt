@@ -16,3 +16,6 @@ pub mod Openings
 pub mod Moves
 pub mod Replies
 pub mod ReplySteps
+pub mod AskSteps
+pub mod InsFits
+pub mod InsSteps

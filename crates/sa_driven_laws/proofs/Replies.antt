@@ -94,7 +94,7 @@ module _ (set : Setting) (e : ℕ) (u : DrivenSpace) (cs : Contexts DrivenContex
     pub cont : now.cont ≡ new.continues
     pub hand : (n : ℕ) → in_hand now.hand n ≡ has new.hand n
 
-  own-life : (v : Shared) (y : SpaceState) (now : Life) (new : DrivenContext) → IsOf now new
+  pub own-life : (v : Shared) (y : SpaceState) (now : Life) (new : DrivenContext) → IsOf now new
       → ((t : ThreadNo) → new.thread ≡ Some t → ((thread_in y t).place ≡ place.Running p) × (place_at v t.0 ≡ fast.Running))
       → HasLife set.space v y (stage_of r0 set.space a now) new now
   own-life v y now new o places =
