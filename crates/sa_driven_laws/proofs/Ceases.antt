@@ -115,7 +115,7 @@ module _ (set : Setting) (e : ℕ) (u : DrivenSpace) (cs : Contexts DrivenContex
       rest = λ x ne. refl;
       acts = ceased-acts s r stopped_at u.base.shared cs k p a life runs there of refl procs;
       ran = ceased-ran s r stopped_at u.base.shared cs k p a life runs there of refl procs;
-      places = λ n other. (ap (λ (x : Thread). x.place) (stop-placed.others n (none-of c.thread n other)), refl);
+      places = λ n less other. (ap (λ (x : Thread). x.place) (stop-placed.others n (none-of c.thread n other)), refl);
       space = own-fits u.base.shared r.state s place.Carried c.thread known made
           (λ n at. subst (λ x. SitsIn x place.Carried) (sym (l.kept n at ∙ ap kept_of stage)) tt) k.space;
       active =
@@ -194,7 +194,7 @@ module _ (set : Setting) (e : ℕ) (u : DrivenSpace) (cs : Contexts DrivenContex
         rest = λ x ne. put-other cs a.0 x (Some c) ne;
         acts = ceased-acts s r blocked_at u.base.shared cs k p a life runs there of refl procs;
         ran = ceased-ran s r blocked_at u.base.shared cs k p a life runs there of refl procs;
-        places = λ n other. (ap (λ (x : Thread). x.place) (block-placed.others n (none-of c.thread n other)), kept_now.others n other);
+        places = λ n less other. (ap (λ (x : Thread). x.place) (block-placed.others n (none-of c.thread n other)), kept_now.others n other);
         space = kept_now.space;
         active = let moves = block-placed.active in let none = counted-zero c.thread in let loads = kept_now.load in omega (arith, moves, none, loads);
         mine = record {
@@ -262,7 +262,7 @@ module _ (set : Setting) (e : ℕ) (u : DrivenSpace) (cs : Contexts DrivenContex
       rest = λ x ne. refl;
       acts = λ x y ne. refl;
       ran = λ x y at. (at, λ e. nowhere y (at ∙ ap (λ j. Some (record { 0 = j })) e));
-      places = λ n other. (ap (λ (x : Thread). x.place) (back-placed.others n (none-of c.thread n other)), refl);
+      places = λ n less other. (ap (λ (x : Thread). x.place) (back-placed.others n (none-of c.thread n other)), refl);
       space = own-fits u.base.shared r.state s place.Carried c.thread known made
           (λ n at. subst (λ x. SitsIn x place.Carried) (sym (l.kept n at ∙ ap kept_of back-stage)) tt) k.space;
       active = let moves = back-placed.active in let none = counted-zero c.thread in omega (arith, moves, none);

@@ -228,7 +228,7 @@ module _ (set : Setting) (e : ℕ) (u : DrivenSpace) (cs : Contexts DrivenContex
     pub lives_now : q.lives ≡ put r.lives a.0 (Some (with_hand roused life))
     lives_now = life-changed (with_hand (next_effect w r.state s t).roused) (event_begun_at w seen.event p r) p a life i.on.runs i.on.is
 
-    run_is : RunStep u.base.def u.base.processors e x None t o
+    pub run_is : RunStep u.base.def u.base.processors e x None t o
     run_is = step set e u cs i.stands a.0 c i.on.mine t own seen.pages
 
     ws-below : (v : ℕ) → 1 ≤ count_in v (work_of o.shared.works o.work) → v < length c.hand

@@ -209,7 +209,7 @@ module _ (set : Setting) (e : ℕ) (u : DrivenSpace) (cs : Contexts DrivenContex
 
   -- the same after it
   module _ (can : There j) (q : Readings) (state : q.state ≡ (ins.q set e u cs w r p a life c seen i t own).state) where
-    made-after : t.0 < o.shared.state.lists.made
+    pub made-after : t.0 < o.shared.state.lists.made
     made-after = let all = made-more u.base.fetch seen.pages u.base.shared t b t_inside j in let less = t_made in omega (arith, all, less)
 
     pub after-fits : FitsThread (block_at o.shared.threads t.0) (thread_at q.state set.space t)

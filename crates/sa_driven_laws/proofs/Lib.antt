@@ -19,3 +19,4 @@ pub mod ReplySteps
 pub mod AskSteps
 pub mod InsFits
 pub mod InsSteps
+pub mod BlockSteps

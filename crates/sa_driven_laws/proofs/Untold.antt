@@ -34,7 +34,7 @@ use Rattle.sa_fast_laws.specs.Stage.{Runs, stage_by, stage_on, stage_of, is_act}
 use Rattle.sa_driven_laws.specs.Life.{HasLife}
 use Rattle.sa_driven_laws.specs.DrivenFits.{Holds}
 use Rattle.sa_driven_laws.proofs.Changed.{IsNamed, Stays, IsChanged}
-use Rattle.sa_driven_laws.proofs.Runners.{carried-apart}
+use Rattle.sa_driven_laws.proofs.Runners.{carried-apart, carried-made}
 
 -- A LIFE CEASES TO RUN: others run where they ran.
 module _ (s : SpaceNo) (r q : Readings) (u : Shared) (cs : Contexts DrivenContext) (k : Holds s r u cs) (p : ProcNo) (a : ActNo) (life : Life)
@@ -95,7 +95,7 @@ pub record IsUntold (s : SpaceNo) (r q : Readings) (u v : Shared) (cs ds : Conte
   pub acts : (x : ActNo) (y : ProcNo) → x.0 ≢ a.0 → is_act x (running_of q y) ≡ is_act x (running_of r y)
   pub ran : (x : ActNo) (y : ProcNo) → running_of q y ≡ Some x → (running_of r y ≡ Some x) × (x.0 ≢ a.0)
   -- the places of all other threads stay
-  pub places : (t : ThreadNo) → ((n : ThreadNo) → c.thread ≡ Some n → t.0 ≢ n.0)
+  pub places : (t : ThreadNo) → t.0 < u.state.lists.made → ((n : ThreadNo) → c.thread ≡ Some n → t.0 ≢ n.0)
       → ((thread_in (space_at q.state s) t).place ≡ (thread_in (space_at r.state s) t).place) × (place_at v t.0 ≡ place_at u t.0)
   pub space : FitsShared v (space_at q.state s)
   -- a thread that is active no more is one of the load no more, or is untold
@@ -167,6 +167,6 @@ module _ (set : Setting) (e : ℕ) (u : DrivenSpace) (cs ds : Contexts DrivenCon
         | inl stop ↦ inl (noted_before x ne (Preempted x) (inl refl) stop)
         | inr back ↦ inr (noted_before x ne (Unblocked x) (inr refl) back)
       ];
-      places = λ d t at carries. i.places t (λ n mine eq. ne (carried-apart set e u cs h x.0 a.0 d old t n at is carries (same ∙ mine) eq));
+      places = λ d t at carries. i.places t (carried-made set e u cs h x.0 d t at carries) (λ n mine eq. ne (carried-apart set e u cs h x.0 a.0 d old t n at is carries (same ∙ mine) eq));
     });
   }
