@@ -110,7 +110,7 @@ module _ (set : Setting) (e : ℕ) (u : DrivenSpace) (cs : Contexts DrivenContex
   pub lock-is : has_lock life ≡ nat_lt 0 c.locks
   lock-is = locks-some life.locks c.locks l.locks
 
-  resident-is : (k : ℕ) → is_resident r0 set.space k ≡ has_page seen.pages k
+  pub resident-is : (k : ℕ) → is_resident r0 set.space k ≡ has_page seen.pages k
   resident-is k = ap (λ m. has_page m k) (sym i.sees.pages)
 
   pub first-is : (locks_one (life_of r a) && not (is_resident r0 set.space PACKAGE_PAGE)) ≡ faults seen c

@@ -20,3 +20,4 @@ pub mod AskSteps
 pub mod InsFits
 pub mod InsSteps
 pub mod BlockSteps
+pub mod InsBlocks
