@@ -21,3 +21,4 @@ pub mod InsFits
 pub mod InsSteps
 pub mod BlockSteps
 pub mod InsBlocks
+pub mod Steps
