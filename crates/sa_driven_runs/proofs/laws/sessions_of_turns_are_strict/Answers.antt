@@ -1,0 +1,8 @@
+use Rattle.sa_driven.specs.Replies.{are_alike}
+use Rattle.sa_driven_laws.proofs.DrivenLaws.{driven_level}
+use Rattle.sa_session_runs.proofs.Sessions.{session-is-strict}
+use Rattle.sa_driven_runs.proofs.Alike.{driven-alike}
+use Rattle.sa_driven_runs.proofs.laws.sessions_of_turns_are_strict.Goals as goal
+
+pub returns : goal.returns
+returns c w moves after ok turns session = session-is-strict driven_level are_alike driven-alike w moves after ok session turns
