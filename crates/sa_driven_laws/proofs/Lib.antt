@@ -22,3 +22,5 @@ pub mod InsSteps
 pub mod BlockSteps
 pub mod InsBlocks
 pub mod Steps
+pub mod LocalRuns
+pub mod DrivenLaws

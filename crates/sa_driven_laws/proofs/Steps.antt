@@ -108,7 +108,7 @@ module _ (set : Setting) (e : ℕ) (u : DrivenSpace) (cs : Contexts DrivenContex
           (touch-legal set e u cs w r p a life c seen i t own touch.0 touch.1 touch.2 (is_next_local u t)))
     ]
 
-    ins-legal : (answer : Ran) → o.answer ≡ answer → Well (ran u seen c (Some t)) → Legal (ran u seen c (Some t))
+    pub ins-legal : (answer : Ran) → o.answer ≡ answer → Well (ran u seen c (Some t)) → Legal (ran u seen c (Some t))
     ins-legal (rans.Blocks n page) is well = blocks-legal n page is
     ins-legal rans.Goes is well =
         subst (λ y. Legal (By o y (run_says u.base.def seen.pages u.base.shared t))) (sym is)
