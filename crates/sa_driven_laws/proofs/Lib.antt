@@ -25,7 +25,7 @@
 --   AskSteps: The replies that ask the kernel for something: a hint, the return of activations, a line.
 --   InsFits: An instruction of a context's thread: the value and the history fit again, and who is roused joins both hands.
 --   InsSteps: An instruction after which its thread goes on, waits or is done, is legal.
---   BlockSteps: A step that blocks is legal: a fault at the ready lists, the touch of an absent page, and an instruction for an I/O.
+--   BlockSteps: A step that blocks for a page, before which it says nothing, is legal: so a fault at the ready lists.
 --   InsBlocks: An instruction that blocks is legal: the touch of an absent page, and an I/O.
 --   Steps: The law of steps: whatever reply there is, done or not.
 --   LocalRuns: The law of local instructions: each is a legal event of its own, and after the last one all fits.
