@@ -62,7 +62,7 @@ use Rattle.sa_driven_laws.specs.DrivenFits.{Holds, DrivenFits}
 use Rattle.sa_driven_laws.proofs.BlockSteps.{page-legal, blocked-fits, first-is, resident-is}
 use Rattle.sa_driven_laws.proofs.Ceases.{none-of}
 use Rattle.sa_driven_laws.proofs.Changed.{life-here, IsChanged}
-use Rattle.sa_driven_laws.proofs.InsFits.{fits_now, sits, made, inside, kept, runs_there, space, changes, place_here, place_there, kept_here, kept_there, loads, actives, lives_now, hand-now, roused}
+use Rattle.sa_driven_laws.proofs.InsFits.{fits_now, sits, made, inside, runs_there, space, changes, place_here, place_there, kept_here, kept_there, loads, actives, lives_now, hand-now, roused}
 use Rattle.sa_driven_laws.proofs.InsFits as ins
 use Rattle.sa_driven_laws.proofs.InsSteps.{There, instr-before, instr-after, thread_fits, t_made}
 use Rattle.sa_driven_laws.proofs.Moves.{IsLegal, rules-of}

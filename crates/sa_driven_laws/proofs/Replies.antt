@@ -24,7 +24,6 @@ use Rattle.sa_driven_model.specs.Threads.{has}
 use Rattle.sa_laws.specs.Any.{is_inside_any}
 use Rattle.sa_laws.specs.Life.{Life}
 use Rattle.sa_laws.specs.Readings.{Readings, untold_of}
-use Rattle.sa_laws.specs.Record.{locks}
 use Rattle.sa_laws.specs.State.{SpaceState, Thread, space_at, thread_in, thread_at, put_thread, placed as put_in, is_active, active_threads}
 use Rattle.sa_laws.specs.declared.place.Place.{Place}
 use Rattle.sa_laws.specs.declared.place.Place.TheVariants as place
