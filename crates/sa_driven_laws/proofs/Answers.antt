@@ -1,17 +1,15 @@
 -- The law of an upcall's end: the context settles, and its life is in where that shows so.
-use Rattle.std.proofs.Common.{◌≡◌, ◌≢◌, ℕ, ◌+◌, Bool, true, false, not, ◌||◌, ◌&&◌, List, [], ◌∷◌, Contains, Option, Some, None, option_map, is_none, refl, sym, ap, ◌∙◌, subst}
+use Rattle.std.proofs.Common.{◌≡◌, ℕ, ◌+◌, Bool, true, not, ◌||◌, ◌&&◌, List, [], ◌∷◌, Contains, Option, Some, None, option_map, is_none, refl, sym, ap, ◌∙◌, subst}
 use Rattle.std.specs.Prelude.{nat_lt, min}
 use Rattle.std.specs.List.{list_any}
 use Rattle.std.proofs.lemmas.Option.{same_Some}
 use Rattle.sa_base.specs.declared.context.Seen.{Seen}
 use Rattle.sa_base.specs.declared.number.ActNo.{ActNo}
-use Rattle.sa_base.specs.declared.number.ProcNo.{ProcNo}
 use Rattle.sa_base.specs.declared.number.SpaceNo.{SpaceNo}
 use Rattle.sa_base.specs.declared.number.ThreadNo.{ThreadNo}
 use Rattle.sa_base.specs.declared.record.Note.{Note}
 use Rattle.sa_base.specs.declared.record.Note.TheVariants.{Add, Preempted, Blocked, Unblocked}
 use Rattle.sa_base.specs.declared.record.Record.TheVariants as records
-use Rattle.sa_lemmas.proofs.FunctionUpdates.{put-same}
 use Rattle.sa_lemmas.specs.Function.{put}
 use Rattle.sa_spaces.specs.Workload.{WorkloadView}
 use Rattle.sa_abstract.specs.Calls.{Contexts}
@@ -21,11 +19,11 @@ use Rattle.sa_driven_model.specs.declared.context.DrivenContext.{DrivenContext}
 use Rattle.sa_driven_model.specs.declared.space.DrivenSpace.{DrivenSpace}
 use Rattle.sa_driven_model.specs.Stands.{driven_stands}
 use Rattle.sa_driven_model.specs.Step.{answered_by, driven_calls}
-use Rattle.sa_laws.specs.Any.{any, is_held_by, names_thread, is_heard, is_handed, has_heard_hand, is_tied, is_inside_any}
+use Rattle.sa_laws.specs.Any.{any, is_held_by, names_thread, is_handed, has_heard_hand, is_tied, is_inside_any}
 use Rattle.sa_laws.specs.Event.{Event}
 use Rattle.sa_laws.specs.History.{arisen}
 use Rattle.sa_laws.specs.Life.{Life}
-use Rattle.sa_laws.specs.Readings.{Readings, running_of, life_of, demand_of, many_taken, carried_by, stopped_thread, load_of, owner_of, untold_of}
+use Rattle.sa_laws.specs.Readings.{Readings, running_of, demand_of, many_taken, carried_by, stopped_thread, load_of, owner_of, untold_of}
 use Rattle.sa_laws.specs.Record.{with_life}
 use Rattle.sa_laws.specs.State.{space_at, thread_in, is_carried, is_due, active_threads}
 use Rattle.sa_user_laws.specs.Moments.{AlikeButEnds, Sees, unended}
@@ -36,7 +34,7 @@ use Rattle.sa_driven_laws.specs.DrivenFits.{DrivenFits, driven_fits, driven_hear
 use Rattle.sa_driven_laws.proofs.Changed.{changed-holds, changed-rest}
 use Rattle.sa_driven_laws.proofs.Inside.{inside-settled}
 use Rattle.sa_driven_laws.proofs.Scenes.{runs-there}
-use Rattle.sa_driven_laws.proofs.Turned.{IsLike, marked, remarked, remark}
+use Rattle.sa_driven_laws.proofs.Turned.{remark}
 
 any-same : {A : Type 0} (p q : A → Bool) (xs : List A) → ((x : A) → p x ≡ q x) → list_any p xs ≡ list_any q xs
 any-same p q [] same = refl

@@ -1,5 +1,5 @@
 -- The replies that ask the kernel for something: a hint, the return of activations, a line.
-use Rattle.std.proofs.Common.{le-ltb, ◌≡◌, ◌≢◌, ℕ, zero, suc, ◌+◌, ◌-◌, ◌≤◌, ◌<◌, Bool, true, false, not, ◌||◌, ◌&&◌, nat_lt, nat_le, List, [], ◌∷◌, map, length, cond, Contains, Option, Some, None, IsSome, refl, sym, ap, ◌∙◌, subst, inl, inr, ◌⊎◌, arith}
+use Rattle.std.proofs.Common.{le-ltb, ◌≡◌, ◌≢◌, ℕ, zero, suc, ◌+◌, ◌-◌, ◌≤◌, ◌<◌, Bool, true, false, not, ◌||◌, ◌&&◌, nat_lt, nat_le, List, [], ◌∷◌, map, length, Contains, Option, Some, None, IsSome, refl, sym, ap, ◌∙◌, subst, inl, inr, arith}
 use Rattle.std.specs.Prelude.{◌==◌}
 use Rattle.std.specs.Int.{bit_at}
 use Rattle.std.specs.List.{list_any}
@@ -19,30 +19,26 @@ use Rattle.sa_spaces.specs.Workload.{WorkloadView}
 use Rattle.sa_fast.specs.declared.shared.Shared.{Shared}
 use Rattle.sa_abstract.specs.Calls.{Contexts}
 use Rattle.sa_abstract.specs.Setting.{Setting}
-use Rattle.sa_abstract.specs.declared.answer.Step.{Step}
 use Rattle.sa_abstract.specs.declared.answer.Step.TheVariants as asks
 use Rattle.sa_driven_model.specs.declared.context.DrivenContext.{DrivenContext}
 use Rattle.sa_driven_model.specs.declared.reply.Reply.TheVariants as reply
 use Rattle.sa_driven_model.specs.declared.space.DrivenSpace.{DrivenSpace}
-use Rattle.sa_driven_model.specs.Context.{has_hand, is_bound, hints}
-use Rattle.sa_driven_model.specs.Reply.{can, can_want, can_interrupt}
-use Rattle.sa_driven_model.specs.Step.{asks_for, answered_by, wants, done}
-use Rattle.sa_laws.specs.Any.{is_inside_any, says_idle, CanHintAny, CanInterrupt}
-use Rattle.sa_laws.specs.Event.{Event}
+use Rattle.sa_driven_model.specs.Reply.{can, can_want}
+use Rattle.sa_driven_model.specs.Step.{answered_by, wants, done}
+use Rattle.sa_laws.specs.Any.{is_inside_any}
 use Rattle.sa_laws.specs.History.{is_up, after_records, settles}
 use Rattle.sa_laws.specs.Life.{Life}
-use Rattle.sa_laws.specs.Readings.{Readings, life_of, demand_of, taken_of, untold_of, owner_of, line_of, stopped_thread}
+use Rattle.sa_laws.specs.Readings.{Readings, life_of, demand_of, taken_of, untold_of, stopped_thread}
 use Rattle.sa_laws.specs.Record.{after_record}
 use Rattle.sa_laws.specs.State.{space_at}
 use Rattle.sa_user_laws.specs.Scene.{event_begun_at}
 use Rattle.sa_user_laws.specs.Steps.{event_with}
 use Rattle.sa_fast_laws.proofs.relation.NoteLists.{notes-same}
 use Rattle.sa_fast_laws.specs.Stage.{is_gone}
-use Rattle.sa_driven_laws.specs.Life.{IsAtRest}
 use Rattle.sa_driven_laws.specs.DrivenFits.{Holds, RestBut}
 use Rattle.sa_driven_laws.proofs.Frames.{SameHeld, held-holds, held-others}
 use Rattle.sa_driven_laws.proofs.Inside.{inside-settled, inside-idle}
-use Rattle.sa_driven_laws.proofs.Moves.{IsLegal, IsBehind, IsAsking, ask-legal}
+use Rattle.sa_driven_laws.proofs.Moves.{IsLegal, IsBehind, ask-legal}
 use Rattle.sa_driven_laws.proofs.Moves as moves
 use Rattle.sa_driven_laws.proofs.Replies.{unlowered}
 use Rattle.sa_driven_laws.proofs.Scenes.{IsScene}

@@ -1,60 +1,41 @@
--- A step that blocks is legal: a fault at the ready lists, the touch of an absent page, and an instruction for an I/O.
-use Rattle.std.proofs.Common.{◌≡◌, ◌≢◌, ℕ, zero, suc, ◌+◌, ◌≤◌, ◌<◌, Bool, true, false, not, ◌||◌, ◌&&◌, nat_lt, List, [], ◌∷◌, ◌++◌, length, length-set, slice_index_or, Option, Some, None, is_some, option_map, refl, sym, ap, ◌∙◌, subst, inl, inr, ◌⊎◌, arith}
-use Rattle.std.specs.Prelude.{if◌then◌else◌, ◌==◌, ◌↔◌}
-use Rattle.std.proofs.Math.Bool.{or-true, or-false}
-use Rattle.std.proofs.lemmas.Bool.{cases_eq, cases_lt, and_parts, eq-eqb, not-true}
-use Rattle.std.proofs.lemmas.List.{get_or-set_same, get_or_past}
-use Rattle.std.proofs.lemmas.Option.{same_Some}
+-- A step that blocks for a page, before which it says nothing, is legal: so a fault at the ready lists.
+use Rattle.std.proofs.Common.{◌≡◌, ℕ, true, false, not, ◌||◌, ◌&&◌, nat_lt, List, [], ◌∷◌, ◌++◌, Some, None, option_map, refl, sym, ap, ◌∙◌, subst, inr}
+use Rattle.std.specs.Prelude.{if◌then◌else◌}
+use Rattle.std.proofs.Math.Bool.{or-true}
+use Rattle.std.proofs.lemmas.Bool.{and_parts, not-true}
 use Rattle.sa_base.specs.declared.context.Seen.{Seen}
 use Rattle.sa_base.specs.declared.limits.TheConstants.{PACKAGE_PAGE}
 use Rattle.sa_base.specs.declared.number.ActNo.{ActNo}
-use Rattle.sa_base.specs.declared.number.IoNo.{IoNo}
 use Rattle.sa_base.specs.declared.number.ProcNo.{ProcNo}
-use Rattle.sa_base.specs.declared.number.ThreadNo.{ThreadNo}
-use Rattle.sa_base.specs.declared.record.Note.TheVariants.{Blocked}
 use Rattle.sa_base.specs.declared.record.Record.{Record}
 use Rattle.sa_base.specs.declared.record.Record.TheVariants as records
 use Rattle.sa_base.specs.Pages.{has_page}
-use Rattle.sa_lemmas.proofs.FunctionUpdates.{put-same, put-other, put-put}
+use Rattle.sa_lemmas.proofs.FunctionUpdates.{put-put}
 use Rattle.sa_lemmas.specs.Function.{put}
-use Rattle.sa_instr.specs.declared.instr.Instr.{Instr}
-use Rattle.sa_instr.specs.declared.instr.Instr.TheVariants.{Io, Touch}
 use Rattle.sa_spaces.specs.Workload.{WorkloadView}
-use Rattle.sa_devices.specs.declared.kind.IoKind.TheVariants.{Plain, Page}
-use Rattle.sa_code.specs.Micro.{is_resident as is_page_resident}
-use Rattle.sa_fast.specs.Instruction.{instr_of, outcome_of, says_of, run_says}
-use Rattle.sa_fast.specs.Rest.{one_where, place_at}
-use Rattle.sa_fast.specs.Threads.{block_at, is_loaded}
-use Rattle.sa_fast.specs.declared.instruction.Ran.{Ran}
-use Rattle.sa_fast.specs.declared.instruction.Ran.TheVariants as rans
+use Rattle.sa_devices.specs.declared.kind.IoKind.TheVariants.{Page}
 use Rattle.sa_fast.specs.declared.shared.Shared.{Shared}
-use Rattle.sa_fast.specs.declared.threads.Block.{Block}
 use Rattle.sa_fast.specs.declared.threads.KeptPlace.TheVariants as fast
-use Rattle.sa_abstract.specs.Calls.{Contexts, Stepped}
+use Rattle.sa_abstract.specs.Calls.{Contexts}
 use Rattle.sa_abstract.specs.Setting.{Setting}
 use Rattle.sa_abstract.specs.declared.answer.Step.TheVariants as asked
 use Rattle.sa_package_model.specs.Rules.{placed}
 use Rattle.sa_driven_model.specs.declared.context.DrivenContext.{DrivenContext}
 use Rattle.sa_driven_model.specs.declared.space.DrivenSpace.{DrivenSpace}
-use Rattle.sa_driven_model.specs.Step.{asks_for, faults, faulted, after_run}
-use Rattle.sa_driven_model.specs.Threads.{has}
-use Rattle.sa_laws.specs.Any.{is_inside_any, has_heard_hand, is_tied}
-use Rattle.sa_laws.specs.Event.{Event}
-use Rattle.sa_laws.specs.History.{is_step, stepped, with_step, after_records}
-use Rattle.sa_laws.specs.Life.{Life, has_lock, held_with, with_hand}
-use Rattle.sa_laws.specs.Readings.{Readings, running_of, life_of, untold_of, is_resident}
-use Rattle.sa_laws.specs.Record.{after_record, blocking, locks_one, page_touched, page_in, length_behind, length_in, with_life}
-use Rattle.sa_laws.specs.State.{Thread, at_start, space_at, thread_at, thread_in, instr_of as law_instr, next_instr}
-use Rattle.sa_laws.specs.Step.{HasCause, IsMissed, IsRunner, Needs}
-use Rattle.sa_laws.specs.Turns.{IsInsOf, IsPassage}
-use Rattle.sa_laws.specs.declared.place.Place.{Place}
-use Rattle.sa_laws.specs.declared.place.Place.TheVariants as place
+use Rattle.sa_driven_model.specs.Step.{asks_for, faults, faulted}
+use Rattle.sa_laws.specs.Any.{is_inside_any, has_heard_hand}
+use Rattle.sa_laws.specs.History.{is_step, stepped, with_step}
+use Rattle.sa_laws.specs.Life.{Life, has_lock, held_with}
+use Rattle.sa_laws.specs.Readings.{Readings, running_of, life_of, is_resident}
+use Rattle.sa_laws.specs.Record.{after_record, locks_one, page_touched, with_life}
+use Rattle.sa_laws.specs.State.{space_at}
+use Rattle.sa_laws.specs.Step.{HasCause}
 use Rattle.sa_user_laws.specs.Scene.{event_begun_at}
 use Rattle.sa_user_laws.specs.Steps.{event_with}
-use Rattle.sa_fast_laws.specs.Stage.{InBlock, Runs, stage_of, is_running, was_idle}
-use Rattle.sa_driven_laws.specs.Life.{HasLife, IsAtRest}
-use Rattle.sa_driven_laws.specs.DrivenFits.{Holds, RestBut, DrivenFits, driven_fits}
-use Rattle.sa_driven_laws.proofs.Ceases.{block-changed, block-stage, blocked_life, blocked_at}
+use Rattle.sa_fast_laws.specs.Stage.{InBlock, stage_of, is_running}
+use Rattle.sa_driven_laws.specs.Life.{HasLife}
+use Rattle.sa_driven_laws.specs.DrivenFits.{Holds, DrivenFits}
+use Rattle.sa_driven_laws.proofs.Ceases.{block-changed, block-stage}
 use Rattle.sa_driven_laws.proofs.Changed.{life-here, IsChanged, changed-holds, changed-others, changed-rest}
 use Rattle.sa_driven_laws.proofs.Inside.{locks-some}
 use Rattle.sa_driven_laws.proofs.Moves.{IsLegal, rules-of}
@@ -62,7 +43,7 @@ use Rattle.sa_driven_laws.proofs.Moves as moves
 use Rattle.sa_driven_laws.proofs.Replies.{unlowered}
 use Rattle.sa_driven_laws.proofs.Scenes.{IsScene}
 use Rattle.sa_driven_laws.proofs.Scenes as scene
-use Rattle.sa_driven_laws.proofs.Turned.{IsLike, remark}
+use Rattle.sa_driven_laws.proofs.Turned.{remark}
 
 module _ (set : Setting) (e : ℕ) (u : DrivenSpace) (cs : Contexts DrivenContext) (w : WorkloadView) (r : Readings) (p : ProcNo) (a : ActNo) (life : Life)
     (c : DrivenContext) (seen : Seen) (i : IsScene set e u cs w r p a life c seen) where

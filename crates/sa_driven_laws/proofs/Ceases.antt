@@ -1,10 +1,10 @@
 -- A running life is stopped, or blocks; a blocked one comes back.
-use Rattle.std.proofs.Common.{◌≡◌, ◌≢◌, ℕ, ◌+◌, ◌≤◌, ◌<◌, Bool, true, false, not, ◌||◌, ◌&&◌, List, [], ◌∷◌, ◌++◌, length, Contains, Option, Some, None, option_map, is_none, slice_index_or, ◌⊎◌, refl, sym, ap, ◌∙◌, subst, inl, inr, arith}
+use Rattle.std.proofs.Common.{◌≡◌, ◌≢◌, ℕ, ◌+◌, ◌<◌, true, false, ◌||◌, ◌&&◌, [], ◌∷◌, ◌++◌, length, Option, Some, None, option_map, refl, sym, ap, ◌∙◌, subst, arith}
 use Rattle.std.specs.List.{list_any}
 use Rattle.std.proofs.Math.Bool.{or-false}
 use Rattle.std.proofs.lemmas.Bool.{eq-eqb, ne_eqb}
 use Rattle.std.proofs.lemmas.List.{get_or-set_same}
-use Rattle.std.proofs.lemmas.Option.{same_Some, slice_get_within}
+use Rattle.std.proofs.lemmas.Option.{same_Some}
 use Rattle.sa_base.specs.declared.number.ActNo.{ActNo}
 use Rattle.sa_base.specs.declared.number.IoNo.{IoNo}
 use Rattle.sa_base.specs.declared.number.ProcNo.{ProcNo}
@@ -13,7 +13,6 @@ use Rattle.sa_base.specs.declared.number.ThreadNo.{ThreadNo}
 use Rattle.sa_base.specs.declared.record.Note.TheVariants.{Preempted, Blocked, Unblocked}
 use Rattle.sa_base.specs.declared.record.Record.TheVariants.{Stop, Unblock, Block as BlockRecord}
 use Rattle.sa_lemmas.proofs.FunctionUpdates.{put-same, put-other}
-use Rattle.sa_lemmas.proofs.ListReads.{some-below}
 use Rattle.sa_lemmas.specs.Function.{put}
 use Rattle.sa_spaces.specs.Workload.{WorkloadView}
 use Rattle.sa_fast.proofs.WorkSteps.{one_other}
@@ -40,13 +39,13 @@ use Rattle.sa_fast_laws.proofs.notices.OwnThread.{IsPlaced, own-placed, own-fits
 use Rattle.sa_fast_laws.proofs.notices.Untold.{IsNoted, runs-only, live_here, noted-stage}
 use Rattle.sa_fast_laws.proofs.relation.Places.{space-here, block-here, block-there, loaded-placed, fits-placed}
 use Rattle.sa_fast_laws.specs.FastFits.{SitsIn, FitsShared}
-use Rattle.sa_fast_laws.specs.Stage.{Stage, Runs, InBlock, Stopped, Returned, stage_by, stage_on, stage_of, is_act, is_gone, is_running, place_of, kept_of}
+use Rattle.sa_fast_laws.specs.Stage.{Stage, Runs, InBlock, Stopped, Returned, stage_by, stage_of, is_act, is_gone, is_running, place_of, kept_of}
 use Rattle.sa_driven_laws.specs.Life.{is_number, in_hand, is_own, HasLife}
 use Rattle.sa_driven_laws.specs.DrivenFits.{Holds}
 use Rattle.sa_driven_laws.proofs.Changed.{life-here, IsChanged}
 use Rattle.sa_driven_laws.proofs.Inside.{hand-append}
 use Rattle.sa_driven_laws.proofs.Runners.{carried-made}
-use Rattle.sa_driven_laws.proofs.Untold.{ceased-none, ceased-acts, ceased-ran, IsUntold, untold}
+use Rattle.sa_driven_laws.proofs.Untold.{ceased-none, ceased-acts, ceased-ran, untold}
 
 pub own-is : (o : Option ThreadNo) (n : ℕ) → in_hand (one_thread o) n ≡ is_own o n
 own-is None n = refl

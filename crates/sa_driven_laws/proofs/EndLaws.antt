@@ -1,5 +1,5 @@
 -- The end: what the value counts is what the history reads of its threads, and for whose sake its space must hear.
-use Rattle.std.proofs.Common.{◌≡◌, ℕ, zero, suc, ◌+◌, ◌≤◌, ◌<◌, Bool, true, false, List, [], ◌∷◌, length, cond, count_by, Option, Some, None, is_none, IsSome, Contains, slice_index_or, refl, sym, ap, ◌∙◌, subst, inl, inr, arith, ◌⊎◌, zero-add}
+use Rattle.std.proofs.Common.{◌≡◌, ℕ, zero, suc, ◌+◌, ◌≤◌, ◌<◌, Bool, true, false, List, [], ◌∷◌, length, cond, count_by, Option, Some, None, IsSome, Contains, slice_index_or, refl, sym, ap, ◌∙◌, subst, inl, inr, arith, ◌⊎◌, zero-add}
 use Rattle.std.specs.Prelude.{◌&&◌, ◌==◌, not}
 use Rattle.std.proofs.lemmas.Bool.{not-true, eq-eqb, ne_eqb}
 use Rattle.std.proofs.lemmas.Bool.Decides.{nat_tests}
@@ -10,7 +10,7 @@ use Rattle.sa_base.specs.declared.number.ActNo.{ActNo}
 use Rattle.sa_base.specs.declared.number.ProcNo.{ProcNo}
 use Rattle.sa_base.specs.declared.number.ThreadNo.{ThreadNo}
 use Rattle.sa_base.specs.declared.record.Note.{Note}
-use Rattle.sa_base.specs.declared.record.Note.TheVariants.{Preempted, Blocked, Unblocked}
+use Rattle.sa_base.specs.declared.record.Note.TheVariants.{Preempted, Unblocked}
 use Rattle.sa_fast.specs.Rest.{is_unmade, is_carried, place_at}
 use Rattle.sa_fast.specs.Threads.{unmade, block_at, is_active, is_done as is_ended, done_of, active_of}
 use Rattle.sa_fast.specs.declared.threads.KeptPlace.{KeptPlace}

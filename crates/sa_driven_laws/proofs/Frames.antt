@@ -1,5 +1,5 @@
 -- What concerns other spaces, aims, lines, pages and I/Os does not matter.
-use Rattle.std.proofs.Common.{◌≡◌, ◌≢◌, ℕ, zero, suc, ◌+◌, ◌≤◌, slice_index_or, Bool, true, false, List, [], ◌∷◌, sum_by, count_by, Contains, Option, Some, None, IsSome, option_map, refl, sym, ap, ◌∙◌, subst, ◌⊎◌, inl, inr, arith}
+use Rattle.std.proofs.Common.{◌≡◌, ℕ, ◌≤◌, slice_index_or, Bool, true, false, [], sum_by, count_by, Contains, Option, Some, None, IsSome, option_map, refl, sym, ap, ◌∙◌, subst, ◌⊎◌, inl, arith}
 use Rattle.std.specs.Prelude.{◌==◌, if◌then◌else◌}
 use Rattle.std.proofs.lemmas.Bool.{eq-eqb, eqb-true}
 use Rattle.std.proofs.lemmas.Option.{same_Some}
@@ -7,7 +7,6 @@ use Rattle.std.specs.List.{list_any}
 use Rattle.sa_base.specs.declared.number.ActNo.{ActNo}
 use Rattle.sa_base.specs.declared.number.ProcNo.{ProcNo}
 use Rattle.sa_base.specs.declared.number.SpaceNo.{SpaceNo}
-use Rattle.sa_base.specs.declared.record.Note.{Note}
 use Rattle.sa_base.specs.declared.record.Note.TheVariants.{Preempted, Unblocked}
 use Rattle.sa_spaces.specs.Workload.{WorkloadView}
 use Rattle.sa_fast.specs.declared.shared.Shared.{Shared}
@@ -29,7 +28,7 @@ use Rattle.sa_fast_laws.proofs.relation.Stages.{stage-same}
 use Rattle.sa_fast_laws.specs.FastFits.{is_of, FitsShared}
 use Rattle.sa_fast_laws.specs.Stage.{stage_by, stage_on, stage_of, is_act}
 use Rattle.sa_driven_laws.specs.Life.{HasLife, IsAtRest}
-use Rattle.sa_driven_laws.specs.DrivenFits.{Holds, Rest, RestBut, DrivenFits, driven_fits, driven_hears}
+use Rattle.sa_driven_laws.specs.DrivenFits.{Holds, Rest, RestBut, driven_fits, driven_hears}
 
 -- a life of the space
 life_is : (s : SpaceNo) (o : Option Life) (life : Life) → life_in s o ≡ Some life → (o ≡ Some life) × (life.space.0 ≡ s.0)

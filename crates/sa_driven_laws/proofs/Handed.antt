@@ -1,10 +1,9 @@
 -- Which threads can be made ready: the value's set is what is read, of threads that are due, or carried and heard of.
-use Rattle.std.proofs.Common.{◌≡◌, ◌≢◌, ℕ, zero, suc, ◌+◌, ◌≤◌, ◌<◌, Bool, true, false, not, ◌||◌, ◌&&◌, List, [], ◌∷◌, length, Contains, Option, Some, None, IsSome, slice_index_or, ◌⊎◌, refl, sym, ap, ◌∙◌, subst, inl, inr, arith}
+use Rattle.std.proofs.Common.{◌≡◌, ℕ, zero, suc, ◌+◌, ◌≤◌, Bool, true, false, not, ◌||◌, ◌&&◌, List, [], ◌∷◌, Contains, Option, Some, None, IsSome, ◌⊎◌, refl, sym, ap, ◌∙◌, subst, inl, inr, arith}
 use Rattle.std.specs.Prelude.{◌==◌, if◌then◌else◌}
 use Rattle.std.specs.List.{list_any}
-use Rattle.std.proofs.lemmas.Bool.{cases_lt, eq-eqb, eqb-true, ne_eqb}
+use Rattle.std.proofs.lemmas.Bool.{cases_lt, eq-eqb, eqb-true}
 use Rattle.std.proofs.lemmas.List.{get_or_past}
-use Rattle.std.proofs.lemmas.Option.{same_Some}
 use Rattle.sa_base.specs.declared.number.ActNo.{ActNo}
 use Rattle.sa_base.specs.declared.number.SpaceNo.{SpaceNo}
 use Rattle.sa_base.specs.declared.number.ThreadNo.{ThreadNo}
@@ -12,8 +11,7 @@ use Rattle.sa_base.specs.declared.record.Note.{Note}
 use Rattle.sa_base.specs.declared.record.Note.TheVariants.{Add, Preempted, Blocked, Unblocked}
 use Rattle.sa_lemmas.proofs.Searches.{any-contained}
 use Rattle.sa_sync.specs.Sync.{waits_of}
-use Rattle.sa_fast.specs.Rest.{one_where, is_ready, is_waiting as keeps_waiting, is_unmade, is_carried as is_kept, place_at, done_at, unmade_at, not_carried, AgreesBy}
-use Rattle.sa_fast.specs.Threads.{is_done}
+use Rattle.sa_fast.specs.Rest.{one_where, is_ready, is_unmade, is_carried as is_kept, place_at, done_at, unmade_at, not_carried, AgreesBy}
 use Rattle.sa_fast.specs.declared.threads.KeptPlace.{KeptPlace}
 use Rattle.sa_fast.specs.declared.threads.KeptPlace.TheVariants as fast
 use Rattle.sa_abstract.specs.Calls.{Contexts}
@@ -21,12 +19,12 @@ use Rattle.sa_abstract.specs.Setting.{Setting}
 use Rattle.sa_driven_model.specs.declared.context.DrivenContext.{DrivenContext}
 use Rattle.sa_driven_model.specs.declared.space.DrivenSpace.{DrivenSpace}
 use Rattle.sa_driven_model.specs.Threads.{has}
-use Rattle.sa_driven_model.specs.Stands.{IsStanding, ready_at, handed_at, IsSomewhere}
+use Rattle.sa_driven_model.specs.Stands.{IsStanding, ready_at, handed_at}
 use Rattle.sa_laws.specs.Any.{is_held_by, names_thread, is_heard, is_handed}
 use Rattle.sa_laws.specs.Life.{Life}
 use Rattle.sa_laws.specs.Readings.{Readings, running_of, life_of, untold_of}
 use Rattle.sa_laws.specs.Record.{same_note, is_thread}
-use Rattle.sa_laws.specs.State.{Thread, SpaceState, at_start, space_at, thread_in, is_carried, is_due, is_waiting}
+use Rattle.sa_laws.specs.State.{Thread, at_start, space_at, thread_in, is_carried, is_due, is_waiting}
 use Rattle.sa_laws.specs.declared.place.Place.{Place}
 use Rattle.sa_laws.specs.declared.place.Place.TheVariants as place
 use Rattle.sa_laws.proofs.Notes.{same_note-itself}
@@ -34,7 +32,7 @@ use Rattle.sa_fast_laws.specs.FastFits.{SitsIn}
 use Rattle.sa_fast_laws.specs.Stage.{Stage, Runs, InBlock, Stopped, Returned, stage_by, stage_of, is_act, is_gone, is_running, place_of, kept_of}
 use Rattle.sa_driven_laws.specs.DrivenFits.{Holds}
 use Rattle.sa_driven_laws.proofs.Changed.{life-here, IsNamed}
-use Rattle.sa_driven_laws.proofs.Runners.{IsCarrier, carrier-of, made-kept, kept-made, made-below}
+use Rattle.sa_driven_laws.proofs.Runners.{IsCarrier, carrier-of, made-kept, made-below}
 
 -- a list of which some entry passes a test has one, and the other way about
 pub any-found : {A : Type 0} (p : A → Bool) (xs : List A) → list_any p xs ≡ true → (x : A) × Contains xs x × (p x ≡ true)
@@ -187,12 +185,6 @@ module _ (set : Setting) (e : ℕ) (u : DrivenSpace) (cs : Contexts DrivenContex
   -- THE SET is what is read
   pub handed-is : (t : ThreadNo) → has u.handed t.0 ≡ is_handed r s t
   handed-is t = by (place_at u.base.shared t.0) refl where
-    x : Place
-    x = (thread_in (space_at r.state s) t).place
-
-    waits : ℕ
-    waits = waits_of u.base.shared.sync t.0
-
     sums : ready_at u.base.shared t.0 + handed_at u.handed t.0 + waits_of u.base.shared.sync t.0 + done_at u.base.shared.sync t.0
         + unmade_at u.base.shared.state.lists t.0 ≡ not_carried u.base.shared t.0
     sums = h.somewhere t.0

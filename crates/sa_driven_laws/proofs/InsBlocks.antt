@@ -1,33 +1,30 @@
 -- An instruction that blocks is legal: the touch of an absent page, and an I/O.
-use Rattle.std.proofs.Common.{◌≡◌, ◌≢◌, ℕ, zero, suc, ◌+◌, ◌≤◌, ◌<◌, Bool, true, false, not, ◌||◌, ◌&&◌, List, [], ◌∷◌, ◌++◌, length, length-set, replicate, slice_index_or, Option, Some, None, is_some, option_map, refl, sym, ap, ◌∙◌, subst, inl, inr, ◌⊎◌, arith}
-use Rattle.std.specs.Prelude.{if◌then◌else◌, ◌==◌, ◌↔◌}
+use Rattle.std.proofs.Common.{◌≡◌, ◌≢◌, ℕ, ◌<◌, Bool, true, false, not, ◌||◌, ◌&&◌, List, [], ◌∷◌, ◌++◌, length, length-set, slice_index_or, Option, Some, None, is_some, option_map, refl, sym, ap, ◌∙◌, subst, inl, inr, ◌⊎◌, arith}
+use Rattle.std.specs.Prelude.{if◌then◌else◌}
 use Rattle.std.proofs.lemmas.Bool.{cases_eq, cases_lt, eq-eqb}
 use Rattle.std.proofs.lemmas.List.{get_or-set_same, get_or_past}
 use Rattle.std.proofs.lemmas.Option.{same_Some}
 use Rattle.sa_base.specs.declared.context.Seen.{Seen}
-use Rattle.sa_base.specs.declared.limits.TheConstants.{MAX_THREADS, PACKAGE_PAGE}
+use Rattle.sa_base.specs.declared.limits.TheConstants.{PACKAGE_PAGE}
 use Rattle.sa_base.specs.declared.number.ActNo.{ActNo}
 use Rattle.sa_base.specs.declared.number.IoNo.{IoNo}
 use Rattle.sa_base.specs.declared.number.ProcNo.{ProcNo}
-use Rattle.sa_base.specs.declared.number.SpaceNo.{SpaceNo}
 use Rattle.sa_base.specs.declared.number.ThreadNo.{ThreadNo}
 use Rattle.sa_base.specs.declared.record.Note.TheVariants.{Blocked}
 use Rattle.sa_base.specs.declared.record.Record.{Record}
 use Rattle.sa_base.specs.declared.record.Record.TheVariants as records
-use Rattle.sa_base.specs.Pages.{has_page}
 use Rattle.sa_lemmas.proofs.FunctionUpdates.{put-same, put-other, put-put}
 use Rattle.sa_lemmas.specs.Function.{put}
 use Rattle.sa_instr.specs.declared.instr.Instr.{Instr}
 use Rattle.sa_instr.specs.declared.instr.Instr.TheVariants.{Compute, Set, Add, Sub, Jnz, Load, Store, Out, Fork, Join, Lock, Unlock, Wait, Signal, Io, Touch, End}
 use Rattle.sa_spaces.specs.Workload.{WorkloadView}
-use Rattle.sa_devices.specs.declared.kind.IoKind.TheVariants.{Plain, Page}
 use Rattle.sa_code.specs.Micro.{is_resident as is_page_resident}
 use Rattle.sa_sync.specs.declared.answer.SyncAnswer.{SyncAnswer}
 use Rattle.sa_sync.specs.declared.answer.SyncAnswer.TheVariants as answer
 use Rattle.sa_lists.specs.ReadyView.{next_made}
-use Rattle.sa_fast.specs.Instruction.{Outcome, instr_of, outcome_of, told_by, forked, touched, blocks, next_of, says_of, run_says}
+use Rattle.sa_fast.specs.Instruction.{Outcome, instr_of, outcome_of, told_by, forked, touched, blocks}
 use Rattle.sa_fast.specs.Rest.{one_where, place_at}
-use Rattle.sa_fast.specs.Threads.{block_at, is_loaded, load_of as loaded}
+use Rattle.sa_fast.specs.Threads.{block_at, is_loaded}
 use Rattle.sa_fast.specs.Work.{work_of}
 use Rattle.sa_fast.specs.declared.instruction.Ran.{Ran}
 use Rattle.sa_fast.specs.declared.instruction.Ran.TheVariants as rans
@@ -46,15 +43,14 @@ use Rattle.sa_laws.specs.Any.{is_inside_any}
 use Rattle.sa_laws.specs.History.{with_step}
 use Rattle.sa_laws.specs.Life.{Life, has_lock, held_with, with_hand}
 use Rattle.sa_laws.specs.Readings.{Readings, running_of, life_of, untold_of, is_resident}
-use Rattle.sa_laws.specs.Record.{after_record, blocking, blocking_for, locks_one, page_touched, page_in, length_behind, length_in, is_thread, with_life}
-use Rattle.sa_laws.specs.State.{is_active, Thread, at_start, space_at, thread_at, thread_in, instr_of as law_instr, next_instr, program_len, space_def}
+use Rattle.sa_laws.specs.Record.{after_record, blocking, blocking_for, locks_one, page_touched, page_in, length_behind, length_in, is_thread}
+use Rattle.sa_laws.specs.State.{is_active, Thread, at_start, space_at, thread_at, thread_in, instr_of as law_instr, program_len, space_def}
 use Rattle.sa_laws.specs.Step.{CanBlock, HasCause, IsFaulting, IsMissed, IsRunner, IsTouched}
 use Rattle.sa_laws.specs.Turns.{IsInsOf}
-use Rattle.sa_laws.specs.declared.place.Place.{Place}
 use Rattle.sa_laws.specs.declared.place.Place.TheVariants as place
 use Rattle.sa_spaces.specs.Space.{SpaceView}
 use Rattle.sa_user_laws.proofs.Runners.{runner-behind, own-elsewhere}
-use Rattle.sa_user_laws.specs.Scene.{event_begun_at, RunsAlone}
+use Rattle.sa_user_laws.specs.Scene.{event_begun_at}
 use Rattle.sa_user_laws.specs.Steps.{event_with}
 use Rattle.sa_fast_laws.proofs.instructions.Effects.{AnswerIs}
 use Rattle.sa_fast_laws.proofs.notices.OwnThread.{IsPlaced, own-placed, own-fits}
@@ -66,10 +62,9 @@ use Rattle.sa_driven_laws.specs.DrivenFits.{Holds, DrivenFits}
 use Rattle.sa_driven_laws.proofs.BlockSteps.{page-legal, blocked-fits, first-is, resident-is}
 use Rattle.sa_driven_laws.proofs.Ceases.{none-of}
 use Rattle.sa_driven_laws.proofs.Changed.{life-here, IsChanged}
-use Rattle.sa_driven_laws.proofs.InsFits.{fits_now, sits, made, inside, kept, runs_there, space, changes, place_here, place_there, kept_here, kept_there, loads, actives, lives_now, hand-now, roused}
+use Rattle.sa_driven_laws.proofs.InsFits.{fits_now, sits, made, inside, runs_there, space, changes, place_here, place_there, kept_here, kept_there, loads, actives, lives_now, hand-now, roused}
 use Rattle.sa_driven_laws.proofs.InsFits as ins
-use Rattle.sa_driven_laws.proofs.InsSteps.{There, law-is, instr-before, instr-after, made-after, thread_fits, t_made}
-use Rattle.sa_driven_laws.proofs.InsSteps as steps
+use Rattle.sa_driven_laws.proofs.InsSteps.{There, instr-before, instr-after, thread_fits, t_made}
 use Rattle.sa_driven_laws.proofs.Moves.{IsLegal, rules-of}
 use Rattle.sa_driven_laws.proofs.Moves as moves
 use Rattle.sa_driven_laws.proofs.Replies.{stage, unlowered}

@@ -1,7 +1,7 @@
 -- An instruction of a context's thread: the value and the history fit again, and who is roused joins both hands.
-use Rattle.std.proofs.Common.{◌≡◌, ◌≢◌, ℕ, zero, suc, ◌+◌, ◌≤◌, ◌<◌, Bool, true, false, ◌||◌, ◌&&◌, nat_lt, List, [], ◌∷◌, ◌++◌, map, length, slice_index_or, Option, Some, None, refl, sym, ap, ◌∙◌, subst, inl, inr, ◌⊎◌, arith}
-use Rattle.std.proofs.Math.Bool.{or-false, or_assoc, or-true}
-use Rattle.std.proofs.lemmas.Bool.{cases_eq, cases_lt, eq-eqb, ne_eqb, lt-ltb}
+use Rattle.std.proofs.Common.{◌≡◌, ◌≢◌, ℕ, ◌+◌, ◌≤◌, ◌<◌, Bool, true, false, ◌||◌, nat_lt, List, [], ◌∷◌, ◌++◌, map, length, slice_index_or, Option, Some, None, refl, sym, ap, ◌∙◌, subst, inl, inr, arith}
+use Rattle.std.proofs.Math.Bool.{or-false, or_assoc}
+use Rattle.std.proofs.lemmas.Bool.{cases_eq, eq-eqb, ne_eqb, lt-ltb}
 use Rattle.std.specs.Prelude.{◌==◌}
 use Rattle.std.proofs.lemmas.List.{length-set, get_or-set_same, get_or-set_other}
 use Rattle.sa_base.specs.declared.context.Seen.{Seen}
@@ -37,7 +37,7 @@ use Rattle.sa_driven_model.specs.Threads.{has, with_thread, with_all}
 use Rattle.sa_laws.specs.Effect.{Effect, effect_of}
 use Rattle.sa_laws.specs.Life.{Life, with_hand}
 use Rattle.sa_laws.specs.Machine.{next_effect}
-use Rattle.sa_laws.specs.Readings.{Readings, running_of, life_of}
+use Rattle.sa_laws.specs.Readings.{Readings}
 use Rattle.sa_laws.specs.Record.{after_record}
 use Rattle.sa_laws.specs.State.{Thread, at_start, space_at, space_def, thread_in, thread_at, is_active, active_threads, next_instr}
 use Rattle.sa_laws.specs.declared.place.Place.{Place}
@@ -48,7 +48,7 @@ use Rattle.sa_fast_laws.proofs.instructions.Gains.{gained-all}
 use Rattle.sa_fast_laws.proofs.relation.Places.{space-here, active-with, loaded-with, life-changed}
 use Rattle.sa_fast_laws.specs.FastFits.{FitsShared, SitsIn}
 use Rattle.sa_fast_laws.specs.Life.{number_of}
-use Rattle.sa_fast_laws.specs.Stage.{Runs, stage_of, place_of, kept_of}
+use Rattle.sa_fast_laws.specs.Stage.{stage_of, place_of, kept_of}
 use Rattle.sa_driven_laws.specs.Life.{is_number, in_hand, HasLife}
 use Rattle.sa_driven_laws.specs.DrivenFits.{Holds}
 use Rattle.sa_driven_laws.proofs.Changed.{life-here}

@@ -1,14 +1,11 @@
 -- An instruction after which its thread goes on, waits or is done, is legal.
-use Rattle.std.proofs.Common.{◌≡◌, ◌≢◌, ℕ, zero, suc, ◌+◌, ◌≤◌, ◌<◌, Bool, true, false, not, cond, ◌||◌, ◌&&◌, nat_lt, List, [], ◌∷◌, ◌++◌, length, slice_index_or, Option, Some, None, refl, sym, ap, ◌∙◌, subst, inl, inr, ◌⊎◌, arith}
+use Rattle.std.proofs.Common.{◌≡◌, ◌≢◌, ℕ, ◌≤◌, ◌<◌, Bool, true, false, not, cond, ◌||◌, ◌&&◌, nat_lt, List, [], ◌∷◌, length, slice_index_or, Option, Some, None, refl, sym, ap, ◌∙◌, subst, arith}
 use Rattle.std.specs.Prelude.{if◌then◌else◌}
-use Rattle.std.specs.List.{list_any}
-use Rattle.std.proofs.lemmas.List.{get_or-set_same, get_or-set_other, length-set}
+use Rattle.std.proofs.lemmas.List.{get_or-set_same, get_or-set_other}
 use Rattle.std.proofs.lemmas.Option.{same_Some}
 use Rattle.sa_base.specs.declared.context.Seen.{Seen}
-use Rattle.sa_base.specs.declared.limits.TheConstants.{MAX_THREADS}
 use Rattle.sa_base.specs.declared.number.ActNo.{ActNo}
 use Rattle.sa_base.specs.declared.number.ProcNo.{ProcNo}
-use Rattle.sa_base.specs.declared.number.SpaceNo.{SpaceNo}
 use Rattle.sa_base.specs.declared.number.ThreadNo.{ThreadNo}
 use Rattle.sa_base.specs.declared.record.Record.{Record}
 use Rattle.sa_base.specs.declared.record.Record.TheVariants as records
@@ -27,7 +24,7 @@ use Rattle.sa_sync.specs.declared.answer.SyncAnswer.{SyncAnswer}
 use Rattle.sa_sync.specs.declared.answer.SyncAnswer.TheVariants as answer
 use Rattle.sa_fast.specs.Instruction.{Outcome, instr_of, outcome_of, told_by, forked, touched, next_of, run_says, says_of}
 use Rattle.sa_fast.specs.Rest.{one_where, is_unmade, is_carried as is_kept, place_at}
-use Rattle.sa_fast.specs.Threads.{unmade, block_at, with_block, is_loaded, load_of as loaded}
+use Rattle.sa_fast.specs.Threads.{unmade, block_at, with_block, is_loaded}
 use Rattle.sa_fast.specs.Work.{work_of}
 use Rattle.sa_fast.specs.declared.instruction.Ran.{Ran}
 use Rattle.sa_fast.specs.declared.instruction.Ran.TheVariants as rans
@@ -40,19 +37,18 @@ use Rattle.sa_abstract.specs.Keeps.{IsStepped}
 use Rattle.sa_abstract.specs.Setting.{Setting}
 use Rattle.sa_abstract.specs.declared.answer.Step.TheVariants as asked
 use Rattle.sa_driven_model.specs.declared.context.DrivenContext.{DrivenContext}
-use Rattle.sa_driven_model.specs.declared.reply.Reply.TheVariants as reply
 use Rattle.sa_driven_model.specs.declared.space.DrivenSpace.{DrivenSpace}
-use Rattle.sa_driven_model.specs.Context.{settled, goes_on, has_hand, is_bound}
+use Rattle.sa_driven_model.specs.Context.{settled, goes_on}
 use Rattle.sa_driven_model.specs.Stands.{driven_stands}
 use Rattle.sa_driven_model.specs.Step.{asks_for, carries, after_ins, after_run, is_within_thread, is_next_local, ran_by}
 use Rattle.sa_driven_model.specs.Threads.{has, with_all}
 use Rattle.sa_laws.specs.Any.{is_inside_any, has_heard_hand, is_tied}
-use Rattle.sa_laws.specs.History.{is_up, after_records, is_running_or_blocked, settles}
+use Rattle.sa_laws.specs.History.{after_records, is_running_or_blocked, settles}
 use Rattle.sa_laws.specs.Life.{Life, with_hand}
 use Rattle.sa_laws.specs.Readings.{Readings}
 use Rattle.sa_laws.specs.Record.{after_record}
-use Rattle.sa_laws.specs.State.{State, Thread, space_at, thread_at, thread_in, space_def, program_len, instr_of as law_instr, is_active, active_threads}
-use Rattle.sa_laws.specs.Step.{AreSteps, IsTouched, IsValueOf, CanIns}
+use Rattle.sa_laws.specs.State.{State, space_at, thread_at, thread_in, space_def, program_len, instr_of as law_instr, is_active}
+use Rattle.sa_laws.specs.Step.{AreSteps, IsTouched, IsValueOf}
 use Rattle.sa_laws.specs.Turns.{IsInsOf}
 use Rattle.sa_laws.specs.declared.place.Place.{Place}
 use Rattle.sa_laws.specs.declared.place.Place.TheVariants as place
@@ -61,16 +57,15 @@ use Rattle.sa_user_laws.specs.Steps.{event_with}
 use Rattle.sa_fast_laws.proofs.instructions.Effects.{IsThere, AnswerIs}
 use Rattle.sa_fast_laws.proofs.relation.Places.{same-threads, load-moves}
 use Rattle.sa_fast_laws.proofs.user_steps.UserMoves.{IsCalm, IsPlain, plain, out_of, outs, outs_plain}
-use Rattle.sa_fast_laws.specs.FastFits.{FitsShared, FitsThread}
-use Rattle.sa_fast_laws.specs.Stage.{is_gone, is_running, stage_of}
+use Rattle.sa_fast_laws.specs.FastFits.{FitsThread}
+use Rattle.sa_fast_laws.specs.Stage.{is_gone, is_running}
 use Rattle.sa_driven_laws.specs.DrivenFits.{Holds}
 use Rattle.sa_driven_laws.proofs.Inside.{inside-goes}
 use Rattle.sa_driven_laws.proofs.InsFits.{fits_now, sits, made, inside, kept, runs_there, space, changes, place_here, place_there, kept_here, kept_there, loads, actives, lives_now, hand-now, roused}
 use Rattle.sa_driven_laws.proofs.InsFits as ins
-use Rattle.sa_driven_laws.proofs.Moves.{IsLegal, IsBehind, IsMove, move-legal}
+use Rattle.sa_driven_laws.proofs.Moves.{IsLegal, move-legal}
 use Rattle.sa_driven_laws.proofs.Moves as moves
-use Rattle.sa_driven_laws.proofs.Replies.{IsOf, own-life, settled-inside, unlowered}
-use Rattle.sa_driven_laws.proofs.Replies as replies
+use Rattle.sa_driven_laws.proofs.Replies.{own-life, settled-inside, unlowered}
 use Rattle.sa_driven_laws.proofs.Runners.{made-below}
 use Rattle.sa_driven_laws.proofs.Scenes.{IsScene}
 use Rattle.sa_driven_laws.proofs.Scenes as scene

@@ -1,17 +1,15 @@
 -- Whether a life is in: at the end of an event that settles it, of one after which its thread goes on, and of one that says that
 -- it is idle, the test of any user level says what the context says.
-use Rattle.std.proofs.Common.{◌≡◌, ◌≢◌, ℕ, zero, suc, ◌+◌, ◌≤◌, ◌<◌, Bool, true, false, not, ◌||◌, ◌&&◌, List, [], ◌∷◌, ◌++◌, filter, length, Contains, Option, Some, None, is_none, slice_index_or, refl, sym, ap, ◌∙◌, subst, inl, inr, arith}
-use Rattle.std.specs.Prelude.{◌==◌, if◌then◌else◌, nat_lt, nat_le, min}
+use Rattle.std.proofs.Common.{◌≡◌, ◌≢◌, ℕ, zero, suc, Bool, true, false, not, ◌||◌, ◌&&◌, List, [], ◌∷◌, ◌++◌, filter, length, Contains, Some, is_none, refl, sym, ap, ◌∙◌, arith}
+use Rattle.std.specs.Prelude.{if◌then◌else◌, nat_lt, nat_le, min}
 use Rattle.std.specs.List.{list_any}
 use Rattle.std.proofs.lemmas.Bool.Decides.{nat_tests}
 use Rattle.std.proofs.Math.Bool.{or-false, or-true, or_assoc}
-use Rattle.std.proofs.lemmas.Bool.{cases_eq, eq-eqb, eqb-true, lt-ltb, ne_eqb}
+use Rattle.std.proofs.lemmas.Bool.{eq-eqb, eqb-true, lt-ltb, ne_eqb}
 use Rattle.sa_base.specs.declared.limits.TheConstants.{BULK_RETURN}
 use Rattle.sa_base.specs.declared.context.Seen.{Seen}
 use Rattle.sa_base.specs.declared.number.ActNo.{ActNo}
-use Rattle.sa_base.specs.declared.number.SpaceNo.{SpaceNo}
 use Rattle.sa_base.specs.declared.number.ThreadNo.{ThreadNo}
-use Rattle.sa_base.specs.declared.record.Record.{Record}
 use Rattle.sa_lemmas.proofs.Searches.{any-contained}
 use Rattle.sa_spaces.specs.Workload.{WorkloadView}
 use Rattle.sa_fast.specs.Hints.{usable as usable_by}
@@ -25,23 +23,19 @@ use Rattle.sa_driven_model.specs.Context.{has_hand, is_bound, hints}
 use Rattle.sa_driven_model.specs.Stands.{IsStanding}
 use Rattle.sa_laws.specs.Any.{is_handed, has_heard_hand, is_tied, is_hint_due, is_inside_any, begins_local, says_idle}
 use Rattle.sa_laws.specs.Event.{Event}
-use Rattle.sa_laws.specs.Life.{Life, Lock, some_lock, has_lock, same_thread}
-use Rattle.sa_laws.specs.Readings.{Readings, life_of, demand_of, taken_of, load_of, usable, carried_by, many_taken}
+use Rattle.sa_laws.specs.Life.{Life, Lock, some_lock, same_thread}
+use Rattle.sa_laws.specs.Readings.{Readings, life_of, demand_of, taken_of, load_of, carried_by}
 use Rattle.sa_laws.specs.State.{space_at}
-use Rattle.sa_fast_laws.specs.Stage.{Stage, Runs, stage_of, is_gone}
+use Rattle.sa_fast_laws.specs.Stage.{stage_of, is_gone}
 use Rattle.sa_driven_laws.specs.Life.{is_number, in_hand, is_own, HasLife}
 use Rattle.sa_driven_laws.specs.DrivenFits.{Holds}
 use Rattle.sa_driven_laws.proofs.Changed.{life-here}
-use Rattle.sa_driven_laws.proofs.Handed.{any-found, any-not, handed-is}
+use Rattle.sa_driven_laws.proofs.Handed.{any-found, handed-is}
 
 -- HANDS
 pub hand-append : (xs ys : List ThreadNo) (n : ℕ) → in_hand (xs ++ ys) n ≡ (in_hand xs n || in_hand ys n)
 hand-append [] ys n = refl
 hand-append (x ∷ xs) ys n = ap (λ b. is_number n x || b) (hand-append xs ys n) ∙ sym (or_assoc (is_number n x) (in_hand xs n) (in_hand ys n))
-
-and-not : (b : Bool) → (b && not b) ≡ false
-and-not true = refl
-and-not false = refl
 
 filter-is : (t v : ThreadNo) (vs : List ThreadNo) (b : Bool) → same_thread v t ≡ b
     → filter (λ w. not (same_thread w t)) (v ∷ vs) ≡ (if b then filter (λ w. not (same_thread w t)) vs else v ∷ filter (λ w. not (same_thread w t)) vs)

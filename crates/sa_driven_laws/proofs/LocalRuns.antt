@@ -1,5 +1,5 @@
 -- The law of local instructions: each is a legal event of its own, and after the last one all fits.
-use Rattle.std.proofs.Common.{◌≡◌, ◌≢◌, ℕ, zero, suc, ◌+◌, ◌≤◌, ◌<◌, Bool, true, false, List, [], ◌∷◌, length, length-set, replicate, slice_index, slice_index_or, is_some, Option, Some, None, refl, sym, ap, ◌∙◌, subst, inl, inr, arith}
+use Rattle.std.proofs.Common.{◌≡◌, ◌≢◌, ℕ, zero, suc, ◌+◌, ◌≤◌, ◌<◌, Bool, true, false, List, [], ◌∷◌, length-set, replicate, slice_index, slice_index_or, is_some, Option, Some, None, refl, sym, ap, ◌∙◌, subst, inl, inr, arith}
 use Rattle.std.specs.Prelude.{◌↔◌}
 use Rattle.std.specs.Int.{bit_at}
 use Rattle.std.proofs.lemmas.Bool.{cases_eq}
@@ -24,7 +24,6 @@ use Rattle.sa_devices.proofs.SoundLemmas.{length-evicted}
 use Rattle.sa_fast.specs.Instruction.{instr_of, run, outcome_of, says_of, with_thread}
 use Rattle.sa_fast.specs.Threads.{unmade, block_at, gone_to}
 use Rattle.sa_fast.specs.Work.{work_of}
-use Rattle.sa_fast.specs.declared.shared.Shared.{Shared}
 use Rattle.sa_fast.specs.declared.threads.Block.{Block}
 use Rattle.sa_abstract.specs.Calls.{Contexts, Stepped}
 use Rattle.sa_abstract.specs.Keeps.{StaysLocal, IsStepped}
@@ -45,7 +44,7 @@ use Rattle.sa_laws.specs.History.{after_event, stepped as ends}
 use Rattle.sa_laws.specs.Life.{Life, with_hand}
 use Rattle.sa_laws.specs.Machine.{next_effect}
 use Rattle.sa_laws.specs.Readings.{Readings, running_of, life_of, owner_of, line_of}
-use Rattle.sa_laws.specs.Record.{after_record, with_life}
+use Rattle.sa_laws.specs.Record.{after_record}
 use Rattle.sa_laws.specs.State.{Thread, thread_in, thread_at}
 use Rattle.sa_user_laws.proofs.Runners.{own-elsewhere, runner-behind}
 use Rattle.sa_user_laws.specs.Moments.{IsMoment, HasLifeOn, Sees}

@@ -1,14 +1,13 @@
 -- Moves of a running life: a step that asks for nothing, and one that asks the kernel for a hint, for the return of activations or
 -- for a line. Each is legal where its records are, and where its life is in as its context says.
-use Rattle.std.proofs.Common.{◌≡◌, ◌≢◌, ℕ, zero, suc, ◌+◌, ◌≤◌, Bool, true, false, ◌||◌, List, [], ◌∷◌, ◌++◌, length, Option, Some, None, slice_index_or, slice_index, refl, sym, ap, ◌∙◌, subst}
+use Rattle.std.proofs.Common.{◌≡◌, ℕ, true, false, List, [], ◌∷◌, ◌++◌, length, Option, Some, None, slice_index_or, slice_index, refl, sym, ap, ◌∙◌, subst}
 use Rattle.std.specs.List.{list_any}
-use Rattle.std.proofs.lemmas.Option.{same_Some}
 use Rattle.sa_base.specs.declared.context.Seen.{Seen}
 use Rattle.sa_base.specs.declared.number.ActNo.{ActNo}
 use Rattle.sa_base.specs.declared.number.ProcNo.{ProcNo}
 use Rattle.sa_base.specs.declared.number.SpaceNo.{SpaceNo}
 use Rattle.sa_base.specs.declared.record.Record.{Record}
-use Rattle.sa_lemmas.proofs.FunctionUpdates.{put-same, put-other, put-self, put-put}
+use Rattle.sa_lemmas.proofs.FunctionUpdates.{put-same, put-self, put-put}
 use Rattle.sa_lemmas.specs.Function.{put}
 use Rattle.sa_spaces.specs.Workload.{WorkloadView}
 use Rattle.sa_abstract.specs.Calls.{Contexts, Stepped}
@@ -16,7 +15,6 @@ use Rattle.sa_abstract.specs.Keeps.{IsStepped}
 use Rattle.sa_abstract.specs.Setting.{Setting}
 use Rattle.sa_abstract.specs.declared.answer.Step.{Step}
 use Rattle.sa_abstract.specs.declared.answer.Step.TheVariants as asked
-use Rattle.sa_driven_model.proofs.BeginRule.{answers}
 use Rattle.sa_driven_model.specs.declared.context.DrivenContext.{DrivenContext}
 use Rattle.sa_driven_model.specs.declared.space.DrivenSpace.{DrivenSpace}
 use Rattle.sa_driven_model.specs.Stands.{IsStanding, driven_stands}
@@ -35,7 +33,6 @@ use Rattle.sa_user_laws.specs.Steps.{event_with, IsClosed, RulesHold, IsLegalSte
 use Rattle.sa_fast_laws.proofs.relation.EventEnds.{closing-ups}
 use Rattle.sa_fast_laws.proofs.steps.Turns.{any-ups}
 use Rattle.sa_fast_laws.specs.Stage.{Runs, is_running, stage_of}
-use Rattle.sa_driven_laws.specs.Life.{IsAtRest}
 use Rattle.sa_driven_laws.specs.DrivenFits.{Holds, RestBut, DrivenFits, driven_fits}
 use Rattle.sa_driven_laws.proofs.Changed.{changed-holds, changed-others}
 use Rattle.sa_driven_laws.proofs.Frames.{SameHeld, begun-held, alike-held, held-holds, held-others}

@@ -1,7 +1,7 @@
 -- The laws of stops, unblocks and upcalls, and of what a life owes.
-use Rattle.std.proofs.Common.{◌≡◌, ◌≢◌, ℕ, ◌<◌, ◌&&◌, Bool, true, false, not, length, List, [], Option, Some, None, IsSome, Contains, option_map, is_none, ◌⊎◌, refl, sym, ap, ◌∙◌, subst, inl, inr, arith}
+use Rattle.std.proofs.Common.{◌≡◌, ◌≢◌, ℕ, ◌<◌, ◌&&◌, Bool, true, false, not, length, List, [], Option, Some, None, IsSome, Contains, is_none, ◌⊎◌, refl, sym, ap, ◌∙◌, subst, inl, inr, arith}
 use Rattle.std.specs.List.{list_any}
-use Rattle.std.proofs.lemmas.Option.{same_Some, none-some, slice_get_within}
+use Rattle.std.proofs.lemmas.Option.{same_Some, slice_get_within}
 use Rattle.sa_base.specs.declared.context.Seen.{Seen}
 use Rattle.sa_base.specs.declared.context.Stopped.{Stopped}
 use Rattle.sa_base.specs.declared.number.ActNo.{ActNo}
@@ -10,11 +10,10 @@ use Rattle.sa_base.specs.declared.number.ThreadNo.{ThreadNo}
 use Rattle.sa_base.specs.declared.record.Note.{Note}
 use Rattle.sa_base.specs.declared.record.Note.TheVariants.{Add, Preempted, Blocked, Unblocked}
 use Rattle.sa_base.specs.declared.record.Record.TheVariants as records
-use Rattle.sa_lemmas.proofs.FunctionUpdates.{put-same, put-other, put-self}
+use Rattle.sa_lemmas.proofs.FunctionUpdates.{put-self}
 use Rattle.sa_lemmas.proofs.ListReads.{some-below}
 use Rattle.sa_lemmas.specs.Function.{put}
 use Rattle.sa_spaces.specs.Workload.{WorkloadView}
-use Rattle.sa_fast.specs.declared.shared.Shared.{Shared}
 use Rattle.sa_abstract.specs.Calls.{Contexts}
 use Rattle.sa_abstract.specs.Keeps.{IsHanded, IsHandedOver, told_contexts}
 use Rattle.sa_abstract.specs.Setting.{Setting}
@@ -32,11 +31,10 @@ use Rattle.sa_user_laws.specs.Scene.{event_begun_at, IsActing, IsOfSpace, Holds 
 use Rattle.sa_fast_laws.proofs.lives.PlainNotices.{add-less, blocked-less}
 use Rattle.sa_fast_laws.proofs.relation.NoteLists.{any-note}
 use Rattle.sa_fast_laws.proofs.relation.Notices.{note_of}
-use Rattle.sa_fast_laws.specs.Stage.{Runs, is_running, was_idle, stage_of}
-use Rattle.sa_driven_laws.specs.Life.{IsAtRest}
-use Rattle.sa_driven_laws.specs.DrivenFits.{Holds, DrivenFits, DrivenHears, driven_fits, driven_hears}
+use Rattle.sa_fast_laws.specs.Stage.{is_running, was_idle}
+use Rattle.sa_driven_laws.specs.DrivenFits.{Holds, DrivenHears, driven_fits, driven_hears}
 use Rattle.sa_driven_laws.proofs.Changed.{changed-holds, changed-rest}
-use Rattle.sa_driven_laws.proofs.Ceases.{stopped_life, stopped_at, stop-changed, stop-stage, returned_life, returned_at, back-changed, back-stage, back-named, back-stands, returned-stage}
+use Rattle.sa_driven_laws.proofs.Ceases.{stop-changed, stop-stage, back-changed, back-stage, back-named, back-stands, returned-stage}
 use Rattle.sa_driven_laws.proofs.Frames.{begun-held, held-holds, held-others}
 use Rattle.sa_driven_laws.proofs.Told.{less-hears, told-hears}
 use Rattle.sa_driven_laws.proofs.Ups.{up-hears}

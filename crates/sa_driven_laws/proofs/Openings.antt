@@ -1,5 +1,5 @@
 -- The laws of the opening, and of the kernel's events.
-use Rattle.std.proofs.Common.{◌≡◌, ◌≢◌, ℕ, zero, suc, ◌+◌, ◌≤◌, ◌<◌, Bool, true, false, List, [], ◌∷◌, ◌++◌, map, length, cond, sum_by, count_by, replicate, Contains, Option, Some, None, slice_get, slice_index_or, ◌⊎◌, refl, sym, ap, ◌∙◌, subst, inl, inr, arith}
+use Rattle.std.proofs.Common.{◌≡◌, ℕ, zero, suc, ◌+◌, ◌≤◌, ◌<◌, false, List, [], ◌∷◌, ◌++◌, map, length, cond, sum_by, count_by, replicate, Contains, Some, None, slice_get, slice_index_or, refl, sym, ap, ◌∙◌, subst, inl, inr, arith}
 use Rattle.std.proofs.lemmas.List.{get_or-set_same, length-replicate}
 use Rattle.std.proofs.lemmas.List.Sums.{sum_by-cons}
 use Rattle.std.proofs.lemmas.Option.{same_Some, none-some}
@@ -14,7 +14,6 @@ use Rattle.sa_lemmas.proofs.ListReads.{all-same}
 use Rattle.sa_lemmas.proofs.Membership.{contains-nil}
 use Rattle.sa_spaces.specs.Workload.{WorkloadView, IsWorkload}
 use Rattle.sa_assign.specs.Aims.{space_no}
-use Rattle.sa_assign.specs.Reaim.{proc_no}
 use Rattle.sa_fast.specs.Rest.{one_where}
 use Rattle.sa_fast.specs.Threads.{block_at, unmade, at_start, is_loaded, load_of as loaded}
 use Rattle.sa_fast.specs.declared.threads.Block.{Block}

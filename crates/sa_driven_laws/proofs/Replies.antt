@@ -1,62 +1,45 @@
 -- What each reply does that is a step of one record.
-use Rattle.std.proofs.Common.{◌≡◌, ◌≢◌, ℕ, zero, suc, ◌+◌, ◌-◌, ◌≤◌, ◌<◌, Bool, true, false, not, ◌||◌, ◌&&◌, nat_lt, List, [], ◌∷◌, ◌++◌, filter, length, length-append, drop, Option, Some, None, is_none, option_map, refl, sym, ap, ◌∙◌, subst, inl, inr, ◌⊎◌, arith}
-use Rattle.std.proofs.lemmas.Bool.{cases_eq, ltb-true}
-use Rattle.std.proofs.lemmas.Bool.Decides.{nat_tests}
-use Rattle.std.proofs.lemmas.Option.{same_Some}
-use Rattle.std.proofs.lemmas.List.{get_or-set_same, get_or-set_other}
+use Rattle.std.proofs.Common.{◌≡◌, ◌≢◌, ℕ, ◌<◌, true, false, ◌||◌, ◌&&◌, List, ◌∷◌, length, Some, refl, sym, ap, ◌∙◌, subst, inl, inr, ◌⊎◌, arith}
 use Rattle.std.proofs.Math.Bool.{or-false}
 use Rattle.sa_base.specs.declared.context.Seen.{Seen}
 use Rattle.sa_base.specs.declared.number.ActNo.{ActNo}
 use Rattle.sa_base.specs.declared.number.ProcNo.{ProcNo}
-use Rattle.sa_base.specs.declared.number.SpaceNo.{SpaceNo}
 use Rattle.sa_base.specs.declared.number.ThreadNo.{ThreadNo}
 use Rattle.sa_base.specs.declared.record.Record.{Record}
-use Rattle.sa_base.specs.declared.record.Record.TheVariants as records
-use Rattle.sa_lemmas.proofs.FunctionUpdates.{put-self}
 use Rattle.sa_lemmas.specs.Function.{put}
 use Rattle.sa_spaces.specs.Workload.{WorkloadView}
-use Rattle.sa_fast.specs.Rest.{one_where, is_ready, is_carried as is_kept, place_at}
-use Rattle.sa_fast.specs.Threads.{is_loaded, load_of as loaded}
+use Rattle.sa_fast.specs.Rest.{one_where, is_carried as is_kept, place_at}
+use Rattle.sa_fast.specs.Threads.{is_loaded}
 use Rattle.sa_fast.specs.declared.shared.Shared.{Shared}
 use Rattle.sa_fast.specs.declared.threads.Block.{Block}
 use Rattle.sa_fast.specs.declared.threads.KeptPlace.{KeptPlace}
 use Rattle.sa_fast.specs.declared.threads.KeptPlace.TheVariants as fast
 use Rattle.sa_abstract.specs.Calls.{Contexts}
-use Rattle.sa_abstract.specs.Keeps.{IsStepped}
 use Rattle.sa_abstract.specs.Setting.{Setting}
 use Rattle.sa_package_model.specs.Rules.{placed}
 use Rattle.sa_driven_model.specs.declared.context.DrivenContext.{DrivenContext}
 use Rattle.sa_driven_model.specs.declared.space.DrivenSpace.{DrivenSpace}
-use Rattle.sa_driven_model.specs.Context.{settled, has_hand, is_bound, hints}
-use Rattle.sa_driven_model.specs.Stands.{IsStanding, driven_stands}
-use Rattle.sa_driven_model.specs.Step.{did, moved, handed_over, picked_up, carries}
-use Rattle.sa_driven_model.specs.Threads.{has, with_some, without_thread}
-use Rattle.sa_laws.specs.Any.{is_inside_any, is_handed, is_heard}
-use Rattle.sa_laws.specs.Event.{Event}
-use Rattle.sa_laws.specs.Life.{Life, Lock, without_lock, with_first, change_first, readied, ran, with_cont, without_thread as left}
-use Rattle.sa_laws.specs.Readings.{Readings, running_of, life_of, untold_of, load_of}
-use Rattle.sa_laws.specs.Record.{after_record, back_with, made_ready, locks, one_thread}
-use Rattle.sa_laws.specs.State.{SpaceState, Thread, space_at, thread_in, thread_at, runner_on, put_thread, placed as put_in, is_active, active_threads, is_carried, is_due}
-use Rattle.sa_laws.specs.Step.{CanBeReady}
+use Rattle.sa_driven_model.specs.Context.{has_hand, is_bound, hints}
+use Rattle.sa_driven_model.specs.Threads.{has}
+use Rattle.sa_laws.specs.Any.{is_inside_any}
+use Rattle.sa_laws.specs.Life.{Life}
+use Rattle.sa_laws.specs.Readings.{Readings, untold_of}
+use Rattle.sa_laws.specs.State.{SpaceState, Thread, space_at, thread_in, thread_at, put_thread, placed as put_in, is_active, active_threads}
 use Rattle.sa_laws.specs.declared.place.Place.{Place}
 use Rattle.sa_laws.specs.declared.place.Place.TheVariants as place
 use Rattle.sa_user_laws.specs.Scene.{event_begun_at}
 use Rattle.sa_user_laws.specs.Steps.{event_with}
-use Rattle.sa_fast_laws.proofs.relation.Places.{space-here, thread-here, thread-there, active-with, block-here, block-there, loaded-placed, fits-placed, life-changed, same-threads, load-moves}
+use Rattle.sa_fast_laws.proofs.relation.Places.{space-here, thread-here, thread-there, active-with, block-here, block-there, loaded-placed, fits-placed, same-threads, load-moves}
 use Rattle.sa_fast_laws.specs.FastFits.{SitsIn, FitsShared}
 use Rattle.sa_fast_laws.specs.Stage.{Runs, stage_on, stage_of, is_gone, is_running, place_of, kept_of}
 use Rattle.sa_driven_laws.specs.Life.{in_hand, is_own, HasLife}
 use Rattle.sa_driven_laws.specs.DrivenFits.{Holds}
-use Rattle.sa_driven_laws.proofs.Ceases.{own-is}
 use Rattle.sa_driven_laws.proofs.Changed.{life-here}
-use Rattle.sa_driven_laws.proofs.Handed.{handed-is, heard-of}
-use Rattle.sa_driven_laws.proofs.Inside.{hand-append, hand-without, hand-others, inside-settled}
-use Rattle.sa_driven_laws.proofs.Moves.{IsLegal, IsBehind, IsMove, move-legal}
+use Rattle.sa_driven_laws.proofs.Inside.{inside-settled}
+use Rattle.sa_driven_laws.proofs.Moves.{IsBehind}
 use Rattle.sa_driven_laws.proofs.Moves as moves
-use Rattle.sa_driven_laws.proofs.Runners.{carried-made, made-below}
 use Rattle.sa_driven_laws.proofs.Scenes.{IsScene}
 use Rattle.sa_driven_laws.proofs.Scenes as scene
-use Rattle.sa_driven_laws.proofs.Told.{has-some}
 use Rattle.sa_driven_laws.proofs.Turned.{IsTurned}
 
 module _ (set : Setting) (e : ℕ) (u : DrivenSpace) (cs : Contexts DrivenContext) (w : WorkloadView) (r : Readings) (p : ProcNo) (a : ActNo) (life : Life)

@@ -1,10 +1,9 @@
 -- Each reply that is a step of one record is legal.
-use Rattle.std.proofs.Common.{◌≡◌, ◌≢◌, ℕ, zero, suc, ◌+◌, ◌-◌, ◌≤◌, ◌<◌, Bool, true, false, not, ◌||◌, ◌&&◌, nat_lt, List, [], ◌∷◌, ◌++◌, filter, length, length-append, drop, cond, Option, Some, None, is_none, option_map, refl, sym, ap, ◌∙◌, subst, inl, inr, ◌⊎◌, arith}
+use Rattle.std.proofs.Common.{◌≡◌, ◌≢◌, ℕ, ◌+◌, ◌-◌, ◌≤◌, ◌<◌, Bool, true, false, ◌||◌, ◌&&◌, nat_lt, List, [], ◌∷◌, ◌++◌, length, length-append, drop, cond, Option, Some, None, is_none, refl, sym, ap, ◌∙◌, subst, inl, inr, ◌⊎◌, arith}
 use Rattle.std.specs.Prelude.{◌==◌, if◌then◌else◌}
 use Rattle.std.proofs.lemmas.Bool.{cases_eq, ltb-true}
 use Rattle.std.proofs.lemmas.Option.{same_Some}
 use Rattle.std.proofs.lemmas.List.{get_or-set_same, get_or-set_other}
-use Rattle.std.proofs.Math.Bool.{or-false}
 use Rattle.sa_base.specs.declared.context.Seen.{Seen}
 use Rattle.sa_base.specs.declared.number.ActNo.{ActNo}
 use Rattle.sa_base.specs.declared.number.ProcNo.{ProcNo}
@@ -23,7 +22,6 @@ use Rattle.sa_fast.specs.declared.threads.KeptPlace.TheVariants as fast
 use Rattle.sa_abstract.specs.Calls.{Contexts, Stepped}
 use Rattle.sa_abstract.specs.Keeps.{IsStepped}
 use Rattle.sa_abstract.specs.Setting.{Setting}
-use Rattle.sa_abstract.specs.declared.answer.Step.TheVariants as asked
 use Rattle.sa_driven_model.proofs.Places.{place_inside}
 use Rattle.sa_driven_model.proofs.Rules.{held_made, ready_made, no_thread, own_inside}
 use Rattle.sa_driven_model.proofs.Sets.{has_below}
@@ -32,16 +30,16 @@ use Rattle.sa_driven_model.specs.declared.context.DrivenContext.{DrivenContext}
 use Rattle.sa_driven_model.specs.declared.reply.Reply.{Reply}
 use Rattle.sa_driven_model.specs.declared.reply.Reply.TheVariants as reply
 use Rattle.sa_driven_model.specs.declared.space.DrivenSpace.{DrivenSpace}
-use Rattle.sa_driven_model.specs.Context.{settled, says_idle, has_hand}
+use Rattle.sa_driven_model.specs.Context.{settled, says_idle}
 use Rattle.sa_driven_model.specs.Reply.{can, is_held, can_cont}
-use Rattle.sa_driven_model.specs.Stands.{IsStanding, driven_stands, handed_at, ready_at}
-use Rattle.sa_driven_model.specs.Step.{asks_for, did, done, idles, moved, handed_over, picked_up, carries}
+use Rattle.sa_driven_model.specs.Stands.{driven_stands, handed_at}
+use Rattle.sa_driven_model.specs.Step.{did, done, idles, moved, handed_over, picked_up, carries}
 use Rattle.sa_driven_model.specs.Threads.{has, with_some, without_thread}
-use Rattle.sa_laws.specs.Any.{is_handed, is_heard, IsOnList, NamesHeard}
+use Rattle.sa_laws.specs.Any.{is_handed, is_heard, IsOnList}
 use Rattle.sa_laws.specs.Life.{Life, Lock, without_lock, with_first, change_first, readied, ran, with_cont, without_thread as left}
-use Rattle.sa_laws.specs.Readings.{Readings, running_of, life_of, owner_of}
+use Rattle.sa_laws.specs.Readings.{Readings}
 use Rattle.sa_laws.specs.Record.{after_record, back_with, made_ready, locks, one_thread}
-use Rattle.sa_laws.specs.State.{Thread, space_at, thread_in, thread_at, runner_on, runner_of, is_active, is_carried, is_due, is_waiting}
+use Rattle.sa_laws.specs.State.{space_at, thread_at, runner_of, is_active, is_carried, is_due, is_waiting}
 use Rattle.sa_laws.specs.Step.{NobodyRuns, CanBeReady}
 use Rattle.sa_laws.specs.declared.place.Place.{Place}
 use Rattle.sa_laws.specs.declared.place.Place.TheVariants as place
@@ -50,15 +48,15 @@ use Rattle.sa_user_laws.specs.Steps.{event_with}
 use Rattle.sa_fast_laws.proofs.relation.Places.{life-changed}
 use Rattle.sa_fast_laws.specs.FastFits.{SitsIn}
 use Rattle.sa_fast_laws.specs.Stage.{is_gone, place_of, kept_of, stage_of}
-use Rattle.sa_driven_laws.specs.Life.{in_hand, is_own, HasLife}
+use Rattle.sa_driven_laws.specs.Life.{in_hand, HasLife}
 use Rattle.sa_driven_laws.specs.DrivenFits.{Holds}
 use Rattle.sa_driven_laws.proofs.Ceases.{own-is}
 use Rattle.sa_driven_laws.proofs.Changed.{life-here}
 use Rattle.sa_driven_laws.proofs.Handed.{handed-is, heard-of}
 use Rattle.sa_driven_laws.proofs.Inside.{hand-append, hand-without, hand-others, inside-idle}
-use Rattle.sa_driven_laws.proofs.Moves.{IsLegal, IsBehind, IsMove, move-legal}
+use Rattle.sa_driven_laws.proofs.Moves.{IsLegal, IsMove, move-legal}
 use Rattle.sa_driven_laws.proofs.Moves as moves
-use Rattle.sa_driven_laws.proofs.Replies.{IsOf, IsPlaced, stay, place-turned, settled-inside, hand-is, unlowered}
+use Rattle.sa_driven_laws.proofs.Replies.{IsOf, stay, place-turned, settled-inside, hand-is, unlowered}
 use Rattle.sa_driven_laws.proofs.Replies as replies
 use Rattle.sa_driven_laws.proofs.Runners.{carried-made, carried-not, made-below}
 use Rattle.sa_driven_laws.proofs.Scenes.{IsScene}

@@ -1,18 +1,15 @@
 -- The law of steps: whatever reply there is, done or not.
-use Rattle.std.proofs.Common.{◌≡◌, ◌≢◌, ℕ, ◌+◌, ◌≤◌, ◌<◌, Bool, true, false, cond, ◌&&◌, List, [], ◌∷◌, Option, Some, None, is_some, is_none, refl, sym, ap, ◌∙◌, subst, inl, inr, ◌⊎◌}
+use Rattle.std.proofs.Common.{◌≡◌, ℕ, ◌≤◌, ◌<◌, Bool, true, false, cond, ◌&&◌, List, [], ◌∷◌, Option, Some, None, is_some, is_none, refl, sym, ap, ◌∙◌, subst, inl, inr}
 use Rattle.std.specs.Prelude.{if◌then◌else◌}
 use Rattle.sa_base.specs.declared.context.Seen.{Seen}
 use Rattle.sa_base.specs.declared.limits.TheConstants.{MAX_EVENTS}
 use Rattle.sa_base.specs.declared.number.ActNo.{ActNo}
 use Rattle.sa_base.specs.declared.number.ProcNo.{ProcNo}
-use Rattle.sa_base.specs.declared.number.SpaceNo.{SpaceNo}
 use Rattle.sa_base.specs.declared.number.ThreadNo.{ThreadNo}
 use Rattle.sa_base.specs.declared.record.Record.{Record}
 use Rattle.sa_base.specs.declared.record.Record.TheVariants as records
 use Rattle.sa_instr.specs.declared.instr.Instr.{Instr}
-use Rattle.sa_instr.specs.declared.instr.Instr.TheVariants.{Io, Touch}
 use Rattle.sa_spaces.specs.Workload.{WorkloadView}
-use Rattle.sa_code.specs.Micro.{is_resident as is_page_resident}
 use Rattle.sa_fast.specs.Instruction.{Outcome, run, instr_of, outcome_of, touched, blocks, says_of, run_says}
 use Rattle.sa_fast.specs.Rest.{is_ready, place_at}
 use Rattle.sa_fast.specs.Threads.{block_at}
@@ -30,7 +27,7 @@ use Rattle.sa_driven_model.specs.declared.reply.Reply.TheVariants as reply
 use Rattle.sa_driven_model.specs.declared.space.DrivenSpace.{DrivenSpace}
 use Rattle.sa_driven_model.specs.Reply.{can}
 use Rattle.sa_driven_model.specs.Stands.{driven_stands}
-use Rattle.sa_driven_model.specs.Step.{faults, done, done_if, idles, runs, readies, ran, ran_by, run_of, after_run, is_next_local, without_reply, driven_calls}
+use Rattle.sa_driven_model.specs.Step.{faults, done, done_if, idles, runs, readies, ran, ran_by, after_run, is_next_local, without_reply, driven_calls}
 use Rattle.sa_driven_model.specs.Threads.{has, with_all}
 use Rattle.sa_laws.specs.Life.{Life}
 use Rattle.sa_laws.specs.Readings.{Readings, line_of}

@@ -1,21 +1,20 @@
 -- A fresh activation is told: of a processor or a block, which hands nothing over; of a stop or a return, with which it takes over
 -- the other context, as its life inherits what the other one had.
-use Rattle.std.proofs.Common.{◌≡◌, ◌≢◌, ℕ, ◌+◌, ◌≤◌, ◌<◌, Bool, true, false, ◌||◌, ◌&&◌, List, [], ◌∷◌, ◌++◌, map, filter, length, length-append, sum_by, count_by, get_or, Contains, Option, Some, None, IsSome, option_map, slice_index_or, is_none, refl, sym, ap, ◌∙◌, subst, ◌⊎◌, inl, inr, arith}
+use Rattle.std.proofs.Common.{◌≡◌, ◌≢◌, ℕ, ◌+◌, ◌≤◌, ◌<◌, Bool, true, false, ◌||◌, ◌&&◌, List, [], ◌∷◌, map, filter, length, length-append, sum_by, count_by, Contains, Option, Some, None, option_map, slice_index_or, is_none, refl, sym, ap, ◌∙◌, subst, inl, inr, arith}
 use Rattle.std.specs.Prelude.{if◌then◌else◌}
 use Rattle.std.specs.List.{list_any}
 use Rattle.std.proofs.Math.Bool.{or-false, or_assoc}
 use Rattle.std.proofs.lemmas.Bool.{cases_eq, cases_lt, eq-eqb, eqb-true, ne_eqb}
 use Rattle.std.proofs.lemmas.List.Sums.{sum_by-cons}
 use Rattle.std.proofs.lemmas.List.{length-map, get_or-set_same, get_or-set_other, get_or_past}
-use Rattle.std.proofs.lemmas.Option.{same_Some, none-some}
-use Rattle.std.proofs.lemmas.Simd.{get_or-zip2, length-zip2}
-use Rattle.sa_base.specs.declared.limits.TheConstants.{MAX_THREADS}
+use Rattle.std.proofs.lemmas.Option.{same_Some}
+use Rattle.std.proofs.lemmas.Simd.{get_or-zip2}
 use Rattle.sa_base.specs.declared.number.ActNo.{ActNo}
 use Rattle.sa_base.specs.declared.number.ProcNo.{ProcNo}
 use Rattle.sa_base.specs.declared.number.SpaceNo.{SpaceNo}
 use Rattle.sa_base.specs.declared.number.ThreadNo.{ThreadNo}
 use Rattle.sa_base.specs.declared.record.Note.{Note}
-use Rattle.sa_base.specs.declared.record.Note.TheVariants.{Add, Preempted, Blocked, Unblocked}
+use Rattle.sa_base.specs.declared.record.Note.TheVariants.{Preempted, Unblocked}
 use Rattle.sa_base.specs.declared.record.Record.TheVariants.{Told}
 use Rattle.sa_lemmas.proofs.FunctionUpdates.{put-same, put-other}
 use Rattle.sa_lemmas.proofs.ListReads.{map-list}
@@ -23,7 +22,7 @@ use Rattle.sa_lemmas.proofs.Searches.{any-contained}
 use Rattle.sa_lemmas.specs.Function.{put}
 use Rattle.sa_spaces.specs.Workload.{WorkloadView}
 use Rattle.sa_fast.specs.Rest.{one_where, place_at}
-use Rattle.sa_fast.specs.Threads.{block_at, moved_to, is_loaded, load_of as loaded}
+use Rattle.sa_fast.specs.Threads.{block_at, is_loaded, load_of as loaded}
 use Rattle.sa_fast.specs.declared.shared.Shared.{Shared}
 use Rattle.sa_fast.specs.declared.threads.Block.{Block}
 use Rattle.sa_fast.specs.declared.threads.KeptPlace.TheVariants as fast
@@ -42,7 +41,7 @@ use Rattle.sa_laws.specs.Readings.{Readings, running_of, life_of, untold_of, loa
 use Rattle.sa_laws.specs.Record.{after_record, same_note, is_other_note, handed}
 use Rattle.sa_laws.specs.State.{SpaceState, space_at, thread_in, active_threads}
 use Rattle.sa_laws.specs.declared.place.Place.TheVariants as place
-use Rattle.sa_fast_laws.proofs.lives.PlainNotices.{IsLess, add-less, blocked-less, less-stage, less-lives}
+use Rattle.sa_fast_laws.proofs.lives.PlainNotices.{IsLess}
 use Rattle.sa_fast_laws.proofs.relation.NoteLists.{notes-same}
 use Rattle.sa_fast_laws.proofs.relation.Notices.{tells, back-alone, any-filter, sum-without, count-without, count-contained, contained-fails, note_of, same-self, of-self, other-passes, told-once, told-none}
 use Rattle.sa_fast_laws.proofs.relation.Places.{block-here, block-there, loaded-placed, SameThreads, sum_same}
@@ -50,7 +49,7 @@ use Rattle.sa_fast_laws.specs.FastFits.{is_of, FitsThread, FitsShared}
 use Rattle.sa_fast_laws.specs.Stage.{stage_by, stage_on, stage_of, is_gone, is_act, is_running, place_of, kept_of, Runs, Stopped, Returned}
 use Rattle.sa_driven_laws.specs.Life.{in_hand, is_own, HasLife, IsAtRest}
 use Rattle.sa_driven_laws.specs.DrivenFits.{Holds, RestBut, DrivenHears}
-use Rattle.sa_driven_laws.proofs.Changed.{life-here, IsNamed, Stays, IsGone, IsChanged, changed-holds, changed-others}
+use Rattle.sa_driven_laws.proofs.Changed.{life-here, IsChanged, changed-holds, changed-others}
 use Rattle.sa_driven_laws.proofs.Inside.{hand-append}
 use Rattle.sa_driven_laws.proofs.Runners.{carried-apart}
 

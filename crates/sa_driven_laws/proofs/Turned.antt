@@ -1,11 +1,8 @@
 -- A step of a running life changes what its context has, and leaves all others alone; the end of its own event marks its life.
-use Rattle.std.proofs.Common.{◌≡◌, ◌≢◌, ℕ, zero, ◌+◌, ◌≤◌, ◌<◌, Bool, true, false, ◌||◌, ◌&&◌, List, [], ◌∷◌, Contains, count_by, Option, Some, None, IsSome, option_map, slice_index_or, ◌⊎◌, refl, sym, ap, ◌∙◌, subst, inl, inr, arith}
+use Rattle.std.proofs.Common.{◌≡◌, ◌≢◌, ℕ, zero, ◌+◌, ◌≤◌, Bool, true, false, ◌||◌, ◌&&◌, List, ◌∷◌, Contains, count_by, Option, Some, None, option_map, slice_index_or, ◌⊎◌, refl, sym, ap, ◌∙◌, subst, inl, arith}
 use Rattle.std.specs.Prelude.{if◌then◌else◌}
 use Rattle.std.specs.List.{list_any}
-use Rattle.std.proofs.lemmas.Bool.{cases_eq}
-use Rattle.std.proofs.lemmas.Option.{same_Some}
 use Rattle.sa_base.specs.declared.number.ActNo.{ActNo}
-use Rattle.sa_base.specs.declared.number.ProcNo.{ProcNo}
 use Rattle.sa_base.specs.declared.number.SpaceNo.{SpaceNo}
 use Rattle.sa_base.specs.declared.number.ThreadNo.{ThreadNo}
 use Rattle.sa_base.specs.declared.record.Note.TheVariants.{Preempted, Unblocked}
@@ -13,7 +10,7 @@ use Rattle.sa_base.specs.declared.record.Record.{Record}
 use Rattle.sa_lemmas.proofs.FunctionUpdates.{put-same, put-other}
 use Rattle.sa_lemmas.specs.Function.{put}
 use Rattle.sa_spaces.specs.Workload.{WorkloadView}
-use Rattle.sa_fast.specs.Rest.{is_carried, not_carried, place_at}
+use Rattle.sa_fast.specs.Rest.{is_carried, place_at}
 use Rattle.sa_fast.specs.Threads.{load_of as loaded}
 use Rattle.sa_fast.specs.declared.shared.Shared.{Shared}
 use Rattle.sa_abstract.specs.Calls.{Contexts}
@@ -25,16 +22,16 @@ use Rattle.sa_driven_model.specs.Threads.{has}
 use Rattle.sa_laws.specs.Event.{Event}
 use Rattle.sa_laws.specs.History.{Test, is_step, is_up, stepped, arisen, with_step, ended}
 use Rattle.sa_laws.specs.Life.{Life}
-use Rattle.sa_laws.specs.Readings.{Readings, running_of, life_of, untold_of, load_of, stopped_thread}
+use Rattle.sa_laws.specs.Readings.{Readings, running_of, life_of, untold_of, load_of}
 use Rattle.sa_laws.specs.Record.{with_life}
-use Rattle.sa_laws.specs.State.{space_at, thread_in, active_threads}
+use Rattle.sa_laws.specs.State.{space_at, thread_in}
 use Rattle.sa_fast_laws.proofs.relation.Places.{same-threads, load-moves}
 use Rattle.sa_fast_laws.proofs.relation.Stages.{stage-same}
 use Rattle.sa_fast_laws.specs.FastFits.{is_of, FitsShared}
-use Rattle.sa_fast_laws.specs.Stage.{Runs, stage_on, stage_of, is_gone}
+use Rattle.sa_fast_laws.specs.Stage.{stage_on, stage_of, is_gone}
 use Rattle.sa_driven_laws.specs.Life.{is_own, HasLife, IsAtRest}
-use Rattle.sa_driven_laws.specs.DrivenFits.{Holds, Rest, RestBut, DrivenFits}
-use Rattle.sa_driven_laws.proofs.Changed.{life-here, IsNamed, Stays, IsGone, IsChanged, changed-holds, changed-others, changed-rest}
+use Rattle.sa_driven_laws.specs.DrivenFits.{Holds, RestBut, DrivenFits}
+use Rattle.sa_driven_laws.proofs.Changed.{life-here, IsChanged, changed-holds, changed-rest}
 use Rattle.sa_driven_laws.proofs.Runners.{carried-apart, carried-not}
 
 -- A STEP

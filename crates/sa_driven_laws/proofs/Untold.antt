@@ -1,5 +1,5 @@
 -- A life is stopped, or blocked, or comes back: one notice more waits, and all others stay as they are.
-use Rattle.std.proofs.Common.{◌≡◌, ◌≢◌, ℕ, zero, suc, ◌+◌, ◌≤◌, ◌<◌, Bool, true, false, ◌||◌, ◌&&◌, List, [], ◌∷◌, ◌++◌, length, Contains, count_by, sum_by, Option, Some, None, IsSome, option_map, slice_index_or, slice_set, ◌⊎◌, refl, sym, ap, ◌∙◌, subst, inl, inr, arith}
+use Rattle.std.proofs.Common.{◌≡◌, ◌≢◌, ℕ, ◌+◌, ◌≤◌, ◌<◌, true, ◌||◌, [], ◌∷◌, ◌++◌, length, Contains, count_by, sum_by, Option, Some, None, slice_index_or, slice_set, ◌⊎◌, refl, sym, ap, ◌∙◌, subst, inl, inr, arith}
 use Rattle.std.specs.List.{list_any}
 use Rattle.std.proofs.Math.Bool.{or-false}
 use Rattle.std.proofs.lemmas.Bool.{cases_eq, eq-eqb, ne_eqb}
@@ -12,8 +12,7 @@ use Rattle.sa_base.specs.declared.number.SpaceNo.{SpaceNo}
 use Rattle.sa_base.specs.declared.number.ThreadNo.{ThreadNo}
 use Rattle.sa_base.specs.declared.record.Note.{Note}
 use Rattle.sa_base.specs.declared.record.Note.TheVariants.{Preempted, Unblocked}
-use Rattle.sa_lemmas.proofs.FunctionUpdates.{put-same, put-other}
-use Rattle.sa_lemmas.specs.Function.{put}
+use Rattle.sa_lemmas.proofs.FunctionUpdates.{put-other}
 use Rattle.sa_lemmas.proofs.Searches.{any-contained}
 use Rattle.sa_fast.specs.Rest.{place_at}
 use Rattle.sa_fast.specs.Threads.{load_of as loaded}
@@ -28,12 +27,12 @@ use Rattle.sa_laws.specs.Readings.{Readings, running_of, life_of, untold_of, loa
 use Rattle.sa_laws.specs.Record.{same_note}
 use Rattle.sa_laws.specs.State.{space_at, thread_in, active_threads}
 use Rattle.sa_fast_laws.proofs.relation.NoteLists.{any-append, count-append, one_when, one_most, count-or, none-counts, notes-same, was-there}
-use Rattle.sa_fast_laws.proofs.notices.Untold.{IsNoted, runs-only, live_here, noted-stage}
+use Rattle.sa_fast_laws.proofs.notices.Untold.{IsNoted, live_here}
 use Rattle.sa_fast_laws.specs.FastFits.{is_of, FitsShared}
-use Rattle.sa_fast_laws.specs.Stage.{Runs, stage_by, stage_on, stage_of, is_act}
+use Rattle.sa_fast_laws.specs.Stage.{stage_by, stage_on, stage_of, is_act}
 use Rattle.sa_driven_laws.specs.Life.{HasLife}
 use Rattle.sa_driven_laws.specs.DrivenFits.{Holds}
-use Rattle.sa_driven_laws.proofs.Changed.{IsNamed, Stays, IsChanged}
+use Rattle.sa_driven_laws.proofs.Changed.{IsChanged}
 use Rattle.sa_driven_laws.proofs.Runners.{carried-apart, carried-made}
 
 -- A LIFE CEASES TO RUN: others run where they ran.

@@ -1,5 +1,5 @@
 -- An upcall begins: a fresh life, with a fresh context.
-use Rattle.std.proofs.Common.{◌≡◌, ◌≢◌, ℕ, ◌+◌, ◌<◌, Bool, true, false, ◌||◌, ◌&&◌, length, Contains, Option, Some, None, IsSome, ◌⊎◌, refl, sym, ap, ◌∙◌, subst, inl, inr, arith}
+use Rattle.std.proofs.Common.{◌≡◌, ◌≢◌, ℕ, ◌<◌, Bool, true, false, ◌||◌, ◌&&◌, length, Contains, Some, None, IsSome, refl, sym, ap, ◌∙◌, subst, inl, inr, arith}
 use Rattle.std.proofs.lemmas.Bool.{cases_eq, eq-eqb, ne_eqb}
 use Rattle.std.proofs.lemmas.List.{get_or-set_same, get_or-set_other}
 use Rattle.std.proofs.lemmas.Option.{same_Some}
@@ -17,17 +17,16 @@ use Rattle.sa_spaces.specs.Workload.{WorkloadView}
 use Rattle.sa_fast.specs.declared.shared.Shared.{Shared}
 use Rattle.sa_abstract.specs.Calls.{Contexts}
 use Rattle.sa_driven_model.specs.Context.{fresh}
-use Rattle.sa_driven_model.specs.Threads.{has, no_threads}
+use Rattle.sa_driven_model.specs.Threads.{has}
 use Rattle.sa_driven_model.specs.declared.context.DrivenContext.{DrivenContext}
-use Rattle.sa_laws.specs.Life.{Life, new_life}
+use Rattle.sa_laws.specs.Life.{new_life}
 use Rattle.sa_laws.specs.Readings.{Readings, running_of, life_of, untold_of, stopped_thread}
 use Rattle.sa_laws.specs.Record.{after_record, same_note}
-use Rattle.sa_laws.specs.State.{space_at}
 use Rattle.sa_fast_laws.proofs.relation.NoteLists.{any-note}
 use Rattle.sa_fast_laws.proofs.relation.Notices.{note_of}
 use Rattle.sa_fast_laws.proofs.relation.Places.{load-moves}
-use Rattle.sa_fast_laws.specs.Stage.{stage_by, stage_on, stage_of, is_act, is_gone, is_running, Runs}
-use Rattle.sa_driven_laws.specs.Life.{is_own, HasLife}
+use Rattle.sa_fast_laws.specs.Stage.{stage_by, stage_on, stage_of, is_act, is_gone, Runs}
+use Rattle.sa_driven_laws.specs.Life.{is_own}
 use Rattle.sa_driven_laws.specs.DrivenFits.{Holds, Rest, DrivenHears}
 use Rattle.sa_driven_laws.proofs.Changed.{IsChanged, changed-holds, changed-others}
 
