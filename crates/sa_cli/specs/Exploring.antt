@@ -11,7 +11,7 @@ use Rattle.sa_explore_model.specs.declared.answer.Extent.{Extent}
 use Rattle.sa_explore_model.specs.declared.answer.Extent.TheVariants.{All, Part}
 use Rattle.sa_explore_model.specs.declared.answer.Found.{Found}
 use Rattle.sa_explore_model.specs.declared.answer.Explored.{Explored}
-use Rattle.sa_explore_run.specs.declared.answer.Wait.{Wait}
+use Rattle.sa_waits.specs.declared.wait.Wait.{Wait}
 use Rattle.sa_explore_run.specs.Text.{explored_text}
 use Rattle.sa_explore_run.specs.GivenText.{workload_text, IsReady}
 use Rattle.sa_explore_run.specs.Answer.{IsAnswer}

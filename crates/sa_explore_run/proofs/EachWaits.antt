@@ -15,11 +15,11 @@ use Rattle.sa_sync.specs.Sync.{Sync, Mutex, Semaphore, free_mutex, semaphore_of,
 use Rattle.sa_sync.proofs.LawLemmas.{waits_parts}
 use Rattle.sa_laws.specs.State.{State, SpaceState, no_threads, space_at}
 use Rattle.sa_debug.specs.Stuck.{EachLeftWaits}
-use Rattle.sa_explore_run.specs.declared.answer.Awaited.{Awaited}
-use Rattle.sa_explore_run.specs.declared.answer.Awaited.TheVariants as awaited_one
-use Rattle.sa_explore_run.specs.declared.answer.Wait.{Wait}
+use Rattle.sa_waits.specs.declared.wait.Awaited.{Awaited}
+use Rattle.sa_waits.specs.declared.wait.Awaited.TheVariants as awaited_one
+use Rattle.sa_waits.specs.declared.wait.Wait.{Wait}
 use Rattle.sa_explore_run.specs.Behind.{HaveEach}
-use Rattle.sa_explore_run.specs.Waits.{first_from, all_below, is_in, held, counted, joined, awaited, waiting_for, waiting, waits_in, waits_of}
+use Rattle.sa_waits.specs.Waits.{first_from, all_below, is_in, held, counted, joined, awaited, waiting_for, waiting, waits_in, waits_of}
 use Rattle.sa_explore_run.proofs.Holders.{AreHeld, AreAllHeld}
 
 -- THE FIRST ANSWER, where some number has one

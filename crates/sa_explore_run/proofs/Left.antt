@@ -7,7 +7,7 @@ use Rattle.sa_abstract.specs.Calls.{Calls}
 use Rattle.sa_laws.specs.State.{State, opening_state}
 use Rattle.sa_debug.specs.Stuck.{StuckThreadsWait}
 use Rattle.sa_debug.specs.Views.{state_behind}
-use Rattle.sa_explore_run.specs.declared.answer.Wait.{Wait}
+use Rattle.sa_waits.specs.declared.wait.Wait.{Wait}
 use Rattle.sa_explore_run.specs.Behind.{HaveEach, LeadToStuck, AreWaits, AreLeft}
 use Rattle.sa_explore_runs.proofs.Ends.{stuck-ended}
 use Rattle.sa_explore_run.proofs.Reaching.{lead-reaches}

@@ -7,7 +7,7 @@ use Rattle.sa_explore_model.specs.declared.answer.Found.{Found}
 use Rattle.sa_explore_model.specs.declared.answer.Explored.{Explored}
 use Rattle.sa_explore.specs.Explored.{IsExplored}
 use Rattle.sa_explore_run.specs.Behind.{AreLeft}
-use Rattle.sa_explore_run.specs.declared.answer.Wait.{Wait}
+use Rattle.sa_waits.specs.declared.wait.Wait.{Wait}
 
 -- those that wait at the end of the schedule to a stuck end, each thread that is left; none where no such end was found
 abbrev pub AreStuckWaits : {U C : Type 0} → Calls U C → WorkloadView → Option Found → List Wait → Type 0

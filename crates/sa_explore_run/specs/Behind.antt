@@ -12,8 +12,8 @@ use Rattle.sa_laws.specs.State.{State, opening_state}
 use Rattle.sa_debug.specs.Stuck.{IsLeft}
 use Rattle.sa_debug.specs.Views.{state_behind}
 use Rattle.sa_explore_runs.specs.Runs.{end, LeadTo}
-use Rattle.sa_explore_run.specs.declared.answer.Wait.{Wait}
-use Rattle.sa_explore_run.specs.Waits.{waits_of}
+use Rattle.sa_waits.specs.declared.wait.Wait.{Wait}
+use Rattle.sa_waits.specs.Waits.{waits_of}
 
 -- each thread that was made and is not done is among these
 abbrev pub HaveEach : State → List Wait → Type 0

@@ -1,5 +1,4 @@
 pub mod Answer
-pub mod Waits
 pub mod Text
 pub mod GivenText
 pub mod Behind

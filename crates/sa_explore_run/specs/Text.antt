@@ -6,9 +6,9 @@ use Rattle.sa_explore_model.specs.declared.answer.Extent.{Extent}
 use Rattle.sa_explore_model.specs.declared.answer.Extent.TheVariants.{All, Part}
 use Rattle.sa_explore_model.specs.declared.answer.Found.{Found}
 use Rattle.sa_explore_model.specs.declared.answer.Explored.{Explored}
-use Rattle.sa_explore_run.specs.declared.answer.Awaited.{Awaited}
-use Rattle.sa_explore_run.specs.declared.answer.Awaited.TheVariants.{Mutex, Semaphore, Thread}
-use Rattle.sa_explore_run.specs.declared.answer.Wait.{Wait}
+use Rattle.sa_waits.specs.declared.wait.Awaited.{Awaited}
+use Rattle.sa_waits.specs.declared.wait.Awaited.TheVariants.{Mutex, Semaphore, Thread}
+use Rattle.sa_waits.specs.declared.wait.Wait.{Wait}
 
 -- a number after a space
 abbrev pub number_text : ℕ → List ℕ

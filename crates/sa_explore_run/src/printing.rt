@@ -6,8 +6,8 @@ ghost use Rattle.sa_explore_run.specs.Text.{extent_line, found_text, found_if, a
 
 use crate::given::push_given;
 use crate::line::{push_line, push_words};
-use crate::{Awaited, Wait};
 use sa_explore_model::{Explored, Extent, Found};
+use sa_waits::{Awaited, Wait};
 use std::alloc::{AllocError, Global};
 
 /// The text of what a search found, where these threads wait at the end of the schedule to a stuck end. Fails only where memory runs out.

@@ -8,7 +8,6 @@ ghost use Rattle.sa_explore_runs.specs.Runs.{CanBeRun};
 ghost use Rattle.sa_explore_run.specs.Behind.{LeadToStuck};
 ghost use Rattle.sa_explore_run.specs.Answer.{AreStuckWaits, IsAnswer};
 
-use crate::Wait;
 use crate::waiting::left_behind;
 use sa_abstract::UserLevel;
 use sa_explore::{Progress, explore};
@@ -16,6 +15,7 @@ use sa_explore_model::{Explored, Found};
 use sa_keys::Keyed;
 use sa_spaces::Workload;
 use sa_states::MAX_STATES;
+use sa_waits::Wait;
 use std::alloc::{AllocError, Global};
 
 /// What is told of a search.

@@ -8,10 +8,10 @@ ghost use Rattle.sa_explore_run.specs.Behind.{LeadToStuck, AreWaits, AreLeft};
 
 use crate::history::history;
 use crate::replayed::replayed;
-use crate::{Wait, waits};
 use sa_abstract::UserLevel;
 use sa_base::ProcNo;
 use sa_spaces::Workload;
+use sa_waits::{Wait, waits};
 use std::alloc::{AllocError, Global};
 
 /// The threads that wait after these turns of the workload, in order of spaces and threads. Fails only where memory runs out.

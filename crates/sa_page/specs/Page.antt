@@ -24,6 +24,7 @@ use Rattle.sa_page.specs.declared.page.TheConstants.{MAX_EVENTS}
 use Rattle.sa_page.specs.declared.shell.TheConstants.{SAID, WORKLOAD, TRACE, CELLS}
 use Rattle.sa_page.specs.Shell.{front, back}
 use Rattle.sa_page.specs.Said.{verdict_said, end_said}
+use Rattle.sa_page.specs.Ended.{SaysStuck}
 use Rattle.sa_page.specs.Shown.{Shows}
 
 -- the line of an item, and its words
@@ -50,17 +51,19 @@ abbrev pub said : WorkloadView → List Item → List ℕ
 said w items = items_text (no_lives w.processors (length w.spaces)) items
 
 -- the whole page, of what its parts are
-unfoldable pub page_text : (verdict end workload trace opening shown : List ℕ) → List ℕ
-page_text verdict end workload trace opening shown =
-    front ++ SAID.now ++ verdict ++ end ++ WORKLOAD.now ++ workload ++ TRACE.now ++ trace ++ CELLS.now ++ opening ++ shown ++ back
+unfoldable pub page_text : (verdict end stuck workload trace opening shown : List ℕ) → List ℕ
+page_text verdict end stuck workload trace opening shown =
+    front ++ SAID.now ++ verdict ++ end ++ stuck ++ WORKLOAD.now ++ workload ++ TRACE.now ++ trace ++ CELLS.now ++ opening ++ shown ++ back
 
 -- the text is that of the page with this verdict
 pub record IsPrinted (rules : RulesName) (w : WorkloadView) (verdict : Verdict) (told : Told) (text : List ℕ) : Type 0 where
   pub shown : List ℕ
   pub shows : Shows (opened rules w) [] (events_of told.items) shown
+  pub stuck : List ℕ
+  pub says : SaysStuck (opened rules w) told.end (events_of told.items) stuck
   pub is :
       text
-      ≡ page_text (verdict_said rules verdict) (end_said told.end told.events) (workload_text w) (said w told.items) (opening_lines (opened rules w)) shown
+      ≡ page_text (verdict_said rules verdict) (end_said told.end told.events) stuck (workload_text w) (said w told.items) (opening_lines (opened rules w)) shown
 
 -- the text is the page of this workload and trace text, by these rules
 pub record IsPage (rules : RulesName) (w : WorkloadView) (trace text : List ℕ) : Type 0 where

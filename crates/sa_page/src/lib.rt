@@ -2,6 +2,7 @@
 #![tactic(auto)]
 
 mod advance;
+mod ended;
 mod event;
 pub mod laws;
 mod lines;

@@ -3,6 +3,7 @@ ghost use Rattle.std.specs.Prelude.{◌≡◌, Ok, IfOk, IfErr};
 ghost use Rattle.sa_trace.specs.Reading.{read_of, told};
 ghost use Rattle.sa_page.specs.Page.{IsPage, IsPrinted, HasNoPage};
 
+use crate::ended::stuck_said;
 use crate::lines::push_items;
 use crate::said::{push_end, push_verdict};
 use crate::shell::{CELLS, SAID, TRACE, WORKLOAD, push_back, push_front};
@@ -87,12 +88,14 @@ fn print(
     ensures { IfOk result (λ page. IsPrinted rules workload.now verdict
         (told trace.now.trace.items trace.now.end trace.now.events) page.items) }
 {
+    let stuck = stuck_said(alloc, rules, workload, trace.end, trace.trace.items())?;
     let pair = Pair::start(alloc, rules, workload)?;
     let mut out = Vec::new(alloc);
     push_front(&mut out)?;
     out.extend_from_slice(SAID)?;
     push_verdict(&mut out, alloc, rules, verdict)?;
     push_end(&mut out, trace.end, trace.events)?;
+    out.extend_from_slice(&stuck)?;
     out.extend_from_slice(WORKLOAD)?;
     out.extend_from_slice(&workload_text(alloc, workload)?)?;
     out.extend_from_slice(TRACE)?;

@@ -1,8 +1,8 @@
 use Rattle.std.proofs.Common.{◌∙◌, sym, arith}
 use Rattle.sa_base.specs.declared.limits.TheConstants.{MAX_THREADS}
-use Rattle.sa_explore_run.specs.Waits.{joined}
-use Rattle.sa_explore_run.proofs.Numbers.{pass, found, passed}
-use Rattle.sa_explore_run.proofs.queues.thread_of.Goals as goal
+use Rattle.sa_waits.specs.Waits.{joined}
+use Rattle.sa_waits.proofs.Numbers.{pass, found, passed}
+use Rattle.sa_waits.proofs.queues.thread_of.Goals as goal
 
 pub returns-in-Some : goal.returns-in-Some
 returns-in-Some c =

@@ -1,7 +1,7 @@
 use Rattle.std.proofs.Common.{◌≡◌, ◌-◌}
 use Rattle.sa_base.specs.declared.limits.TheConstants.{MAX_THREADS}
-use Rattle.sa_explore_run.specs.Waits.{first_from, joined}
-use Rattle.sa_explore_run.proofs.queues.thread_of.Given as goal
+use Rattle.sa_waits.specs.Waits.{first_from, joined}
+use Rattle.sa_waits.proofs.queues.thread_of.Given as goal
 
 -- the answer is among the numbers that are left
 abbrev pub invariant-loop-j : goal.invariant-loop-j

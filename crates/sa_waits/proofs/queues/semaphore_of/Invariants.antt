@@ -1,6 +1,6 @@
 use Rattle.std.proofs.Common.{◌≡◌, ◌-◌, length}
-use Rattle.sa_explore_run.specs.Waits.{first_from, counted}
-use Rattle.sa_explore_run.proofs.queues.semaphore_of.Given as goal
+use Rattle.sa_waits.specs.Waits.{first_from, counted}
+use Rattle.sa_waits.proofs.queues.semaphore_of.Given as goal
 
 -- the answer is among the numbers that are left
 abbrev pub invariant-loop-k : goal.invariant-loop-k

@@ -1,7 +1,7 @@
 -- Numbers gone through in order.
 use Rattle.std.proofs.Common.{◌≡◌, ℕ, suc, ◌+◌, ◌-◌, ◌<◌, List, [], ◌++◌, Option, Some, None, refl, ap, ◌∙◌, arith}
 use Rattle.std.specs.Option.{option_or}
-use Rattle.sa_explore_run.specs.Waits.{first_from, all_below}
+use Rattle.sa_waits.specs.Waits.{first_from, all_below}
 
 next-from : {A : Type 0} (f : ℕ → Option A) (k n : ℕ) → first_from f k (suc n) ≡ option_or (f k) (first_from f (k + 1) n)
 unfolding first_from

@@ -1,10 +1,10 @@
 // The threads that wait.
 ghost use Rattle.std.specs.Prelude.{◌≡◌, ◌<◌, ◌++◌, length, IfOk, OnOk};
 ghost use Rattle.sa_laws.specs.State.{space_at};
-ghost use Rattle.sa_explore_run.specs.Waits.{waiting, waits_in, waits_of};
+ghost use Rattle.sa_waits.specs.Waits.{waiting, waits_in, waits_of};
 
-use crate::answer::Wait;
 use crate::queues::awaited;
+use crate::wait::Wait;
 use sa_base::{SpaceNo, ThreadNo};
 use sa_replay::Replay;
 use std::alloc::{AllocError, Global};

@@ -1,7 +1,7 @@
 use Rattle.std.proofs.Common.{◌∙◌, length, sym, arith}
-use Rattle.sa_explore_run.specs.Waits.{counted}
-use Rattle.sa_explore_run.proofs.Numbers.{pass, found, passed}
-use Rattle.sa_explore_run.proofs.queues.semaphore_of.Goals as goal
+use Rattle.sa_waits.specs.Waits.{counted}
+use Rattle.sa_waits.proofs.Numbers.{pass, found, passed}
+use Rattle.sa_waits.proofs.queues.semaphore_of.Goals as goal
 
 pub returns-in-Some : goal.returns-in-Some
 returns-in-Some c =

@@ -1,6 +1,6 @@
 use Rattle.std.proofs.Common.{◌≡◌, ◌-◌, length}
-use Rattle.sa_explore_run.specs.Waits.{first_from, held}
-use Rattle.sa_explore_run.proofs.queues.mutex_of.Given as goal
+use Rattle.sa_waits.specs.Waits.{first_from, held}
+use Rattle.sa_waits.proofs.queues.mutex_of.Given as goal
 
 -- the answer is among the numbers that are left
 abbrev pub invariant-loop-m : goal.invariant-loop-m

@@ -6,9 +6,9 @@ use Rattle.sa_base.specs.declared.limits.TheConstants.{MAX_THREADS}
 use Rattle.sa_base.specs.declared.number.SpaceNo.{SpaceNo}
 use Rattle.sa_sync.specs.Sync.{Sync, mutex_at, semaphore_at, joiners_at}
 use Rattle.sa_laws.specs.State.{State, SpaceState, space_at, thread_in}
-use Rattle.sa_explore_run.specs.declared.answer.Awaited.{Awaited}
-use Rattle.sa_explore_run.specs.declared.answer.Awaited.TheVariants.{Mutex, Semaphore, Thread}
-use Rattle.sa_explore_run.specs.declared.answer.Wait.{Wait}
+use Rattle.sa_waits.specs.declared.wait.Awaited.{Awaited}
+use Rattle.sa_waits.specs.declared.wait.Awaited.TheVariants.{Mutex, Semaphore, Thread}
+use Rattle.sa_waits.specs.declared.wait.Wait.{Wait}
 
 -- the first answer among those of n numbers from k on
 unfoldable pub first_from : {A : Type 0} → (ℕ → Option A) → (k n : ℕ) → Option A

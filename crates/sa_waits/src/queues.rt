@@ -1,9 +1,9 @@
 // What a thread waits for.
 ghost use Rattle.std.specs.Prelude.{◌≡◌, ◌<◌, ◌==◌, length, IfOk};
 ghost use Rattle.sa_base.specs.declared.limits.TheConstants.{MAX_THREADS};
-ghost use Rattle.sa_explore_run.specs.Waits.{is_in, held, counted, joined, first_from, awaited};
+ghost use Rattle.sa_waits.specs.Waits.{is_in, held, counted, joined, first_from, awaited};
 
-use crate::answer::Awaited;
+use crate::wait::Awaited;
 use sa_base::{MAX_THREADS, ThreadNo};
 use sa_sync::SyncState;
 use std::alloc::{AllocError, Global};

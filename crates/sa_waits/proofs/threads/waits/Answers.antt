@@ -1,8 +1,8 @@
 use Rattle.std.proofs.Common.{◌++◌, ◌∙◌, sym, ap}
 use Rattle.sa_laws.specs.State.{space_at}
-use Rattle.sa_explore_run.specs.Waits.{waits_in}
-use Rattle.sa_explore_run.proofs.Numbers.{none-below, one-more}
-use Rattle.sa_explore_run.proofs.threads.waits.Goals as goal
+use Rattle.sa_waits.specs.Waits.{waits_in}
+use Rattle.sa_waits.proofs.Numbers.{none-below, one-more}
+use Rattle.sa_waits.proofs.threads.waits.Goals as goal
 
 pub loop-s-init : goal.loop-s-init
 loop-s-init c =

@@ -1,8 +1,8 @@
 use Rattle.std.proofs.Common.{◌++◌, ◌∙◌, sym, ap, append-nil, append_assoc}
 use Rattle.sa_laws.specs.State.{space_at}
-use Rattle.sa_explore_run.specs.Waits.{waiting, all_below}
-use Rattle.sa_explore_run.proofs.Numbers.{none-below, one-more}
-use Rattle.sa_explore_run.proofs.threads.push_space.Goals as goal
+use Rattle.sa_waits.specs.Waits.{waiting, all_below}
+use Rattle.sa_waits.proofs.Numbers.{none-below, one-more}
+use Rattle.sa_waits.proofs.threads.push_space.Goals as goal
 
 pub loop-t-init : goal.loop-t-init
 loop-t-init c =

@@ -1,0 +1,2 @@
+-- Numbers: Numbers gone through in order.
+pub mod Numbers
