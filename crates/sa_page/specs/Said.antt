@@ -10,6 +10,7 @@ use Rattle.sa_laws.specs.declared.rule.Rule.TheVariants.{Numbered, Stepwise, Tol
 use Rattle.sa_check.specs.declared.verdict.Verdict.{Verdict}
 use Rattle.sa_check.specs.declared.verdict.Verdict.TheVariants.{Legal, Broken}
 use Rattle.sa_check.specs.Line.{word_of, line_of}
+use Rattle.sa_page.specs.declared.said.TheConstants.{AT_EVENT, RULE, FAILS}
 
 -- what each rule asks, in a sentence; three differ by whose rules they are
 abbrev pub demand_words : RulesName → List ℕ
@@ -49,8 +50,11 @@ legal_words FastThreads = codes "Every rule of the kernel and of FastThreads hol
 legal_words Priorities = codes "Every rule of the kernel and of thread priorities holds at every event.\n"
 legal_words Any = codes "Every rule of the kernel, and of any user level, holds at every event.\n"
 
+unfoldable pub breaks_at : RulesName → ℕ → Rule → List ℕ
+breaks_at rules event rule = AT_EVENT.now ++ decimal event ++ RULE.now ++ word_of rules rule ++ FAILS.now
+
 unfoldable pub broken_words : RulesName → ℕ → Rule → List ℕ
-broken_words rules event rule = codes "At event " ++ decimal event ++ codes " rule " ++ word_of rules rule ++ codes " does not hold: " ++ rule_words rules rule ++ codes ".\n"
+broken_words rules event rule = breaks_at rules event rule ++ rule_words rules rule ++ codes ".\n"
 
 abbrev pub verdict_words : RulesName → Verdict → List ℕ
 verdict_words rules Legal = legal_words rules

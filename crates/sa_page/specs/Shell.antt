@@ -14,5 +14,11 @@ use Rattle.sa_page.specs.declared.shell.TheConstants.{SCRIPT, CLOSE}
 unfoldable pub front : List ℕ
 front = HEAD.now ++ STYLE.now ++ BODY.now
 
+unfoldable pub script_begin : List ℕ
+script_begin = SCRIPT.now ++ DATA.now ++ LANES.now
+
+unfoldable pub script_rest : List ℕ
+script_rest = DRAWING.now ++ PANELS.now ++ MOVES.now ++ START.now
+
 unfoldable pub back : List ℕ
-back = SCRIPT.now ++ DATA.now ++ LANES.now ++ DRAWING.now ++ PANELS.now ++ MOVES.now ++ START.now ++ CLOSE.now
+back = script_begin ++ script_rest ++ CLOSE.now

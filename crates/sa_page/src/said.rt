@@ -1,6 +1,6 @@
 // What is said of the whole trace.
 ghost use Rattle.std.specs.Prelude.{◌≡◌, ◌++◌, OnOk};
-ghost use Rattle.sa_page.specs.Said.{demand_words, lock_words, order_words, rule_words, legal_words, broken_words, verdict_words, verdict_said, end_text, end_words, end_said};
+ghost use Rattle.sa_page.specs.Said.{demand_words, lock_words, order_words, rule_words, legal_words, breaks_at, broken_words, verdict_words, verdict_said, end_text, end_words, end_said};
 
 use sa_base::{End, RulesName};
 use sa_check::{Verdict, verdict_line, word};
@@ -8,6 +8,13 @@ use sa_laws::Rule;
 use sa_text::print_number;
 use sa_trace::end_word;
 use std::alloc::{AllocError, Global};
+
+// What stands around the event and the rule of a break.
+const AT_EVENT: &[u8] = b"At event ";
+
+const RULE: &[u8] = b" rule ";
+
+const FAILS: &[u8] = b" does not hold: ";
 
 /// Appends the line of the verdict, and what it says in words.
 pub(crate) fn push_verdict(
@@ -60,13 +67,26 @@ fn push_broken(
 ) -> Result<(), AllocError>
     ensures { OnOk result (out.new.items ≡ out.old.items ++ broken_words rules event rule) }
 {
-    out.extend_from_slice(b"At event ")?;
-    print_number(event, out)?;
-    out.extend_from_slice(b" rule ")?;
-    out.extend_from_slice(word(rules, rule))?;
-    out.extend_from_slice(b" does not hold: ")?;
+    push_breaks_at(out, rules, event, rule)?;
     out.extend_from_slice(rule_words(rules, rule))?;
     out.extend_from_slice(b".\n")
+}
+
+// Appends that the rule does not hold at the event.
+#[tactic(auto, unfolding(crate::specs::Said::breaks_at))]
+fn push_breaks_at(
+    out: &mut Vec<u8>,
+    rules: RulesName,
+    event: u64,
+    rule: Rule,
+) -> Result<(), AllocError>
+    ensures { OnOk result (out.new.items ≡ out.old.items ++ breaks_at rules event rule) }
+{
+    out.extend_from_slice(AT_EVENT)?;
+    print_number(event, out)?;
+    out.extend_from_slice(RULE)?;
+    out.extend_from_slice(word(rules, rule))?;
+    out.extend_from_slice(FAILS)
 }
 
 // What a rule asks.

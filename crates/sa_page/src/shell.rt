@@ -1,6 +1,6 @@
 // What every page has: its head with the style, the tags between the parts of its data, and the script.
 ghost use Rattle.std.specs.Prelude.{◌≡◌, ◌++◌, OnOk};
-ghost use Rattle.sa_page.specs.Shell.{front, back};
+ghost use Rattle.sa_page.specs.Shell.{front, script_begin, script_rest, back};
 
 mod data;
 mod drawing;
@@ -55,12 +55,28 @@ pub(crate) fn push_front(out: &mut Vec<u8>) -> Result<(), AllocError>
 pub(crate) fn push_back(out: &mut Vec<u8>) -> Result<(), AllocError>
     ensures { OnOk result (out.new.items ≡ out.old.items ++ back) }
 {
+    push_script_begin(out)?;
+    push_script_rest(out)?;
+    out.extend_from_slice(CLOSE)
+}
+
+// What reads the data, and makes the lanes.
+#[tactic(auto, unfolding(crate::specs::Shell::script_begin))]
+fn push_script_begin(out: &mut Vec<u8>) -> Result<(), AllocError>
+    ensures { OnOk result (out.new.items ≡ out.old.items ++ script_begin) }
+{
     out.extend_from_slice(SCRIPT)?;
     out.extend_from_slice(DATA)?;
-    out.extend_from_slice(LANES)?;
+    out.extend_from_slice(LANES)
+}
+
+// What draws, fills the panels, goes to events, and starts.
+#[tactic(auto, unfolding(crate::specs::Shell::script_rest))]
+fn push_script_rest(out: &mut Vec<u8>) -> Result<(), AllocError>
+    ensures { OnOk result (out.new.items ≡ out.old.items ++ script_rest) }
+{
     out.extend_from_slice(DRAWING)?;
     out.extend_from_slice(PANELS)?;
     out.extend_from_slice(MOVES)?;
-    out.extend_from_slice(START)?;
-    out.extend_from_slice(CLOSE)
+    out.extend_from_slice(START)
 }
