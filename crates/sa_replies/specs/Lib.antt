@@ -1,0 +1,5 @@
+pub mod Words
+pub mod Fields
+pub mod Reply
+pub mod Texts
+pub mod Telling
