@@ -1,5 +1,5 @@
 -- A circle of threads, thread by thread.
-use Rattle.std.proofs.Common.{◌≡◌, ℕ, zero, suc, ◌<◌, ◌≤◌, nat_lt, if◌then◌else◌, List, [], ◌∷◌, ◌++◌, sym, ◌∙◌, ap, Option, Some, None, refl, true, false, append_assoc, arith}
+use Rattle.std.proofs.Common.{◌≡◌, ℕ, zero, suc, ◌<◌, ◌≤◌, ◌==◌, nat_lt, if◌then◌else◌, List, [], ◌∷◌, ◌++◌, sym, ◌∙◌, ap, Option, Some, None, refl, true, false, append_assoc, arith}
 use Rattle.std.proofs.lemmas.List.{append-nil}
 use Rattle.std.proofs.lemmas.Bool.{eq-eqb, ne_eqb, cond-true, cond-false}
 use Rattle.std.proofs.lemmas.Bool.Decides.{nat_tests}
@@ -43,14 +43,14 @@ other next home t n u is apart =
 pub falls-below : (next : ℕ → Option ℕ) (home t n u : ℕ) (front : List ℕ) → next t ≡ Some u → (u ≡ home → ⊥) → u < home
     → with_front front (rest_from next home t (suc n)) ≡ None
 falls-below next home t n u front is apart low =
-    let yes : nat_lt u home ≡ true = grind (arith, nat_tests) in
+    let is_low : nat_lt u home ≡ true = grind (arith, nat_tests) in
     ap (with_front front) (other next home t n u is apart
-    ∙ cond-true (nat_lt u home) None (option_map (λ us. u ∷ us) (rest_from next home u n)) yes)
+    ∙ cond-true (nat_lt u home) None (option_map (λ us. u ∷ us) (rest_from next home u n)) is_low)
 
 pub goes-on : (next : ℕ → Option ℕ) (home t n u : ℕ) (front : List ℕ) → next t ≡ Some u → (u ≡ home → ⊥) → home ≤ u
     → with_front front (rest_from next home t (suc n)) ≡ with_front (front ++ (u ∷ [])) (rest_from next home u n)
 goes-on next home t n u front is apart high =
-    let no : nat_lt u home ≡ false = grind (arith, nat_tests) in
+    let not_low : nat_lt u home ≡ false = grind (arith, nat_tests) in
     ap (with_front front) (other next home t n u is apart
-    ∙ cond-false (nat_lt u home) None (option_map (λ us. u ∷ us) (rest_from next home u n)) no)
+    ∙ cond-false (nat_lt u home) None (option_map (λ us. u ∷ us) (rest_from next home u n)) not_low)
     ∙ one-more front u (rest_from next home u n)

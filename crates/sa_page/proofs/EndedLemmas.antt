@@ -24,7 +24,7 @@ leads-to start now events all none so = so (Some now) (subst (λ xs. EndsAt now 
 
 pub leads-nowhere : (start now : Seen) (events all es : List Event) (e : Event) → all ≡ e ∷ es → (IsStepwise now.workload now.readings e → ⊥)
     → Leads start events now all → EndsAt start events None
-leads-nowhere start now events all es e at no so = so None (subst (λ xs. EndsAt now xs None) (sym at) (inr (no, refl)))
+leads-nowhere start now events all es e at apart so = so None (subst (λ xs. EndsAt now xs None) (sym at) (inr (apart, refl)))
 
 -- only one end, and only one text of it
 end-one : (m : Seen) (events : List Event) (a b : Option Seen) → EndsAt m events a → EndsAt m events b → a ≡ b

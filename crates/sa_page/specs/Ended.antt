@@ -26,8 +26,14 @@ awaited_line (Mutex m t) = codes " mutex " ++ decimal m ++ codes " " ++ decimal 
 awaited_line (Semaphore k) = codes " sem " ++ decimal k ++ codes "\n"
 awaited_line (Thread t) = codes " thread " ++ decimal t.0 ++ codes "\n"
 
+unfoldable pub holder_words : ℕ → List ℕ
+holder_words t = codes ", which thread " ++ decimal t ++ codes " holds.\n"
+
+unfoldable pub mutex_words : ℕ → List ℕ
+mutex_words m = codes ", for mutex " ++ decimal m
+
 abbrev pub awaited_words : Awaited → List ℕ
-awaited_words (Mutex m t) = codes ", for mutex " ++ decimal m ++ codes ", which thread " ++ decimal t.0 ++ codes " holds.\n"
+awaited_words (Mutex m t) = mutex_words m ++ holder_words t.0
 awaited_words (Semaphore k) = codes ", for semaphore " ++ decimal k ++ codes ".\n"
 awaited_words (Thread t) = codes ", for the end of thread " ++ decimal t.0 ++ codes ".\n"
 
@@ -75,16 +81,20 @@ circle_of waits w = rest_from (next_of waits w.space) w.thread.0 w.thread.0 (len
 abbrev pub spaced : ℕ → List ℕ
 spaced t = codes " " ++ decimal t
 
-abbrev pub awaiting : ℕ → List ℕ
+unfoldable pub awaiting : ℕ → List ℕ
 awaiting t = codes " waits for thread " ++ decimal t ++ codes ", which"
 
 unfoldable pub circle_line : SpaceNo → ℕ → List ℕ → List ℕ
 circle_line s home rest = codes "cycle " ++ decimal s.0 ++ codes " " ++ decimal home ++ flat_map spaced rest ++ codes "\n"
 
+unfoldable pub circle_start : SpaceNo → List ℕ
+circle_start s = codes "A circle in space " ++ decimal s.0 ++ codes ": thread "
+
+unfoldable pub circle_return : ℕ → List ℕ
+circle_return home = codes " waits for thread " ++ decimal home ++ codes ". None of them can ever go on.\n"
+
 unfoldable pub circle_words : SpaceNo → ℕ → List ℕ → List ℕ
-circle_words s home rest =
-    codes "A circle in space " ++ decimal s.0 ++ codes ": thread " ++ decimal home ++ flat_map awaiting rest ++ codes " waits for thread " ++ decimal home
-    ++ codes ". None of them can ever go on.\n"
+circle_words s home rest = circle_start s ++ decimal home ++ flat_map awaiting rest ++ circle_return home
 
 abbrev pub circle_if : Wait → Option (List ℕ) → List ℕ
 circle_if w None = []

@@ -1,9 +1,10 @@
 // The circles of threads that wait for one another.
-ghost use Rattle.std.specs.Prelude.{◌≡◌, ◌++◌, length, OnOk, IfOk};
+ghost use Rattle.std.specs.Prelude.{◌≡◌, ◌++◌, find, length, OnOk, IfOk};
 ghost use Rattle.std.specs.List.{flat_map};
 ghost use Rattle.std.specs.Option.{option_map};
-ghost use Rattle.sa_page.specs.Ended.{awaited_thread, is_of, awaited_of, next_of, rest_from, spaced, awaiting, circle_line, circle_words, circle_if, circle_said};
+ghost use Rattle.sa_page.specs.Ended.{awaited_thread, is_of, awaited_of, next_of, rest_from, spaced, awaiting, circle_line, circle_start, circle_return, circle_words, circle_if, circle_said};
 
+use crate::ended::waits::push_number;
 use sa_base::SpaceNo;
 use sa_text::print_number;
 use sa_waits::{Awaited, Wait};
@@ -45,7 +46,7 @@ fn rest_of(
     s: SpaceNo,
     home: u16,
 ) -> Result<Option<Vec<u16>>, AllocError>
-    ensures { IfOk result (λ found. option_map (λ (rest : Vec ℕ). rest.items) found
+    ensures { IfOk result (λ found. option_map (λ rest. rest.items) found
         ≡ rest_from (next_of waits.now s) home home (length waits.now)) }
 {
     let mut rest = Vec::new(alloc);
@@ -70,7 +71,14 @@ fn rest_of(
 fn next_of(waits: &[Wait], s: SpaceNo, t: u16) -> Option<u16>
     ensures { result ≡ next_of waits.now s t }
 {
-    awaited_of(waits.iter().copied().find(|wait| is_of(s, t, wait)))
+    awaited_of(wait_of(waits, s, t))
+}
+
+// What this thread waits for, if it waits.
+fn wait_of(waits: &[Wait], s: SpaceNo, t: u16) -> Option<Wait>
+    ensures { result ≡ find (is_of s t) waits.now }
+{
+    waits.iter().copied().find(|wait| is_of(s, t, wait))
 }
 
 fn is_of(s: SpaceNo, t: u16, wait: &Wait) -> bool
@@ -139,14 +147,31 @@ fn push_one_spaced(out: &mut Vec<u8>, t: u16) -> Result<(), AllocError>
 fn push_words(out: &mut Vec<u8>, s: SpaceNo, home: u16, rest: &[u16]) -> Result<(), AllocError>
     ensures { OnOk result (out.new.items ≡ out.old.items ++ circle_words s home rest.now) }
 {
-    out.extend_from_slice(b"A circle in space ")?;
-    print_number(u64::from(s.0), out)?;
-    out.extend_from_slice(b": thread ")?;
+    push_start(out, s)?;
     print_number(u64::from(home), out)?;
     push_awaiting(out, rest)?;
-    out.extend_from_slice(b" waits for thread ")?;
-    print_number(u64::from(home), out)?;
-    out.extend_from_slice(b". None of them can ever go on.\n")
+    push_return(out, home)
+}
+
+// Appends how the words of a circle in this space begin.
+#[tactic(auto, unfolding(crate::specs::Ended::circle_start))]
+fn push_start(out: &mut Vec<u8>, s: SpaceNo) -> Result<(), AllocError>
+    ensures { OnOk result (out.new.items ≡ out.old.items ++ circle_start s) }
+{
+    push_number(out, b"A circle in space ", u64::from(s.0), b": thread ")
+}
+
+// Appends that it is waited for in turn.
+#[tactic(auto, unfolding(crate::specs::Ended::circle_return))]
+fn push_return(out: &mut Vec<u8>, home: u16) -> Result<(), AllocError>
+    ensures { OnOk result (out.new.items ≡ out.old.items ++ circle_return home) }
+{
+    push_number(
+        out,
+        b" waits for thread ",
+        u64::from(home),
+        b". None of them can ever go on.\n",
+    )
 }
 
 // Appends that the thread before waits for each of these in turn.
@@ -159,10 +184,9 @@ fn push_awaiting(out: &mut Vec<u8>, threads: &[u16]) -> Result<(), AllocError>
     Ok(())
 }
 
+#[tactic(auto, unfolding(crate::specs::Ended::awaiting))]
 fn push_one_awaiting(out: &mut Vec<u8>, t: u16) -> Result<(), AllocError>
     ensures { OnOk result (out.new.items ≡ out.old.items ++ awaiting t) }
 {
-    out.extend_from_slice(b" waits for thread ")?;
-    print_number(u64::from(t), out)?;
-    out.extend_from_slice(b", which")
+    push_number(out, b" waits for thread ", u64::from(t), b", which")
 }

@@ -1,7 +1,7 @@
 // What is said of threads that wait.
-ghost use Rattle.std.specs.Prelude.{◌≡◌, ◌++◌, OnOk, IfOk};
+ghost use Rattle.std.specs.Prelude.{◌≡◌, ◌++◌, decimal, OnOk, IfOk};
 ghost use Rattle.std.specs.List.{flat_map};
-ghost use Rattle.sa_page.specs.Ended.{awaited_line, awaited_words, wait_line, wait_words, wait_said, waits_said};
+ghost use Rattle.sa_page.specs.Ended.{awaited_line, mutex_words, holder_words, awaited_words, wait_line, wait_words, wait_said, waits_said};
 
 use crate::ended::circles::push_circles;
 use sa_text::print_number;
@@ -93,21 +93,48 @@ fn push_awaited_words(out: &mut Vec<u8>, awaits: Awaited) -> Result<(), AllocErr
 {
     match awaits {
         Awaited::Mutex(m, t) => {
-            out.extend_from_slice(b", for mutex ")?;
-            print_number(u64::from(m), out)?;
-            out.extend_from_slice(b", which thread ")?;
-            print_number(u64::from(t.0), out)?;
-            out.extend_from_slice(b" holds.\n")
+            push_mutex(out, m)?;
+            push_holder(out, t.0)
         }
-        Awaited::Semaphore(k) => {
-            out.extend_from_slice(b", for semaphore ")?;
-            print_number(u64::from(k), out)?;
-            out.extend_from_slice(b".\n")
-        }
+        Awaited::Semaphore(k) => { push_number(out, b", for semaphore ", u64::from(k), b".\n") }
         Awaited::Thread(t) => {
-            out.extend_from_slice(b", for the end of thread ")?;
-            print_number(u64::from(t.0), out)?;
-            out.extend_from_slice(b".\n")
+            push_number(out, b", for the end of thread ", u64::from(t.0), b".\n")
         }
     }
+}
+
+#[tactic(auto, unfolding(crate::specs::Ended::mutex_words))]
+fn push_mutex(out: &mut Vec<u8>, m: u16) -> Result<(), AllocError>
+    ensures { OnOk result (out.new.items ≡ out.old.items ++ mutex_words m) }
+{
+    push_after(out, b", for mutex ", u64::from(m))
+}
+
+#[tactic(auto, unfolding(crate::specs::Ended::holder_words))]
+fn push_holder(out: &mut Vec<u8>, t: u16) -> Result<(), AllocError>
+    ensures { OnOk result (out.new.items ≡ out.old.items ++ holder_words t) }
+{
+    push_number(out, b", which thread ", u64::from(t), b" holds.\n")
+}
+
+// Appends a number after a word.
+fn push_after(out: &mut Vec<u8>, before: &[u8], n: u64) -> Result<(), AllocError>
+    ensures { OnOk result (out.new.items ≡ out.old.items ++ (before.now ++ decimal n)) }
+{
+    out.extend_from_slice(before)?;
+    print_number(n, out)
+}
+
+/// Appends a number between two words.
+pub(super) fn push_number(
+    out: &mut Vec<u8>,
+    before: &[u8],
+    n: u64,
+    after: &[u8],
+) -> Result<(), AllocError>
+    ensures { OnOk result (out.new.items ≡ out.old.items ++ (before.now ++ (decimal n ++ after.now))) }
+{
+    out.extend_from_slice(before)?;
+    print_number(n, out)?;
+    out.extend_from_slice(after)
 }

@@ -20,8 +20,8 @@ loop-now-preserved c =
     leads-on (seen c.args.view.moment) now (seen c.in-Some-2.after.moment) (events_of c.args.items.now) (events_of c.loop-now.rest.now) (events_of g.rest.now) e
     first.events (subst (λ (o : Option View). Advances now e o) c.in-Some-2.is found) c.loop-now.invariant
 
-pub returns-in_default : goal.returns-in_default
-returns-in_default c =
+pub returns-in_default-2 : goal.returns-in_default-2
+returns-in_default-2 c =
     let now = seen c.loop-now.now.moment in
     let g = c.in-Some.next in
     let e = event g.first.event g.first.proc g.records.items in
@@ -29,9 +29,9 @@ returns-in_default c =
     let found : Advances now e c.in_ok-after.field-0 =
     subst (λ (rs : List Record). Advances now (event g.first.event g.first.proc rs) c.in_ok-after.field-0) c.deref.ensures.value c.in_ok-after.ensures in
     leads-nowhere (seen c.args.view.moment) now (events_of c.args.items.now) (events_of c.loop-now.rest.now) (events_of g.rest.now) e first.events
-    (subst (λ (o : Option View). Advances now e o) c.in_default.is found) c.loop-now.invariant
+    (subst (λ (o : Option View). Advances now e o) c.in_default-2.is found) c.loop-now.invariant
 
 pub returns : goal.returns
 returns c =
-    let none : c.loop-now.rest.now ≡ [] = subst (λ (o : Option Gathered). Gathers c.loop-now.rest.now o) c.in_default-2.is c.in_ok-next.ensures in
+    let none : c.loop-now.rest.now ≡ [] = subst (λ (o : Option Gathered). Gathers c.loop-now.rest.now o) c.in_default.is c.in_ok-next.ensures in
     leads-to (seen c.args.view.moment) (seen c.loop-now.now.moment) (events_of c.args.items.now) (events_of c.loop-now.rest.now) (ap events_of none) c.loop-now.invariant

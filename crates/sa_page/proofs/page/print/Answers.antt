@@ -40,5 +40,5 @@ returns c =
           (behind _ _ _ _ _ c.in_ok-push_verdict.ensures
           (behind _ _ _ _ _ c.in_ok-extend_from_slice.ensures.items
           (begins-with _ _ _ c.in_ok-push_front.ensures c.new-out.ensures.items) refl) refl) refl) c.deref.ensures.value) refl)
-          (c.deref-2.ensures.value ∙ c.in_ok-workload_text.ensures)) refl) (ap (said c.args.workload.now) c.items-2.ensures)) refl) (ap opening_lines start)) refl) refl;
+          (c.deref-2.ensures.value ∙ c.in_ok-print.ensures)) refl) (ap (said c.args.workload.now) c.items-2.ensures)) refl) (ap opening_lines start)) refl) refl;
     }
