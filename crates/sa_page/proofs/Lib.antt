@@ -2,5 +2,3 @@ mod AdvanceLemmas
 mod ShownLemmas
 mod PageLemmas
 mod SaidLemmas
-mod EndedLemmas
-mod CircleLemmas

@@ -3,17 +3,14 @@ ghost use Rattle.std.specs.Prelude.{◌≡◌, Ok, IfOk, IfErr};
 ghost use Rattle.sa_trace.specs.Reading.{read_of, told};
 ghost use Rattle.sa_page.specs.Page.{IsPage, IsPrinted, HasNoPage};
 
-use crate::ended::stuck_said;
-use crate::lines::push_items;
-use crate::said::{push_end, push_verdict};
-use crate::shell::{CELLS, SAID, TRACE, WORKLOAD, push_back, push_front};
+use crate::lines::{push_end, push_items};
+use crate::shell::{CELLS, HEAD, TAIL, TRACE};
 use crate::shown::{Pair, push_shown};
 use sa_base::{Bad, RulesName, Unread};
 use sa_cells::push_opening;
-use sa_check::{Verdict, check};
+use sa_check::{Verdict, check, verdict_line};
 use sa_spaces::Workload;
 use sa_trace::{TraceText, read};
-use sa_workload::print as workload_text;
 use std::alloc::{AllocError, Global};
 
 /// The most events of a trace that a page shows.
@@ -88,21 +85,16 @@ fn print(
     ensures { IfOk result (λ page. IsPrinted rules workload.now verdict
         (told trace.now.trace.items trace.now.end trace.now.events) page.items) }
 {
-    let stuck = stuck_said(alloc, rules, workload, trace.end, trace.trace.items())?;
     let pair = Pair::start(alloc, rules, workload)?;
     let mut out = Vec::new(alloc);
-    push_front(&mut out)?;
-    out.extend_from_slice(SAID)?;
-    push_verdict(&mut out, alloc, rules, verdict)?;
+    out.extend_from_slice(HEAD)?;
+    out.extend_from_slice(&verdict_line(alloc, rules, verdict)?)?;
     push_end(&mut out, trace.end, trace.events)?;
-    out.extend_from_slice(&stuck)?;
-    out.extend_from_slice(WORKLOAD)?;
-    out.extend_from_slice(&workload_text(alloc, workload)?)?;
     out.extend_from_slice(TRACE)?;
     push_items(&mut out, alloc, workload, trace.trace.items())?;
     out.extend_from_slice(CELLS)?;
     push_opening(&mut out, alloc, &pair.now)?;
     push_shown(&mut out, alloc, pair, trace.trace.items())?;
-    push_back(&mut out)?;
+    out.extend_from_slice(TAIL)?;
     Ok(out)
 }
