@@ -2,3 +2,5 @@ mod AdvanceLemmas
 mod ShownLemmas
 mod PageLemmas
 mod SaidLemmas
+mod EndedLemmas
+mod CircleLemmas

@@ -7,12 +7,14 @@ use Rattle.sa_base.specs.declared.package.RulesName.{RulesName}
 use Rattle.sa_ranks.specs.Packages.{rules_named}
 use Rattle.sa_check.specs.declared.verdict.Verdict.{Verdict}
 use Rattle.sa_check.specs.Verdict.{IsVerdict, last_line}
-use Rattle.sa_check.specs.Line.{line_of as verdict_text}
+use Rattle.sa_workload.specs.Text.{text_of as workload_text}
 use Rattle.sa_check.proofs.VerdictLemmas.{one-verdict}
 use Rattle.sa_cells.specs.Change.{opening_lines}
 use Rattle.sa_check_moment.specs.Seen.{opened}
-use Rattle.sa_page.specs.Page.{page_text, end_text, said, IsPrinted, IsPage}
+use Rattle.sa_page.specs.Said.{verdict_said, end_said}
+use Rattle.sa_page.specs.Page.{page_text, said, IsPrinted, IsPage}
 use Rattle.sa_page.proofs.ShownLemmas.{shown-one}
+use Rattle.sa_page.proofs.EndedLemmas.{says-one}
 
 -- a piece more
 pub behind : (before after piece whole part : List ℕ) → after ≡ before ++ piece → before ≡ whole → piece ≡ part → after ≡ whole ++ part
@@ -26,7 +28,9 @@ begins-with before after piece e none = e ∙ ap (λ xs. xs ++ piece) none
 printed-one : (rules : RulesName) (w : WorkloadView) (v : Verdict) (t : Told) (a b : List ℕ) → IsPrinted rules w v t a → IsPrinted rules w v t b → a ≡ b
 printed-one rules w v t a b p q =
     p.is
-    ∙ ap (page_text (verdict_text rules v) (end_text t.end t.events) (said w t.items) (opening_lines (opened rules w)))
+    ∙ ap (λ stuck. page_text (verdict_said rules v) (end_said t.end t.events) stuck (workload_text w) (said w t.items) (opening_lines (opened rules w)) p.shown)
+    (says-one (opened rules w) t.end (events_of t.items) p.stuck q.stuck p.says q.says)
+    ∙ ap (page_text (verdict_said rules v) (end_said t.end t.events) q.stuck (workload_text w) (said w t.items) (opening_lines (opened rules w)))
     (shown-one (opened rules w) [] (events_of t.items) p.shown q.shown p.shows q.shows)
     ∙ sym q.is
 

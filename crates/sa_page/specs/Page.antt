@@ -1,18 +1,18 @@
--- The text of a page: what every page has, and between it the verdict, the trace with its words, and what the cells hold.
+-- The text of a page: what every page has, and between it what is said of the whole trace, the workload, the trace with its words, and
+-- what the cells hold.
 use Rattle.std.specs.Prelude.{◌≡◌, ⊤, ℕ, ◌<◌, ◌≤◌, Bool, false, List, [], ◌∷◌, ◌++◌, length, codes, decimal, Option, Some, None, Ok, Err}
 use Rattle.sa_base.specs.declared.number.ProcNo.{ProcNo}
-use Rattle.sa_base.specs.declared.record.End.{End}
 use Rattle.sa_base.specs.declared.record.Item.{Item}
 use Rattle.sa_spaces.specs.Workload.{WorkloadView}
 use Rattle.sa_trace.specs.Reading.{Told, read_of}
-use Rattle.sa_trace.specs.TraceText.{line_of, end_word}
+use Rattle.sa_trace.specs.TraceText.{line_of}
+use Rattle.sa_workload.specs.Text.{text_of as workload_text}
 use Rattle.sa_laws.specs.Event.{events_of}
 use Rattle.sa_laws.specs.Life.{Life}
 use Rattle.sa_base.specs.declared.package.RulesName.{RulesName}
 use Rattle.sa_ranks.specs.Packages.{rules_named}
 use Rattle.sa_check.specs.declared.verdict.Verdict.{Verdict}
 use Rattle.sa_check.specs.Verdict.{IsVerdict, last_line}
-use Rattle.sa_check.specs.Line.{line_of as verdict_text}
 use Rattle.sa_check_moment.specs.Seen.{opened}
 use Rattle.sa_check_lives.specs.View.{LivesView, no_lives, life_if_at, running_at}
 use Rattle.sa_check_lives.specs.Recorded.{recorded}
@@ -21,7 +21,10 @@ use Rattle.sa_cells.specs.Change.{opening_lines}
 use Rattle.sa_page.specs.declared.page.PageError.{PageError}
 use Rattle.sa_page.specs.declared.page.PageError.TheVariants.{BadTrace, TooMuch, OutOfMemory}
 use Rattle.sa_page.specs.declared.page.TheConstants.{MAX_EVENTS}
-use Rattle.sa_page.specs.declared.shell.TheConstants.{HEAD, TRACE, CELLS, TAIL}
+use Rattle.sa_page.specs.declared.shell.TheConstants.{SAID, WORKLOAD, TRACE, CELLS}
+use Rattle.sa_page.specs.Shell.{front, back}
+use Rattle.sa_page.specs.Said.{verdict_said, end_said}
+use Rattle.sa_page.specs.Ended.{SaysStuck}
 use Rattle.sa_page.specs.Shown.{Shows}
 
 -- the line of an item, and its words
@@ -47,21 +50,27 @@ items_text v (i ∷ is) = item_text (in_copy_on v i.proc) i ++ items_text (lives
 abbrev pub said : WorkloadView → List Item → List ℕ
 said w items = items_text (no_lives w.processors (length w.spaces)) items
 
--- how the run ended
-unfoldable pub end_text : End → ℕ → List ℕ
-end_text end events = codes "end " ++ end_word end ++ codes " " ++ decimal events ++ codes "\n"
+-- what is said of the whole trace; the workload and the trace
+unfoldable pub said_part : (verdict end stuck : List ℕ) → List ℕ
+said_part verdict end stuck = SAID.now ++ verdict ++ end ++ stuck
+
+unfoldable pub texts_part : (workload trace : List ℕ) → List ℕ
+texts_part workload trace = WORKLOAD.now ++ workload ++ TRACE.now ++ trace
 
 -- the whole page, of what its parts are
-unfoldable pub page_text : List ℕ → List ℕ → List ℕ → List ℕ → List ℕ → List ℕ
-page_text verdict end trace opening shown = HEAD.now ++ verdict ++ end ++ TRACE.now ++ trace ++ CELLS.now ++ opening ++ shown ++ TAIL.now
+unfoldable pub page_text : (verdict end stuck workload trace opening shown : List ℕ) → List ℕ
+page_text verdict end stuck workload trace opening shown =
+    front ++ said_part verdict end stuck ++ texts_part workload trace ++ CELLS.now ++ opening ++ shown ++ back
 
 -- the text is that of the page with this verdict
 pub record IsPrinted (rules : RulesName) (w : WorkloadView) (verdict : Verdict) (told : Told) (text : List ℕ) : Type 0 where
   pub shown : List ℕ
   pub shows : Shows (opened rules w) [] (events_of told.items) shown
+  pub stuck : List ℕ
+  pub says : SaysStuck (opened rules w) told.end (events_of told.items) stuck
   pub is :
       text
-      ≡ page_text (verdict_text rules verdict) (end_text told.end told.events) (said w told.items) (opening_lines (opened rules w)) shown
+      ≡ page_text (verdict_said rules verdict) (end_said told.end told.events) stuck (workload_text w) (said w told.items) (opening_lines (opened rules w)) shown
 
 -- the text is the page of this workload and trace text, by these rules
 pub record IsPage (rules : RulesName) (w : WorkloadView) (trace text : List ℕ) : Type 0 where

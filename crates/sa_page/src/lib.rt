@@ -2,10 +2,12 @@
 #![tactic(auto)]
 
 mod advance;
+mod ended;
 mod event;
 pub mod laws;
 mod lines;
 mod page;
+mod said;
 mod shell;
 mod shown;
 

@@ -1,14 +1,13 @@
 // The lines of a trace, each with its words.
 ghost use Rattle.std.specs.Prelude.{◌≡◌, ◌++◌, OnOk};
 ghost use Rattle.sa_check_lives.specs.View.{lives_of};
-ghost use Rattle.sa_page.specs.Page.{in_copy_on, item_text, items_text, said, end_text};
+ghost use Rattle.sa_page.specs.Page.{in_copy_on, item_text, items_text, said};
 
-use sa_base::{End, Item, ProcNo};
+use sa_base::{Item, ProcNo};
 use sa_cells::push_words;
 use sa_check_lives::Lives;
 use sa_spaces::Workload;
-use sa_text::print_number;
-use sa_trace::{append_line, end_word};
+use sa_trace::append_line;
 use std::alloc::{AllocError, Global};
 
 /// Appends the line of each item of a trace of this workload, and after it what its record says in words.
@@ -53,17 +52,5 @@ fn push_item(out: &mut Vec<u8>, in_copy: bool, item: &Item) -> Result<(), AllocE
 {
     append_line(out, item)?;
     push_words(out, in_copy, &item.what)?;
-    out.extend_from_slice(b"\n")
-}
-
-/// Appends how the run ended, and with how many events.
-#[tactic(auto, unfolding(crate::specs::Page::end_text))]
-pub(crate) fn push_end(out: &mut Vec<u8>, end: End, events: u64) -> Result<(), AllocError>
-    ensures { OnOk result (out.new.items ≡ out.old.items ++ end_text end events) }
-{
-    out.extend_from_slice(b"end ")?;
-    out.extend_from_slice(end_word(end))?;
-    out.extend_from_slice(b" ")?;
-    print_number(events, out)?;
     out.extend_from_slice(b"\n")
 }

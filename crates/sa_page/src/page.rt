@@ -1,16 +1,20 @@
 // The page.
-ghost use Rattle.std.specs.Prelude.{◌≡◌, Ok, IfOk, IfErr};
+ghost use Rattle.std.specs.Prelude.{◌≡◌, ◌++◌, Ok, IfOk, IfErr, OnOk};
 ghost use Rattle.sa_trace.specs.Reading.{read_of, told};
-ghost use Rattle.sa_page.specs.Page.{IsPage, IsPrinted, HasNoPage};
+ghost use Rattle.sa_page.specs.Said.{verdict_said, end_said};
+ghost use Rattle.sa_page.specs.Page.{said_part, texts_part, said, IsPage, IsPrinted, HasNoPage};
 
-use crate::lines::{push_end, push_items};
-use crate::shell::{CELLS, HEAD, TAIL, TRACE};
+use crate::ended::stuck_said;
+use crate::lines::push_items;
+use crate::said::{push_end, push_verdict};
+use crate::shell::{CELLS, SAID, TRACE, WORKLOAD, push_back, push_front};
 use crate::shown::{Pair, push_shown};
-use sa_base::{Bad, RulesName, Unread};
+use sa_base::{Bad, End, Item, RulesName, Unread};
 use sa_cells::push_opening;
-use sa_check::{Verdict, check, verdict_line};
+use sa_check::{Verdict, check};
 use sa_spaces::Workload;
 use sa_trace::{TraceText, read};
+use sa_workload::print as workload_text;
 use std::alloc::{AllocError, Global};
 
 /// The most events of a trace that a page shows.
@@ -85,16 +89,62 @@ fn print(
     ensures { IfOk result (λ page. IsPrinted rules workload.now verdict
         (told trace.now.trace.items trace.now.end trace.now.events) page.items) }
 {
+    let stuck = stuck_said(alloc, rules, workload, trace.end, trace.trace.items())?;
     let pair = Pair::start(alloc, rules, workload)?;
+    let text = workload_text(alloc, workload)?;
     let mut out = Vec::new(alloc);
-    out.extend_from_slice(HEAD)?;
-    out.extend_from_slice(&verdict_line(alloc, rules, verdict)?)?;
-    push_end(&mut out, trace.end, trace.events)?;
-    out.extend_from_slice(TRACE)?;
-    push_items(&mut out, alloc, workload, trace.trace.items())?;
+    push_front(&mut out)?;
+    push_said(
+        &mut out,
+        alloc,
+        rules,
+        verdict,
+        trace.end,
+        trace.events,
+        &stuck,
+    )?;
+    push_texts(&mut out, alloc, workload, &text, trace.trace.items())?;
     out.extend_from_slice(CELLS)?;
     push_opening(&mut out, alloc, &pair.now)?;
     push_shown(&mut out, alloc, pair, trace.trace.items())?;
-    out.extend_from_slice(TAIL)?;
+    push_back(&mut out)?;
     Ok(out)
+}
+
+// Appends the part that says of the whole trace the verdict, the end, and who waits there.
+#[tactic(auto, unfolding(crate::specs::Page::said_part))]
+fn push_said(
+    out: &mut Vec<u8>,
+    alloc: Global,
+    rules: RulesName,
+    verdict: Verdict,
+    end: End,
+    events: u64,
+    stuck: &[u8],
+) -> Result<(), AllocError>
+    ensures { OnOk result (out.new.items ≡ out.old.items
+        ++ said_part (verdict_said rules verdict) (end_said end events) stuck.now) }
+{
+    out.extend_from_slice(SAID)?;
+    push_verdict(out, alloc, rules, verdict)?;
+    push_end(out, end, events)?;
+    out.extend_from_slice(stuck)
+}
+
+// Appends the parts of the workload, whose text this is, and of the trace.
+#[tactic(auto, unfolding(crate::specs::Page::texts_part))]
+fn push_texts(
+    out: &mut Vec<u8>,
+    alloc: Global,
+    workload: &Workload,
+    text: &[u8],
+    items: &[Item],
+) -> Result<(), AllocError>
+    ensures { OnOk result (out.new.items ≡ out.old.items
+        ++ texts_part text.now (said workload.now items.now)) }
+{
+    out.extend_from_slice(WORKLOAD)?;
+    out.extend_from_slice(text)?;
+    out.extend_from_slice(TRACE)?;
+    push_items(out, alloc, workload, items)
 }
