@@ -94,21 +94,27 @@ def body(folder, name):
     return "" if any((it / f"{name}{end}").is_file() for it in places for end in (".edit", ".patch")) else "no such wrong body"
 
 
+def quoted_names(page):
+    """Gives the names of a page, each as its folder and its name if it is a wrong body's, and else as no folder and the name. A name is a crate's; an
+    item's, as sa_run::run or sa_seat::Held::turn; a definition's, as sa_laws.Step.Needs; or a wrong body's, as sa_seat/every_burst_is_dropped, after
+    which the other ones of its cell go without their crate."""
+    for cell in re.split(r"\n\n|\|", page.read_text()):
+        folder = ""
+        for quoted in re.findall(r"`([^`\n]+)`", cell):
+            if found := re.fullmatch(rf"((?:above/)?{CRATE})/(\w+)", quoted):
+                folder = found[1]
+                yield folder, found[2]
+            elif folder and re.fullmatch(r"[a-z0-9]+(_[a-z0-9]+)+", quoted) and not re.fullmatch(CRATE, quoted):
+                yield folder, quoted
+            elif re.fullmatch(rf"{CRATE}(?:(?:::|\.)\w+)*", quoted):
+                yield "", quoted
+
+
 def names():
-    """Prints the names of the documents: the page, the name, and what is wrong with it, if anything. A name is a crate's; an item's, as sa_run::run or
-    sa_seat::Held::turn; a definition's, as sa_laws.Step.Needs; or a wrong body's, as sa_machine/an_item_has_another_processor, after which the other ones
-    of its cell go without their crate."""
+    """Prints the names of the documents: the page, the name, and what is wrong with it, if anything."""
     for page in PAGES:
-        for cell in re.split(r"\n\n|\|", page.read_text()):
-            folder = ""
-            for quoted in re.findall(r"`([^`\n]+)`", cell):
-                if found := re.fullmatch(rf"((?:above/)?{CRATE})/(\w+)", quoted):
-                    folder = found[1]
-                    print(page, quoted, body(folder, found[2]))
-                elif folder and re.fullmatch(r"[a-z0-9]+(_[a-z0-9]+)+", quoted) and not re.fullmatch(CRATE, quoted):
-                    print(page, f"{folder}/{quoted}", body(folder, quoted))
-                elif re.fullmatch(rf"{CRATE}(?:(?:::|\.)\w+)*", quoted):
-                    print(page, quoted, problem(quoted))
+        for folder, name in quoted_names(page):
+            print(page, f"{folder}/{name}" if folder else name, body(folder, name) if folder else problem(name))
 
 
 def unfit(file, crate):
@@ -138,9 +144,17 @@ def unfit(file, crate):
     return "" if pairs else "it changes nothing"
 
 
+def unsaid(file, shown):
+    """Returns why nobody can read what the file gets wrong: the gate's stand in a row of their page, and the others say it in their first line."""
+    if file.parent.name == "must-fail":
+        return "" if (file.parent.parent.name, file.stem) in shown else "it has no row in WRONG-BODIES"
+    return "" if re.match(r"says: [A-Z`\"].*\.\n", file.read_text()) else "its first line does not say what it gets wrong"
+
+
 def bodies():
-    """Prints the wrong bodies: the file, and why it cannot be laid into its crate, if it cannot; and each folder of them, and whether WHEN says another
-    number."""
+    """Prints the wrong bodies: the file, and why it cannot be laid into its crate or nothing says what it gets wrong, if so; and each folder of them,
+    and whether WHEN says another number."""
+    shown = set(quoted_names(pathlib.Path("docs/WRONG-BODIES.md")))
     said = {}
     entry = r"^(\S+)(?:, by .*:\n)? +\S+ +\S+ +(\d+) tried.*?(?:(\d+) not yet)?$"
     for folder, tried, later in re.findall(entry, pathlib.Path("wrong-bodies/WHEN").read_text(), re.M):
@@ -150,7 +164,7 @@ def bodies():
         crate = place.parent if place.name == "must-fail" else pathlib.Path("crates", place.name)
         files = sorted(it for it in place.iterdir() if it.suffix in (".edit", ".patch"))
         for file in files:
-            print(file, unfit(file, crate))
+            print(file, unfit(file, crate) or unsaid(file, shown))
         folder = place.relative_to("wrong-bodies").as_posix() if place.name != "must-fail" else ""
         if folder:
             print(place, "" if said.pop(folder, "no") == str(len(files)) else f"it has {len(files)}, and WHEN does not say so")
