@@ -9,34 +9,22 @@ import sys
 
 HERE = pathlib.Path(__file__).resolve().parent
 PAGE = HERE / "README.md"
-# Of each table: what its rows and its columns are, and what stands in a cell beside the mean.
-SHOWN = {
-    "figure1": (["application", "processors"], "curve"),
-    "figure2": (["memory", "misses"], "curve"),
-    "figure3": (["varied", "value"], None),
-    "table5": (["application"], ("command", "copies", "processors")),
-}
+# Of a table of means: what its rows are, and what its columns.
+SHOWN = {"table5": (["application"], ("command", "copies", "processors"))}
 
 
 def number(value):
-    """A number as a reader wants it: three digits that count, or whole with commas."""
-    value = float(value)
-    return f"{value:,.0f}" if value >= 100 else f"{value:.2f}"
-
-
-def cell(row):
-    low, mean, high = (number(row[it]) for it in ("low", "mean", "high"))
-    return mean if low == high else f"{mean} ({low} to {high})"
+    """A number as a reader wants it: three digits that count."""
+    return f"{float(value):.2f}"
 
 
 def pivoted(rows, keys, across):
-    """A table with a row for each value of the keys, and a column for each value of the other field."""
-    across = (across,) if isinstance(across, str) else across or ()
+    """A table with a row for each value of the keys, and a column for each value of the other fields."""
     names, lines = [], {}
     for row in rows:
-        name = ", ".join(f"{row[it]} {it}" if it in ("copies", "processors") else row[it] for it in across) or "vp : run"
+        name = ", ".join(f"{row[it]} {it}" if it in ("copies", "processors") else row[it] for it in across)
         names += [name] * (name not in names)
-        lines.setdefault(tuple(row[it] for it in keys), {})[name] = cell(row)
+        lines.setdefault(tuple(row[it] for it in keys), {})[name] = number(row["mean"])
     return [[*keys, *names], *([*key, *(cells.get(it, "") for it in names)] for key, cells in lines.items())]
 
 
