@@ -67,8 +67,8 @@ module _ (m : DrivenMachine) (p : ProcNo) (x : ExchangeView) (at now : Option (L
     refused-bad q kept cause y asked lacks out =
         let why : line_len kept ≡ Err cause = ap line_len lacks.rest ∙ lacks.why in
         record {
-          question = q;
-          is_question = asked;
+          asked = q;
+          is_asked = asked;
           later = kept;
           hears = hears-got x.kept lacks.got kept at after lacks.taken lacks.rest;
           is_wrong = ap (answer_by m p q.space kept) why;
@@ -84,8 +84,8 @@ module _ (m : DrivenMachine) (p : ProcNo) (x : ExchangeView) (at now : Option (L
       pub refused-line : (q : Question) (wrong : Wrong) → question driven_calls m p ≡ Some q → answer m p q.space line ≡ Err wrong
           → Refuses m p x at after now new wrong y
       refused-line q wrong asked is_wrong = record {
-        question = q;
-        is_question = asked;
+        asked = q;
+        is_asked = asked;
         later = all;
         hears = hears-got x.kept reads.got all at after reads.taken refl;
         is_wrong = ap (answer_by m p q.space all) reads.len ∙ ap (answer m p q.space) (sym reads.is) ∙ is_wrong;
@@ -110,8 +110,8 @@ module _ (m : DrivenMachine) (p : ProcNo) (x : ExchangeView) (at now : Option (L
           let world : between.workload ≡ m.workload = ap (λ (z : DrivenMachine). z.workload) puts.is ∙ put-workload m q.space puts.reply in
           record {
             event = record {
-              question = q;
-              is_question = asked;
+              asked = q;
+              is_asked = asked;
               between = between;
               puts = puts;
               made = (record { within = omega (arith, within, ap (λ w. w.processors) world); event = omega (arith, few, event) }, turn);

@@ -75,8 +75,8 @@ module _ (w : WorkloadView) (budget : ℕ) where
   answered : (turns : List Move) (m : DrivenMachine) (p : ProcNo) (line : List ℕ) (after : DrivenMachine) → IsLed w budget turns m
       → end_of driven_calls budget m ≡ None → IsAnswered m p line after → IsReady turns m p after
   answered turns m p line after led none done =
-      let q = done.question in
-      let of = question-of driven_calls m p q done.is_question in
+      let q = done.asked in
+      let of = question-of driven_calls m p q done.is_asked in
       let put = reply-is-put driven_calls driven_stands driven_replies are_alike driven_keeps_replies m q.space done.puts.reply of.user of.is_user in
       let u = driven_replies.put of.user done.puts.reply in
       record {

@@ -4,7 +4,7 @@ use Rattle.sa_sched.specs.Turns.{start, turned_often}
 use Rattle.sa_core.specs.View.{machine}
 use Rattle.sa_session.specs.Views.{Follows}
 use Rattle.sa_session.proofs.Going.{IsAt}
-use Rattle.sa_session.proofs.talk.Session.converse.Given as goal
+use Rattle.sa_session.proofs.conversation.Session.converse.Given as goal
 
 abbrev pub invariant-loop : goal.invariant-loop
 invariant-loop g l = record {
