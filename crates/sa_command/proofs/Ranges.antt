@@ -1,5 +1,5 @@
 -- The numbers of a command are in their ranges, since their words are.
-use Rattle.std.proofs.Common.{◌≡◌, ℕ, ◌≤◌, Bool, true, false, List, [], ◌∷◌, Option, Some, None, refl, subst, lit≤}
+use Rattle.std.proofs.Common.{◌≡◌, ℕ, Bool, true, false, List, [], ◌∷◌, Option, Some, None, refl, subst, lit≤}
 use Rattle.std.proofs.lemmas.Bool.{leb-true}
 use Rattle.std.specs.Prelude.{IfSome, ⊤, nat_le, ◌&&◌, option_and_then, unwrap_or, codes, is_none, if◌then◌else◌}
 use Rattle.std.specs.Option.{option_map}
