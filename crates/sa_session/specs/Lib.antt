@@ -1,0 +1,9 @@
+pub mod Machines
+pub mod Exchange
+pub mod Text
+pub mod Answer
+pub mod Moments
+pub mod Views
+pub mod Events
+pub mod Over
+pub mod Laws
