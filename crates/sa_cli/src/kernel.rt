@@ -20,7 +20,9 @@ use sa_front::{Front, read_front};
 use sa_input::{WORKLOAD_LIMIT, workload_of};
 use sa_io::{Sink, Source};
 use sa_lines_in::LineReader;
-use sa_session::laws::{each_session_is_legal, each_whole_session_is_right};
+use sa_session::laws::{
+    each_session_ends_as_defined, each_session_is_legal, each_whole_session_is_right,
+};
 use sa_session::{Close, Over, talk};
 use sa_spaces::Workload;
 use std::alloc::Global;
@@ -46,6 +48,7 @@ pub(crate) fn run_by_replies<S: Source, K: Sink>(
         (told (streams source.new sink.new)) (history result.ran) result.status }
 {
     each_session_is_legal();
+    each_session_ends_as_defined();
     each_whole_session_is_right();
     let (workload, lines) = match read_workload_in_front(alloc, source) {
         Ok(front) => front,
