@@ -27,12 +27,11 @@ use Rattle.sa_session.specs.Answer.{answer_in}
 use Rattle.sa_asked.specs.Questions.{question}
 use Rattle.sa_session.specs.Views.{SessionView, Follows, HasToldAll}
 use Rattle.sa_session.specs.Events.{Makes, Refuses, IsLost}
-use Rattle.sa_session.specs.declared.talk.Close.{Close}
-use Rattle.sa_session.specs.declared.talk.Close.TheVariants.{Ended, Refused}
+use Rattle.sa_session.specs.declared.conversation.Close.{Close}
+use Rattle.sa_session.specs.declared.conversation.Close.TheVariants.{Ended, Refused}
 use Rattle.sa_session.specs.declared.wrong.Wrong.{Wrong}
 use Rattle.sa_session.specs.Over.{said_at, EndsAt, IsRefused, IsClosed, CameSoFar}
 use Rattle.sa_session.proofs.Lines.{hears-on, hears-none}
-use Rattle.sa_session.proofs.Sessions.{adds-event}
 
 -- the lines of no item
 text-end : (n : ℕ) (w : WorkloadView) (items : List Item) → n ≡ length items → text_from n w items ≡ []
@@ -88,165 +87,165 @@ module _ (w : WorkloadView) (order : Order) (budget : ℕ) (kept : List ℕ) (be
   }
 
   module _ (m : DrivenMachine) (x : ExchangeView) (at now : Option (List ℕ)) (told replies : ℕ) (a : IsAt w order budget kept before at old now m told x replies)
-      where
-    -- the items are told
-    pub at-told : (all : ℕ) (y : ExchangeView) → all ≡ length m.items → y.said ≡ x.said ++ text_from told m.workload m.items → y.kept ≡ x.kept
-        → IsAt w order budget kept before at old now m all y replies
-    at-told all y is_all said same = record {
-      moment = a.moment;
-      is = a.is;
-      reached = a.reached;
-      hears = subst (λ bs. Hears kept bs before at a.moment.replies) (sym same) a.hears;
-      counted = a.counted;
-      text = a.moment.text;
-      out = record {
-        sent = a.out.sent;
-        taken = a.out.taken;
-        whole = sym a.pending
-            ∙ ap (λ bs. bs ++ text_from told m.workload m.items) a.out.whole
-            ∙ append_assoc a.out.sent x.said (text_from told m.workload m.items)
-            ∙ ap (λ bs. a.out.sent ++ bs) (sym said);
-      };
-      pending = ap (λ bs. a.moment.text ++ bs) (text-end all m.workload m.items is_all) ∙ append-nil a.moment.text;
-      workload = a.workload;
-    }
-
-    -- what was said, and what is still to be said, with the question
-    whole-said : said_at w order a.moment ≡ a.out.sent ++ (x.said ++ (text_from told m.workload m.items ++ ask_text a.moment.machine (proc_after w order a.moment.machine.event)))
-    whole-said =
-        ap (λ bs. bs ++ ask_text a.moment.machine (proc_after w order a.moment.machine.event))
-        (sym a.pending ∙ ap (λ bs. bs ++ text_from told m.workload m.items) a.out.whole ∙ append_assoc a.out.sent x.said (text_from told m.workload m.items))
-        ∙ append_assoc a.out.sent (x.said ++ text_from told m.workload m.items) (ask_text a.moment.machine (proc_after w order a.moment.machine.event))
-        ∙ ap (λ bs. a.out.sent ++ bs)
-        (append_assoc x.said (text_from told m.workload m.items) (ask_text a.moment.machine (proc_after w order a.moment.machine.event)))
-
-    came : (later : List ℕ) (after new : Option (List ℕ)) → Hears x.kept later at after [] → AppendsPrefix old new (said_at w order a.moment)
-        → CameSoFar w order budget kept before after old new
-    came later after new hears taken = record {
-      moment = a.moment;
-      reached = subst (λ (z : DrivenMachine). Reaches w order budget z.event a.moment) (sym a.is) a.reached;
-      later = later;
-      hears = subst (λ lines. Hears kept later before after lines) (append-nil a.moment.replies)
-          (hears-on kept x.kept later before at after a.moment.replies [] a.hears hears);
-      taken = taken;
-    }
-
-    -- MEMORY RAN OUT as the items were told.
-    pub lost-here : CameSoFar w order budget kept before at old now
-    lost-here =
-        came x.kept at now (hears-none x.kept at)
-        (prefix-behind old now now (said_at w order a.moment) a.out.sent []
-        (x.said ++ (text_from told m.workload m.items ++ ask_text a.moment.machine (proc_after w order a.moment.machine.event))) whole-said a.out.taken
-        (0, Appends-nil now))
-
-    -- THE LAST WRITE failed.
-    pub lost-writing : (new : Option (List ℕ)) → AppendsPrefix now new x.said → CameSoFar w order budget kept before at old new
-    lost-writing new cut =
-        came x.kept at new (hears-none x.kept at)
-        (prefix-behind old now new (said_at w order a.moment) a.out.sent x.said
-        (text_from told m.workload m.items ++ ask_text a.moment.machine (proc_after w order a.moment.machine.event)) whole-said a.out.taken cut)
-
-    module _ (all : told ≡ length m.items) where
-      is-text : a.text ≡ a.moment.text
-      is-text = sym (append-nil a.text) ∙ ap (λ bs. a.text ++ bs) (sym (text-end told m.workload m.items all)) ∙ a.pending
-
-      -- THE RUN ENDED, and all was written.
-      pub at-end : (end : End) (new : Option (List ℕ)) → end_of driven_calls budget m ≡ Some end → Appends now new x.said
-          → IsClosed w order budget kept before at old new m (Ended end)
-      at-end end new ends wrote = record {
+    where
+      -- the items are told
+      pub at-told : (all : ℕ) (y : ExchangeView) → all ≡ length m.items → y.said ≡ x.said ++ text_from told m.workload m.items → y.kept ≡ x.kept
+          → IsAt w order budget kept before at old now m all y replies
+      at-told all y is_all said same = record {
         moment = a.moment;
         is = a.is;
         reached = a.reached;
-        closes = record {
-          ends = ap (end_of driven_calls budget) a.is ∙ ends;
-          later = x.kept;
-          hears = a.hears;
-          taken = subst (λ bs. Appends old new bs) is-text (out-all old now new a.text x.said a.out wrote);
+        hears = subst (λ bs. Hears kept bs before at a.moment.replies) (sym same) a.hears;
+        counted = a.counted;
+        text = a.moment.text;
+        out = record {
+          sent = a.out.sent;
+          taken = a.out.taken;
+          whole = sym a.pending
+              ∙ ap (λ bs. bs ++ text_from told m.workload m.items) a.out.whole
+              ∙ append_assoc a.out.sent x.said (text_from told m.workload m.items)
+              ∙ ap (λ bs. a.out.sent ++ bs) (sym said);
         };
+        pending = ap (λ bs. a.moment.text ++ bs) (text-end all m.workload m.items is_all) ∙ append-nil a.moment.text;
+        workload = a.workload;
       }
 
-      module _ (p : ProcNo) (turn : p ≡ proc_after w order m.event) where
-        is-turn : proc_after w order a.moment.machine.event ≡ p
-        is-turn = ap (λ (z : DrivenMachine). proc_after w order z.event) a.is ∙ sym turn
+      -- what was said, and what is still to be said, with the question
+      whole-said : said_at w order a.moment ≡ a.out.sent ++ (x.said ++ (text_from told m.workload m.items ++ ask_text a.moment.machine (proc_after w order a.moment.machine.event)))
+      whole-said =
+          ap (λ bs. bs ++ ask_text a.moment.machine (proc_after w order a.moment.machine.event))
+          (sym a.pending ∙ ap (λ bs. bs ++ text_from told m.workload m.items) a.out.whole ∙ append_assoc a.out.sent x.said (text_from told m.workload m.items))
+          ∙ append_assoc a.out.sent (x.said ++ text_from told m.workload m.items) (ask_text a.moment.machine (proc_after w order a.moment.machine.event))
+          ∙ ap (λ bs. a.out.sent ++ bs)
+          (append_assoc x.said (text_from told m.workload m.items) (ask_text a.moment.machine (proc_after w order a.moment.machine.event)))
 
-        -- the text with the question
-        is-said : said_at w order a.moment ≡ a.moment.text ++ ask_text m p
-        is-said =
-            ap (λ q. a.moment.text ++ ask_text a.moment.machine q) is-turn ∙ ap (λ (z : DrivenMachine). a.moment.text ++ ask_text z p) a.is
+      came : (later : List ℕ) (after new : Option (List ℕ)) → Hears x.kept later at after [] → AppendsPrefix old new (said_at w order a.moment)
+          → CameSoFar w order budget kept before after old new
+      came later after new hears taken = record {
+        moment = a.moment;
+        reached = subst (λ (z : DrivenMachine). Reaches w order budget z.event a.moment) (sym a.is) a.reached;
+        later = later;
+        hears = subst (λ lines. Hears kept later before after lines) (append-nil a.moment.replies)
+            (hears-on kept x.kept later before at after a.moment.replies [] a.hears hears);
+        taken = taken;
+      }
 
-        out-asked : (y : ExchangeView) (new : Option (List ℕ)) → GoesOut now new x.said (ask_text m p) y.said
-            → GoesOut old new [] (a.moment.text ++ ask_text m p) y.said
-        out-asked y new out =
-            subst (λ bs. GoesOut old new [] (bs ++ ask_text m p) y.said) is-text
-            (out-both old now new [] a.text x.said (ask_text m p) y.said a.out out)
+      -- MEMORY RAN OUT as the items were told.
+      pub lost-here : CameSoFar w order budget kept before at old now
+      lost-here =
+          came x.kept at now (hears-none x.kept at)
+          (prefix-behind old now now (said_at w order a.moment) a.out.sent []
+          (x.said ++ (text_from told m.workload m.items ++ ask_text a.moment.machine (proc_after w order a.moment.machine.event))) whole-said a.out.taken
+          (0, Appends-nil now))
 
-        -- AN EVENT was made.
-        pub at-event : (none : end_of driven_calls budget m ≡ None) (line : Option (List ℕ)) (y : ExchangeView) (after new : Option (List ℕ)) (made : DrivenMachine)
-            (count : ℕ) → Makes m p x at after now new line y made → count ≡ replies + length (lines_of line)
-            → IsAt w order budget kept before after old new made told y count
-        at-event none line y after new made count go counted =
-            let more : Moment = record {
-              machine = made;
-              text = (a.moment.text ++ ask_text m p) ++ text_from told made.workload made.items;
-              replies = a.moment.replies ++ lines_of line;
-            } in
-            let on : GoesOn p a.moment more = record {
-              line = line;
-              event = subst (λ (z : DrivenMachine). IsEvent z p line made) (sym a.is) go.event;
-              text = ap (λ (z : DrivenMachine). (a.moment.text ++ ask_text z p) ++ text_from told made.workload made.items) (sym a.is)
-                  ∙ ap (λ n. (a.moment.text ++ ask_text a.moment.machine p) ++ text_from n made.workload made.items)
-                  (all ∙ ap (λ (z : DrivenMachine). length z.items) (sym a.is));
-              replies = refl;
-            } in
-            let number : made.event ≡ suc m.event = go.number ∙ add-one m.event in
-            record {
-              moment = more;
-              is = refl;
-              reached = subst (λ n. Reaches w order budget n more) (sym number)
-                  (a.moment, a.reached, ap (end_of driven_calls budget) a.is ∙ none, subst (λ (q : ProcNo). GoesOn q a.moment more) turn on);
-              hears = hears-on kept x.kept y.kept before at after a.moment.replies (lines_of line) a.hears go.hears;
-              counted = (let size = length-append a.moment.replies (lines_of line) in omega (arith, counted, a.counted, size));
-              text = a.moment.text ++ ask_text m p;
-              out = out-asked y new go.out;
-              pending = refl;
-              workload = go.workload ∙ a.workload;
-            }
+      -- THE LAST WRITE failed.
+      pub lost-writing : (new : Option (List ℕ)) → AppendsPrefix now new x.said → CameSoFar w order budget kept before at old new
+      lost-writing new cut =
+          came x.kept at new (hears-none x.kept at)
+          (prefix-behind old now new (said_at w order a.moment) a.out.sent x.said
+          (text_from told m.workload m.items ++ ask_text a.moment.machine (proc_after w order a.moment.machine.event)) whole-said a.out.taken cut)
 
-        -- A REPLY IS REFUSED, and all was written.
-        pub at-refusal : (none : end_of driven_calls budget m ≡ None) (wrong : Wrong) (line : ℕ) (y : ExchangeView) (after between new : Option (List ℕ))
-            → Refuses m p x at after now between wrong y → line ≡ replies + 1 → Appends between new y.said
-            → IsClosed w order budget kept before after old new m (Refused line wrong)
-        at-refusal none wrong line y after between new no counted wrote = record {
+      module _ (all : told ≡ length m.items) where
+        is-text : a.text ≡ a.moment.text
+        is-text = sym (append-nil a.text) ∙ ap (λ bs. a.text ++ bs) (sym (text-end told m.workload m.items all)) ∙ a.pending
+
+        -- THE RUN ENDED, and all was written.
+        pub at-end : (end : End) (new : Option (List ℕ)) → end_of driven_calls budget m ≡ Some end → Appends now new x.said
+            → IsClosed w order budget kept before at old new m (Ended end)
+        at-end end new ends wrote = record {
           moment = a.moment;
           is = a.is;
           reached = a.reached;
           closes = record {
-            goes_on = ap (end_of driven_calls budget) a.is ∙ none;
-            question = no.question;
-            is_question = ap (question driven_calls a.moment.machine) is-turn ∙ ap (λ (z : DrivenMachine). question driven_calls z p) a.is ∙ no.is_question;
-            later = no.later;
-            hears = subst (λ lines. Hears kept no.later before after lines) (append-nil a.moment.replies)
-                (hears-on kept x.kept no.later before at after a.moment.replies [] a.hears no.hears);
-            is_wrong = ap (λ (q : ProcNo). answer_in a.moment.machine q no.question.space no.later) is-turn
-                ∙ ap (λ (z : DrivenMachine). answer_in z p no.question.space no.later) a.is ∙ no.is_wrong;
-            end = λ told missing. no.end (still-told before at a.hears.got a.hears.taken told) missing;
-            counted = counted ∙ ap (λ n. n + 1) a.counted;
-            taken = subst (λ bs. Appends old new bs) (sym is-said) (out-all old between new (a.moment.text ++ ask_text m p) y.said (out-asked y between no.out) wrote);
+            ends = ap (end_of driven_calls budget) a.is ∙ ends;
+            later = x.kept;
+            hears = a.hears;
+            taken = subst (λ bs. Appends old new bs) is-text (out-all old now new a.text x.said a.out wrote);
           };
         }
 
-        -- THAT WRITE failed.
-        pub lost-refusing : (wrong : Wrong) (y : ExchangeView) (after between new : Option (List ℕ)) → Refuses m p x at after now between wrong y
-            → AppendsPrefix between new y.said → CameSoFar w order budget kept before after old new
-        lost-refusing wrong y after between new no cut =
-            came no.later after new no.hears (subst (λ bs. AppendsPrefix old new bs) (sym is-said)
-            (out-end_cut old between new (a.moment.text ++ ask_text m p) y.said (out-asked y between no.out) cut))
+        module _ (p : ProcNo) (turn : p ≡ proc_after w order m.event) where
+          is-turn : proc_after w order a.moment.machine.event ≡ p
+          is-turn = ap (λ (z : DrivenMachine). proc_after w order z.event) a.is ∙ sym turn
 
-        -- THE EVENT could not be made.
-        pub lost-event : (after new : Option (List ℕ)) → IsLost m p x at after now new → CameSoFar w order budget kept before after old new
-        lost-event after new lost =
-            came lost.later after new lost.hears (subst (λ bs. AppendsPrefix old new bs) (sym is-said)
-            (prefix-behind old now new (a.moment.text ++ ask_text m p) a.out.sent (x.said ++ ask_text m p) []
-            (ap (λ bs. bs ++ ask_text m p) (sym is-text ∙ a.out.whole)
-            ∙ append_assoc a.out.sent x.said (ask_text m p)
-            ∙ ap (λ bs. a.out.sent ++ bs) (sym (append-nil (x.said ++ ask_text m p)))) a.out.taken lost.taken))
+          -- the text with the question
+          is-said : said_at w order a.moment ≡ a.moment.text ++ ask_text m p
+          is-said =
+              ap (λ q. a.moment.text ++ ask_text a.moment.machine q) is-turn ∙ ap (λ (z : DrivenMachine). a.moment.text ++ ask_text z p) a.is
+
+          out-asked : (y : ExchangeView) (new : Option (List ℕ)) → GoesOut now new x.said (ask_text m p) y.said
+              → GoesOut old new [] (a.moment.text ++ ask_text m p) y.said
+          out-asked y new out =
+              subst (λ bs. GoesOut old new [] (bs ++ ask_text m p) y.said) is-text
+              (out-both old now new [] a.text x.said (ask_text m p) y.said a.out out)
+
+          -- AN EVENT was made.
+          pub at-event : (none : end_of driven_calls budget m ≡ None) (line : Option (List ℕ)) (y : ExchangeView) (after new : Option (List ℕ)) (made : DrivenMachine)
+              (count : ℕ) → Makes m p x at after now new line y made → count ≡ replies + length (lines_of line)
+              → IsAt w order budget kept before after old new made told y count
+          at-event none line y after new made count go counted =
+              let more : Moment = record {
+                machine = made;
+                text = (a.moment.text ++ ask_text m p) ++ text_from told made.workload made.items;
+                replies = a.moment.replies ++ lines_of line;
+              } in
+              let on : GoesOn p a.moment more = record {
+                line = line;
+                event = subst (λ (z : DrivenMachine). IsEvent z p line made) (sym a.is) go.event;
+                text = ap (λ (z : DrivenMachine). (a.moment.text ++ ask_text z p) ++ text_from told made.workload made.items) (sym a.is)
+                    ∙ ap (λ n. (a.moment.text ++ ask_text a.moment.machine p) ++ text_from n made.workload made.items)
+                    (all ∙ ap (λ (z : DrivenMachine). length z.items) (sym a.is));
+                replies = refl;
+              } in
+              let number : made.event ≡ suc m.event = go.number ∙ add-one m.event in
+              record {
+                moment = more;
+                is = refl;
+                reached = subst (λ n. Reaches w order budget n more) (sym number)
+                    (a.moment, a.reached, ap (end_of driven_calls budget) a.is ∙ none, subst (λ (q : ProcNo). GoesOn q a.moment more) turn on);
+                hears = hears-on kept x.kept y.kept before at after a.moment.replies (lines_of line) a.hears go.hears;
+                counted = (let size = length-append a.moment.replies (lines_of line) in omega (arith, counted, a.counted, size));
+                text = a.moment.text ++ ask_text m p;
+                out = out-asked y new go.out;
+                pending = refl;
+                workload = go.workload ∙ a.workload;
+              }
+
+          -- A REPLY IS REFUSED, and all was written.
+          pub at-refusal : (none : end_of driven_calls budget m ≡ None) (wrong : Wrong) (line : ℕ) (y : ExchangeView) (after between new : Option (List ℕ))
+              → Refuses m p x at after now between wrong y → line ≡ replies + 1 → Appends between new y.said
+              → IsClosed w order budget kept before after old new m (Refused line wrong)
+          at-refusal none wrong line y after between new no counted wrote = record {
+            moment = a.moment;
+            is = a.is;
+            reached = a.reached;
+            closes = record {
+              goes_on = ap (end_of driven_calls budget) a.is ∙ none;
+              asked = no.asked;
+              is_asked = ap (question driven_calls a.moment.machine) is-turn ∙ ap (λ (z : DrivenMachine). question driven_calls z p) a.is ∙ no.is_asked;
+              later = no.later;
+              hears = subst (λ lines. Hears kept no.later before after lines) (append-nil a.moment.replies)
+                  (hears-on kept x.kept no.later before at after a.moment.replies [] a.hears no.hears);
+              is_wrong = ap (λ (q : ProcNo). answer_in a.moment.machine q no.asked.space no.later) is-turn
+                  ∙ ap (λ (z : DrivenMachine). answer_in z p no.asked.space no.later) a.is ∙ no.is_wrong;
+              end = λ told missing. no.end (still-told before at a.hears.got a.hears.taken told) missing;
+              counted = counted ∙ ap (λ n. n + 1) a.counted;
+              taken = subst (λ bs. Appends old new bs) (sym is-said) (out-all old between new (a.moment.text ++ ask_text m p) y.said (out-asked y between no.out) wrote);
+            };
+          }
+
+          -- THAT WRITE failed.
+          pub lost-refusing : (wrong : Wrong) (y : ExchangeView) (after between new : Option (List ℕ)) → Refuses m p x at after now between wrong y
+              → AppendsPrefix between new y.said → CameSoFar w order budget kept before after old new
+          lost-refusing wrong y after between new no cut =
+              came no.later after new no.hears (subst (λ bs. AppendsPrefix old new bs) (sym is-said)
+              (out-end_cut old between new (a.moment.text ++ ask_text m p) y.said (out-asked y between no.out) cut))
+
+          -- THE EVENT could not be made.
+          pub lost-event : (after new : Option (List ℕ)) → IsLost m p x at after now new → CameSoFar w order budget kept before after old new
+          lost-event after new lost =
+              came lost.later after new lost.hears (subst (λ bs. AppendsPrefix old new bs) (sym is-said)
+              (prefix-behind old now new (a.moment.text ++ ask_text m p) a.out.sent (x.said ++ ask_text m p) []
+              (ap (λ bs. bs ++ ask_text m p) (sym is-text ∙ a.out.whole)
+              ∙ append_assoc a.out.sent x.said (ask_text m p)
+              ∙ ap (λ bs. a.out.sent ++ bs) (sym (append-nil (x.said ++ ask_text m p)))) a.out.taken lost.taken))

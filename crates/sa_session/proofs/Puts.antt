@@ -15,6 +15,7 @@ use Rattle.sa_core_model.specs.Machine.{Machine, user_of, context_on}
 use Rattle.sa_core_model.specs.End.{is_done, is_inactive, owes_by, owes_in, is_inside, is_any_inside, all_done, is_stuck, end_of}
 use Rattle.sa_asked.specs.Questions.{put_by, put_reply, with_user}
 use Rattle.sa_driven.specs.Replies.{driven_replies}
+use Rattle.sa_driven.specs.RepliesKeep.{driven_keeps_replies}
 use Rattle.sa_driven_model.specs.declared.context.DrivenContext.{DrivenContext}
 use Rattle.sa_driven_model.specs.declared.reply.Reply.{Reply}
 use Rattle.sa_driven_model.specs.declared.space.DrivenSpace.{DrivenSpace}
@@ -69,3 +70,28 @@ module _ (m : DrivenMachine) (s : SpaceNo) (v : DrivenSpace) where
         ap (λ b. if b then Some AllDone else if is_stuck driven_calls (with_user s v m) then Some Stuck
         else if m.event == budget then Some Budget else None) done-put
         ∙ ap (λ b. if all_done driven_calls m then Some AllDone else if b then Some Stuck else if m.event == budget then Some Budget else None) stuck-put
+
+-- what a reply leaves as it is
+pub put-workload : (m : DrivenMachine) (s : SpaceNo) (reply : Reply) → (put_reply driven_replies s reply m).workload ≡ m.workload
+put-workload m s reply = by (user_of m s)
+  where
+    by : (o : Option DrivenSpace) → (put_by driven_replies s reply o m).workload ≡ m.workload
+    by None = refl
+    by (Some u) = refl
+
+pub put-event : (m : DrivenMachine) (s : SpaceNo) (reply : Reply) → (put_reply driven_replies s reply m).event ≡ m.event
+put-event m s reply = by (user_of m s)
+  where
+    by : (o : Option DrivenSpace) → (put_by driven_replies s reply o m).event ≡ m.event
+    by None = refl
+    by (Some u) = refl
+
+pub put-end : (budget : ℕ) (m : DrivenMachine) (s : SpaceNo) (reply : Reply)
+    → end_of driven_calls budget (put_reply driven_replies s reply m) ≡ end_of driven_calls budget m
+put-end budget m s reply = by (user_of m s) refl
+  where
+    by : (o : Option DrivenSpace) → user_of m s ≡ o → end_of driven_calls budget (put_by driven_replies s reply o m) ≡ end_of driven_calls budget m
+    by None at = refl
+    by (Some u) at =
+        end-with m s (driven_replies.put u reply) u at
+        (driven_keeps_replies.tallies u (driven_replies.put u reply) (driven_keeps_replies.puts u reply)) budget

@@ -44,7 +44,7 @@ use Rattle.sa_package_runs.proofs.Reaching.{turn-goes}
 use Rattle.sa_session.specs.Machines.{DrivenMachine, proc_after}
 use Rattle.sa_session.specs.Answer.{Puts}
 use Rattle.sa_session.specs.Moments.{Moment, IsAnswered, IsEvent, GoesOn, Reaches}
-use Rattle.sa_session.proofs.Puts.{end-with}
+use Rattle.sa_session.proofs.Puts.{put-end}
 
 -- moves from the opening lead to the machine, none of the machine's after an end, and those are these turns
 pub record IsLed (w : WorkloadView) (budget : ℕ) (turns : List Move) (m : DrivenMachine) : Type 0 where
@@ -75,8 +75,8 @@ module _ (w : WorkloadView) (budget : ℕ) where
   answered : (turns : List Move) (m : DrivenMachine) (p : ProcNo) (line : List ℕ) (after : DrivenMachine) → IsLed w budget turns m
       → end_of driven_calls budget m ≡ None → IsAnswered m p line after → IsReady turns m p after
   answered turns m p line after led none done =
-      let q = done.question in
-      let of = question-of driven_calls m p q done.is_question in
+      let q = done.asked in
+      let of = question-of driven_calls m p q done.is_asked in
       let put = reply-is-put driven_calls driven_stands driven_replies are_alike driven_keeps_replies m q.space done.puts.reply of.user of.is_user in
       let u = driven_replies.put of.user done.puts.reply in
       record {
@@ -89,9 +89,7 @@ module _ (w : WorkloadView) (budget : ℕ) where
               (put_reply driven_replies q.space done.puts.reply m) led.session put led.open_still tt;
           turns_are = moves-push led.moves (puts q.space u ∷ []) ∙ append-nil (moves_of led.moves) ∙ led.turns_are;
         };
-        none = ap (end_of driven_calls budget) put.is
-            ∙ end-with m q.space u of.user of.is_user (driven_keeps_replies.tallies of.user u (driven_keeps_replies.puts of.user done.puts.reply)) budget
-            ∙ none;
+        none = put-end budget m q.space done.puts.reply ∙ none;
         made = subst (λ (z : DrivenMachine). IsMove driven_calls z (turn p) after) done.puts.is done.made;
         items = ap (λ (z : DrivenMachine). z.items) put.is;
       }

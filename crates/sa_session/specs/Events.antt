@@ -9,8 +9,8 @@ use Rattle.sa_lines_in.specs.Line.{line_len}
 use Rattle.sa_asked.specs.declared.question.Question.{Question}
 use Rattle.sa_asked.specs.Questions.{question}
 use Rattle.sa_driven_model.specs.Step.{driven_calls}
-use Rattle.sa_session.specs.declared.talk.Went.{Went}
-use Rattle.sa_session.specs.declared.talk.Went.TheVariants.{Alone, Answered, Refused}
+use Rattle.sa_session.specs.declared.conversation.Went.{Went}
+use Rattle.sa_session.specs.declared.conversation.Went.TheVariants.{Alone, Answered, Refused}
 use Rattle.sa_session.specs.declared.wrong.Wrong.{Wrong}
 use Rattle.sa_session.specs.Machines.{DrivenMachine}
 use Rattle.sa_session.specs.Exchange.{ExchangeView, Hears}
@@ -29,11 +29,11 @@ module _ (m : DrivenMachine) (p : ProcNo) (x : ExchangeView) (before after old n
 
   -- it was not made: its question was said, and the reply is refused
   pub record Refuses (wrong : Wrong) (y : ExchangeView) : Type 0 where
-    pub question : Question
-    pub is_question : question driven_calls m p ≡ Some question
+    pub asked : Question
+    pub is_asked : question driven_calls m p ≡ Some asked
     pub later : List ℕ
     pub hears : Hears x.kept later before after []
-    pub is_wrong : answer_in m p question.space later ≡ Err wrong
+    pub is_wrong : answer_in m p asked.space later ≡ Err wrong
     pub end : IsSome before → line_len later ≡ Err Missing → IsAtEnd after
     pub out : GoesOut old new x.said (ask_text m p) y.said
 

@@ -29,10 +29,10 @@ first_moment w = record {
 
 -- an event that is a step: its question was answered by this line, whose reply it does
 pub record IsAnswered (m : DrivenMachine) (p : ProcNo) (line : List ℕ) (after : DrivenMachine) : Type 0 where
-  pub question : Question
-  pub is_question : question driven_calls m p ≡ Some question
+  pub asked : Question
+  pub is_asked : question driven_calls m p ≡ Some asked
   pub between : DrivenMachine
-  pub puts : Puts m p question.space line between
+  pub puts : Puts m p asked.space line between
   pub made : IsMove driven_calls between (turn p) after
 
 -- an event, with the line of its reply; or without one if it is no step: an interrupt, the end of an I/O or a tick

@@ -11,9 +11,9 @@ use Rattle.sa_lines_in.specs.Line.{line_len}
 use Rattle.sa_asked.specs.declared.question.Question.{Question}
 use Rattle.sa_asked.specs.Questions.{question}
 use Rattle.sa_driven_model.specs.Step.{driven_calls}
-use Rattle.sa_session.specs.declared.talk.Close.{Close}
-use Rattle.sa_session.specs.declared.talk.Close.TheVariants.{Ended, Refused}
-use Rattle.sa_session.specs.declared.talk.Over.{Over}
+use Rattle.sa_session.specs.declared.conversation.Close.{Close}
+use Rattle.sa_session.specs.declared.conversation.Close.TheVariants.{Ended, Refused}
+use Rattle.sa_session.specs.declared.conversation.Over.{Over}
 use Rattle.sa_session.specs.declared.wrong.Wrong.{Wrong}
 use Rattle.sa_session.specs.Machines.{DrivenMachine, proc_after}
 use Rattle.sa_session.specs.Text.{ask_text}
@@ -37,11 +37,11 @@ module _ (w : WorkloadView) (order : Order) (budget : ℕ) (kept : List ℕ) (be
   -- wrong with it. All was written.
   pub record IsRefused (x : Moment) (line : ℕ) (wrong : Wrong) : Type 0 where
     pub goes_on : end_of driven_calls budget x.machine ≡ None
-    pub question : Question
-    pub is_question : question driven_calls x.machine (proc_after w order x.machine.event) ≡ Some question
+    pub asked : Question
+    pub is_asked : question driven_calls x.machine (proc_after w order x.machine.event) ≡ Some asked
     pub later : List ℕ
     pub hears : Hears kept later before after x.replies
-    pub is_wrong : answer_in x.machine (proc_after w order x.machine.event) question.space later ≡ Err wrong
+    pub is_wrong : answer_in x.machine (proc_after w order x.machine.event) asked.space later ≡ Err wrong
     pub end : IsSome before → line_len later ≡ Err Missing → IsAtEnd after
     pub counted : line ≡ length x.replies + 1
     pub taken : Appends old new (said_at w order x)

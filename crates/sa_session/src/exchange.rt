@@ -25,6 +25,8 @@ pub enum NoTalk {
 }
 
 impl From<AllocError> for NoTalk {
+    ghost from_gives = { λ error why. why ≡ NoTalk.OutOfMemory };
+
     fn from(_error: AllocError) -> NoTalk {
         NoTalk::OutOfMemory
     }

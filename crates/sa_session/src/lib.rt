@@ -2,11 +2,11 @@
 //! line, from whoever writes the replies.
 #![tactic(auto)]
 
+mod conversation;
 mod exchange;
 pub mod laws;
 mod session;
-mod talk;
 mod wrong;
 
-pub use talk::{Close, NoTalk, Over, talk};
+pub use conversation::{Close, NoTalk, Over, talk};
 pub use wrong::Wrong;

@@ -85,6 +85,7 @@ impl Session {
     /// What the turn of the processor asks, if it is a step; its line is appended. An error is want of memory.
     pub(crate) fn ask(&self, p: ProcNo, said: &mut Vec<u8>) -> Result<Option<Question>, AllocError>
         requires within { p.0 < (machine self.now.core).workload.processors }
+        requires event { (machine self.now.core).event < MAX_EVENTS }
         ensures question { IfOk result (λ asked. asked ≡ question driven_calls (machine self.now.core) p) }
         ensures text { OnOk result (said.new.items ≡ said.old.items ++ ask_text (machine self.now.core) p) }
     {
