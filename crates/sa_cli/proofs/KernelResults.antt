@@ -21,9 +21,9 @@ use Rattle.sa_trace.specs.TraceText.{last_line_of}
 use Rattle.sa_sched.specs.Order.{Order}
 use Rattle.sa_session.specs.declared.exchange.NoTalk.{NoTalk}
 use Rattle.sa_session.specs.declared.exchange.NoTalk.TheVariants as stopped
-use Rattle.sa_session.specs.declared.talk.Close.{Close}
-use Rattle.sa_session.specs.declared.talk.Close.TheVariants.{Ended, Refused}
-use Rattle.sa_session.specs.declared.talk.Over.{Over}
+use Rattle.sa_session.specs.declared.conversation.Close.{Close}
+use Rattle.sa_session.specs.declared.conversation.Close.TheVariants.{Ended, Refused}
+use Rattle.sa_session.specs.declared.conversation.Over.{Over}
 use Rattle.sa_session.specs.Exchange.{Hears, FailsFor}
 use Rattle.sa_session.specs.Laws.{SessionsAreLegal, SessionsEndAsDefined, WholeSessionsAreRight}
 use Rattle.sa_session.specs.Moments.{Moment, Reaches}
@@ -41,12 +41,21 @@ use Rattle.sa_cli.specs.Kernel.{bad_reply, status_of_close, end_of_close, status
 use Rattle.sa_cli.proofs.Inputs.{all-parted, refused-once, text-not_refused, told-is}
 
 -- WHAT IS LOST of the source
-pub loses-so : (most : ℕ) (before after : Option (List ℕ)) → LosesAtMost most before after → LosesSome before after
-loses-so most before after lost = (lost.0, lost.1)
-
-pub loses-more : (most : ℕ) (before at after : Option (List ℕ)) (kept later : List ℕ) (lines : List (List ℕ)) → LosesAtMost most before at
+loses-more : (most : ℕ) (before at after : Option (List ℕ)) (kept later : List ℕ) (lines : List (List ℕ)) → LosesAtMost most before at
     → Hears kept later at after lines → LosesSome before after
 loses-more most before at after kept later lines lost hears = (lost.0 ++ hears.got, Consumes-trans before at after lost.0 hears.got lost.1 hears.taken)
+
+module _ (most : ℕ) (first at last : Option (List ℕ)) (lost : LosesAtMost most first at) (w : WorkloadView) (order : Order) (budget : ℕ) (kept : List ℕ)
+    (old new : Option (List ℕ)) where
+  closes-loses : (x : Moment) (close : Close) → Closes w order budget kept at last old new x close → LosesSome first last
+  closes-loses x (Ended e) closes = loses-more most first at last kept closes.later x.replies lost closes.hears
+  closes-loses x (Refused line wrong) closes = loses-more most first at last kept closes.later x.replies lost closes.hears
+
+  pub over-loses : (over : Over) → IsOver w order budget kept at last old new over → LosesSome first last
+  over-loses over is = closes-loses is.closed.moment over.close is.closed.closes
+
+  pub came-loses : CameSoFar w order budget kept at last old new → LosesSome first last
+  came-loses came = loses-more most first at last kept came.later came.moment.replies lost came.hears
 
 -- what holds if the source told once the front was read holds if it told before
 told-before : {A : Type 0} (before at : Option (List ℕ)) (bytes : List ℕ) → Consumes before at bytes → (IsSome at → A) → IsSome before → A
@@ -54,39 +63,7 @@ told-before None at bytes taken held told = absurd (false≢true told)
 told-before (Some xs) None bytes taken held told = absurd taken
 told-before (Some xs) (Some ys) bytes taken held told = held refl
 
--- A STATUS of a session is none without a workload
-close-has : (close : Close) → LacksWorkload (status_of_close close) → ⊥
-close-has (Ended end.AllDone) lacks = lacks
-close-has (Ended end.Stuck) lacks = lacks
-close-has (Ended end.Budget) lacks = lacks
-close-has (Refused line wrong) lacks = lacks
-
-pub written-has : (before after : Option (List ℕ)) (faults_before faults_after : ℕ) (text : List ℕ) (close : Close) (status : Status)
-    → Writes before after faults_before faults_after text (status_of_close close) status → LacksWorkload status → ⊥
-written-has before after faults_before faults_after text close status (inl done) lacks = close-has close (subst LacksWorkload done.0 lacks)
-written-has before after faults_before faults_after text close status (inr cut) lacks =
-    let none : LacksWorkload WriteFault = subst LacksWorkload cut.0 lacks in none
-
-pub stopped-has : (why : NoTalk) (status : Status) → status ≡ status_of_no_talk why → LacksWorkload status → ⊥
-stopped-has stopped.Read status is lacks = let none : LacksWorkload ReadFault = subst LacksWorkload is lacks in none
-stopped-has stopped.Write status is lacks = let none : LacksWorkload WriteFault = subst LacksWorkload is lacks in none
-stopped-has stopped.OutOfMemory status is lacks = let none : LacksWorkload OutOfMemory = subst LacksWorkload is lacks in none
-
 module _ (schedule : ScheduleWord) (budget : ℕ) (old new : World) where
-  -- NO SESSION BEGAN
-  silent-by : (status : Status) → LacksFront old.left old.reads new.reads status → IsSilent old new → AnswersKernel schedule budget old new [] status
-  silent-by (BadWorkload bad) lacks silent = (lacks, refl)
-  silent-by ReadFault lacks silent = (lacks, refl, inl silent)
-  silent-by OutOfMemory lacks silent = (refl, inl silent)
-  silent-by _ lacks silent = absurd lacks
-
-  pub silent-answers : (ran : Ran) (status told : Status) → ran ≡ Nothing → told ≡ status → LacksFront old.left old.reads new.reads status → new.taken ≡ old.taken
-      → AnswersKernel schedule budget old new (history ran) told
-  silent-answers ran status told none is lacks kept =
-      let silent : IsSilent old new = subst (λ (v : Option (List ℕ)). Appends old.taken v []) (sym kept) (Appends-nil old.taken) in
-      subst (λ (r : Ran). AnswersKernel schedule budget old new (history r) told) (sym none)
-      (subst (λ (s : Status). AnswersKernel schedule budget old new [] s) (sym is) (silent-by status lacks silent))
-
   -- A SESSION of the workload in front
   module _ (at : Option (List ℕ)) (w : WorkloadView) (kept : List ℕ) (ok : IsWorkload w) (front : HasFront old.left at w kept) (legal : SessionsAreLegal)
       (defined : SessionsEndAsDefined) where
@@ -100,7 +77,7 @@ module _ (schedule : ScheduleWord) (budget : ℕ) (old new : World) where
           (Consumes-trans old.left at new.left (front.text ++ kept) hears.got front.taken hears.taken);
     }
 
-    talked : (x : Moment) (later : List ℕ) → Reaches w (order_by schedule w) budget x.machine.event x → Hears kept later at new.left x.replies
+    abbrev talked : (x : Moment) (later : List ℕ) → Reaches w (order_by schedule w) budget x.machine.event x → Hears kept later at new.left x.replies
         → Talked schedule budget old new
     talked x later reached hears = record {
       workload = w;
@@ -122,12 +99,13 @@ module _ (schedule : ScheduleWord) (budget : ℕ) (old new : World) where
     stopped-by stopped.Write came reads more fails = (fails, inl (refl, stops came))
     stopped-by stopped.OutOfMemory came reads more fails = (refl, inr (stops came))
 
-    pub stopped-answers : (ran : Ran) (why : NoTalk) (status : Status) (reads : ℕ) → ran ≡ Nothing → status ≡ status_of_no_talk why → old.reads ≤ reads
-        → CameSoFar w (order_by schedule w) budget kept at new.left old.taken new.taken → FailsFor why reads new.reads old.writes new.writes
-        → AnswersKernel schedule budget old new (history ran) status
-    stopped-answers ran why status reads none is more came fails =
+    pub stopped-answers : (order : Order) (ran : Ran) (why : NoTalk) (status : Status) (reads : ℕ) → order ≡ order_by schedule w → ran ≡ Nothing
+        → status ≡ status_of_no_talk why → old.reads ≤ reads → CameSoFar w order budget kept at new.left old.taken new.taken
+        → FailsFor why reads new.reads old.writes new.writes → AnswersKernel schedule budget old new (history ran) status
+    stopped-answers order ran why status reads same none is more came fails =
         subst (λ (r : Ran). AnswersKernel schedule budget old new (history r) status) (sym none)
-        (subst (λ (s : Status). AnswersKernel schedule budget old new [] s) (sym is) (stopped-by why came reads more fails))
+        (subst (λ (s : Status). AnswersKernel schedule budget old new [] s) (sym is)
+        (stopped-by why (subst (λ (o : Order). CameSoFar w o budget kept at new.left old.taken new.taken) same came) reads more fails))
 
     -- IT IS OVER: it ended, or a reply is refused
     module _ (mid : Option (List ℕ)) (right : WholeSessionsAreRight) where
@@ -150,8 +128,8 @@ module _ (schedule : ScheduleWord) (budget : ℕ) (old new : World) where
         talked = talked x closes.later reached closes.hears;
         shows = refl;
         goes_on = closes.goes_on;
-        asked = closes.question;
-        is_asked = closes.is_question;
+        asked = closes.asked;
+        is_asked = closes.is_asked;
         wrong = wrong;
         is_wrong = closes.is_wrong;
         at_end = told-before old.left at (front.text ++ kept) front.taken closes.end;
@@ -193,11 +171,11 @@ module _ (schedule : ScheduleWord) (budget : ℕ) (old new : World) where
           (omega (arith, more, risen),
           cut-answers x.machine.items close (over-so (TookSome old new) x close reached closes (λ said. part-joins line said cut.2)))
 
-      pub over-answers : (over : Over) (ran : Ran) (writes : ℕ) (status : Status) → ran ≡ Plain over.trace → old.writes ≤ writes
+      over-whole : (over : Over) (ran : Ran) (writes : ℕ) (status : Status) → ran ≡ Plain over.trace → old.writes ≤ writes
           → IsOver w (order_by schedule w) budget kept at new.left old.taken mid over
           → Writes mid new.taken writes new.writes (last_line_of over.trace.items (end_of_close over.close) over.events) (status_of_close over.close) status
           → AnswersKernel schedule budget old new (history ran) status
-      over-answers over ran writes status is more closed wrote =
+      over-whole over ran writes status is more closed wrote =
           let x = closed.closed.moment in
           let close = over.close in
           let same : closed.machine ≡ x.machine = sym closed.closed.is in
@@ -211,6 +189,13 @@ module _ (schedule : ScheduleWord) (budget : ℕ) (old new : World) where
           (subst (λ (v : List Item). AnswersKernel schedule budget old new v status) (sym items)
           (over-by x close writes status reached closed.closed.closes more
           (subst (λ (v : List ℕ). Writes mid new.taken writes new.writes v (status_of_close close) status) line wrote)))
+
+      pub over-answers : (order : Order) (over : Over) (ran : Ran) (writes : ℕ) (status : Status) → order ≡ order_by schedule w → ran ≡ Plain over.trace
+          → old.writes ≤ writes → IsOver w order budget kept at new.left old.taken mid over
+          → Writes mid new.taken writes new.writes (last_line_of over.trace.items (end_of_close over.close) over.events) (status_of_close over.close) status
+          → AnswersKernel schedule budget old new (history ran) status
+      over-answers order over ran writes status same is more closed wrote =
+          over-whole over ran writes status is more (subst (λ (o : Order). IsOver w o budget kept at new.left old.taken mid over) same closed) wrote
 
 -- WHAT IS SAID OF WHAT STANDS IN FRONT
 module _ (schedule : ScheduleWord) (budget : ℕ) (old new : World) where

@@ -23,8 +23,8 @@ use Rattle.sa_core_model.specs.End.{end_of}
 use Rattle.sa_asked.specs.declared.question.Question.{Question}
 use Rattle.sa_asked.specs.Questions.{question}
 use Rattle.sa_driven_model.specs.Step.{driven_calls}
-use Rattle.sa_session.specs.declared.talk.Close.{Close}
-use Rattle.sa_session.specs.declared.talk.Close.TheVariants.{Ended, Refused}
+use Rattle.sa_session.specs.declared.conversation.Close.{Close}
+use Rattle.sa_session.specs.declared.conversation.Close.TheVariants.{Ended, Refused}
 use Rattle.sa_session.specs.declared.exchange.NoTalk.{NoTalk}
 use Rattle.sa_session.specs.declared.exchange.NoTalk.TheVariants as stopped
 use Rattle.sa_session.specs.declared.wrong.Wrong.{Wrong}
