@@ -28,6 +28,7 @@ fn report(rt: &impl Eprint, status: Status) -> io::Result<()> {
         Status::BadWorkload(bad) => eprintln!(rt; "bad workload: {bad}"),
         Status::BadTrace(bad) => eprintln!(rt; "bad trace: {bad}"),
         Status::BadScript(bad) => eprintln!(rt; "bad script: {bad}"),
+        Status::BadReply(bad) => eprintln!(rt; "bad reply: {bad}"),
         Status::ReadFault => eprintln!(rt; "read fault"),
         Status::WriteFault => eprintln!(rt; "write fault"),
         Status::OutOfMemory => eprintln!(rt; "out of memory"),

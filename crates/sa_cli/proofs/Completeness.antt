@@ -6,7 +6,7 @@ use Rattle.sa_base.specs.declared.record.Item.{Item}
 use Rattle.sa_workload.specs.Text.{IsText, IsText1}
 use Rattle.sa_workload.specs.Bad.{BadAt, BadAt1}
 use Rattle.sa_command.specs.declared.command.Command.{Command}
-use Rattle.sa_command.specs.declared.command.Command.TheVariants.{Run, Threads, Load, Migrate, Check, Vp, Debug, Explore}
+use Rattle.sa_command.specs.declared.command.Command.TheVariants.{Run, Threads, Load, Migrate, Check, Vp, Debug, Explore, Kernel}
 use Rattle.sa_command.specs.declared.command.GiveWord.{GiveWord}
 use Rattle.sa_cli.specs.declared.outcome.Ran.{Ran}
 use Rattle.sa_cli.specs.declared.outcome.Status.{Status}
@@ -23,6 +23,7 @@ use Rattle.sa_cli.specs.declared.found.Found.TheVariants.{Judged}
 use Rattle.sa_cli.specs.declared.found.Found.TheVariants as two
 use Rattle.sa_cli.proofs.ByStatus.{Says, complete, SaysFound, found-complete}
 use Rattle.sa_cli.proofs.Finds.{one-found}
+use Rattle.sa_cli.proofs.KernelResults.{kernel-complete}
 use Rattle.sa_cli.proofs.Scripts.{debug-debugs}
 use Rattle.sa_cli.proofs.SharedResults.{shared-says}
 use Rattle.sa_cli.proofs.VirtualResults.{virtual-says}
@@ -97,3 +98,4 @@ answers-complete (Vp schedule budget) old new ran status answers =
 answers-complete (Debug budget) old new ran status answers = debug-debugs budget old new ran status answers
 answers-complete (Explore states user_level give) old new ran status answers =
     complete IsText BadAt HasExplored old new all-parted status (explore-says states user_level give old new status answers.1)
+answers-complete (Kernel schedule budget) old new ran status answers = kernel-complete schedule budget old new (history ran) status answers

@@ -11,6 +11,8 @@ mod Results
 mod SharedResults
 mod VirtualResults
 mod VpPieces
+mod Fronts
+mod KernelResults
 mod Told
 mod Completeness
 mod TopCalls

@@ -2,6 +2,7 @@
 use Rattle.std.specs.Prelude.{◌≡◌, ⊤, ℕ, ◌+◌, List, [], Option, Some, None}
 use Rattle.sa_base.specs.declared.record.Item.{Item}
 use Rattle.sa_io.specs.Faults.{HasRisen}
+use Rattle.sa_io.specs.Input.{LosesAtMost}
 use Rattle.sa_sched.specs.Order.{RoundRobin}
 use Rattle.sa_gen.specs.Generated.{generated}
 use Rattle.sa_trace.specs.TraceText.{trace_text, last_line_of}
@@ -10,13 +11,13 @@ use Rattle.sa_workload.specs.Bad.{BadAt, BadAt1}
 use Rattle.sa_command.specs.declared.command.ScheduleWord.{ScheduleWord}
 use Rattle.sa_base.specs.declared.package.PackageName.{PackageName}
 use Rattle.sa_command.specs.declared.command.Command.{Command}
-use Rattle.sa_command.specs.declared.command.Command.TheVariants.{Run, Threads, Load, Migrate, Check, Vp, Debug, Explore}
+use Rattle.sa_command.specs.declared.command.Command.TheVariants.{Run, Threads, Load, Migrate, Check, Vp, Debug, Explore, Kernel}
 use Rattle.sa_cli.specs.declared.outcome.Ran.{Ran}
 use Rattle.sa_cli.specs.declared.outcome.Ran.TheVariants.{Nothing}
 use Rattle.sa_cli.specs.declared.outcome.Status.{Status}
 use Rattle.sa_cli.specs.declared.outcome.Status.TheVariants.{BadWorkload, ReadFault, WriteFault, OutOfMemory, Migrated, Checked, Broken, BadTrace}
 use Rattle.sa_input.specs.declared.limits.TheConstants.{WORKLOAD_LIMIT, TRACE_LIMIT, SCRIPT_LIMIT}
-use Rattle.sa_cli.specs.Outcome.{history, RanHere, RanShared}
+use Rattle.sa_cli.specs.Outcome.{history, RanHere, RanShared, LacksWorkload, WritesNothing}
 use Rattle.sa_cli.specs.Input.{GaveText, GaveSliced}
 use Rattle.sa_cli.specs.Refusals.{IsRefused}
 use Rattle.sa_base.specs.declared.package.RulesName.{RulesName}
@@ -34,6 +35,7 @@ use Rattle.sa_cli.specs.Shared.{AnswersThreads}
 use Rattle.sa_cli.specs.Virtual.{AnswersVp}
 use Rattle.sa_cli.specs.Debugging.{AnswersDebug}
 use Rattle.sa_cli.specs.Exploring.{ExploreAnswers}
+use Rattle.sa_cli.specs.Kernel.{LosesSome, AnswersKernel}
 
 -- `run`: the workload is that of which the source gave the text, the user level that of the word, and the whole trace text
 -- is written
@@ -91,6 +93,7 @@ Answers (Check rules) old new ran status = (ran ≡ Nothing) × CheckAnswers rul
 Answers (Vp schedule budget) old new ran status = AnswersVp schedule budget old new (history ran) status
 Answers (Debug budget) old new ran status = AnswersDebug budget old new ran status
 Answers (Explore states user_level give) old new ran status = (ran ≡ Nothing) × ExploreAnswers states user_level give old new status
+Answers (Kernel schedule budget) old new ran status = AnswersKernel schedule budget old new (history ran) status
 
 -- the same, where the words are a command
 abbrev pub AnswersTo : Option Command → World → World → Ran → Status → Type 0
@@ -114,10 +117,22 @@ abbrev pub SearchesNothing : Option Command → Type 0
 SearchesNothing (Some (Explore states user_level give)) = ⊥
 SearchesNothing other = ⊤
 
--- the most bytes that a command takes of its source: one more than the limit of its input
+-- the statuses with which a command writes nothing; `kernel` writes what it says before it reads on, so much may be written where a
+-- read fails or memory runs out
+abbrev pub WritesNothingBy : Option Command → Status → Type 0
+WritesNothingBy (Some (Kernel schedule budget)) status = LacksWorkload status
+WritesNothingBy other status = WritesNothing status
+
+-- the most bytes that a command takes of its source at once: one more than the limit of its input, which for `kernel` is what stands in
+-- front of the replies
 abbrev pub most_read : Option Command → ℕ
 most_read None = 0
 most_read (Some (Load number budget)) = 0
 most_read (Some (Check rules)) = TRACE_LIMIT + 1
 most_read (Some (Debug budget)) = SCRIPT_LIMIT + 1
 most_read (Some other) = WORKLOAD_LIMIT + 1
+
+-- what the source loses at its front: at most so many bytes, but under `kernel` as many as its session takes
+abbrev pub Loses : Option Command → Option (List ℕ) → Option (List ℕ) → Type 0
+Loses (Some (Kernel schedule budget)) before after = LosesSome before after
+Loses other before after = LosesAtMost (most_read other) before after

@@ -5,8 +5,9 @@ use Rattle.sa_spaces.specs.Workload.{WorkloadView}
 use Rattle.sa_io.specs.Faults.{HasRisen}
 use Rattle.sa_workload.specs.Text.{IsText, IsText1}
 use Rattle.sa_workload.specs.Bad.{BadAt, BadAt1}
+use Rattle.sa_workload.specs.Texts.{workload_part}
 use Rattle.sa_command.specs.declared.command.Command.{Command}
-use Rattle.sa_command.specs.declared.command.Command.TheVariants.{Run, Threads, Load, Migrate, Check, Vp, Debug, Explore}
+use Rattle.sa_command.specs.declared.command.Command.TheVariants.{Run, Threads, Load, Migrate, Check, Vp, Debug, Explore, Kernel}
 use Rattle.sa_cli.specs.declared.outcome.Status.{Status}
 use Rattle.sa_cli.specs.declared.outcome.Status.TheVariants.{BadWorkload, OutOfMemory, Migrated}
 use Rattle.sa_input.specs.declared.limits.TheConstants.{WORKLOAD_LIMIT}
@@ -15,7 +16,7 @@ use Rattle.sa_input.specs.Refusals.{Badness, IsInputRefused}
 use Rattle.sa_base.specs.declared.package.RulesName.{RulesName}
 use Rattle.sa_cli.specs.declared.found.Found.{Found}
 use Rattle.sa_cli.specs.Texts.{IsFound}
-use Rattle.sa_cli.specs.Outcome.{HasEnded, HasExplored, status_of_found}
+use Rattle.sa_cli.specs.Outcome.{HasEnded, HasExplored, HasTalked, status_of_found}
 use Rattle.sa_cli.specs.Answers.{World}
 use Rattle.sa_cli.specs.Debugging.{Scripted, IsScripted, status_of_scripted}
 
@@ -49,6 +50,18 @@ Debugs old new status =
     (input : List ℕ) (found : Scripted) → old.left ≡ Some input → IsScripted input found
     → NoReadFailed old new → NoWriteFailed old new → (status ≡ status_of_scripted found) ⊎ (status ≡ OutOfMemory)
 
+-- a workload in front of replies is run until it ends or a reply is refused, unless memory runs out
+abbrev pub Talks : World → World → Status → Type 0
+Talks old new status =
+    (input : List ℕ) (w : WorkloadView) → old.left ≡ Some input → IsText (workload_part input) w → length (workload_part input) ≤ WORKLOAD_LIMIT
+    → NoReadFailed old new → NoWriteFailed old new → HasTalked status ⊎ (status ≡ OutOfMemory)
+
+-- anything else in front is refused, unless memory runs out
+abbrev pub RefusesFront : World → World → Status → Type 0
+RefusesFront old new status =
+    (input : List ℕ) (bad : Bad) → old.left ≡ Some input → IsInputRefused BadAt (workload_part input) bad
+    → NoReadFailed old new → (status ≡ BadWorkload bad) ⊎ (status ≡ OutOfMemory)
+
 abbrev pub IsComplete : Command → World → World → Status → Type 0
 IsComplete (Run schedule budget user_level) old new status = Takes IsText old new status (HasEnded status) × Refuses BadAt old new status
 IsComplete (Threads budget burst) old new status = Takes IsText old new status (HasEnded status) × Refuses BadAt old new status
@@ -58,6 +71,7 @@ IsComplete (Check rules) old new status = Finds rules old new status
 IsComplete (Vp schedule budget) old new status = Takes IsText old new status (HasEnded status) × Refuses BadAt old new status
 IsComplete (Debug budget) old new status = Debugs old new status
 IsComplete (Explore states user_level give) old new status = Takes IsText old new status (HasExplored status) × Refuses BadAt old new status
+IsComplete (Kernel schedule budget) old new status = Talks old new status × RefusesFront old new status
 
 abbrev pub IsCompleteTo : Option Command → World → World → Status → Type 0
 IsCompleteTo None old new status = ⊤

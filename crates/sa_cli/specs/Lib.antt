@@ -10,6 +10,7 @@ pub mod Debugged
 pub mod Debugging
 pub mod Scripted
 pub mod Exploring
+pub mod Kernel
 pub mod Commands
 pub mod Complete
 pub mod Shared

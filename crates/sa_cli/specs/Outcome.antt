@@ -6,7 +6,7 @@ use Rattle.sa_base.specs.declared.record.Item.{Item}
 use Rattle.sa_base.specs.declared.record.End.{End}
 use Rattle.sa_base.specs.declared.record.End.TheVariants as end
 use Rattle.sa_cli.specs.declared.outcome.Status.{Status}
-use Rattle.sa_cli.specs.declared.outcome.Status.TheVariants.{AllDone, Usage, BadWorkload, Stuck, Budget, ReadFault, WriteFault, OutOfMemory, Migrated, Checked, Broken, BadTrace, Quit, BadScript, Explored}
+use Rattle.sa_cli.specs.declared.outcome.Status.TheVariants.{AllDone, Usage, BadWorkload, Stuck, Budget, ReadFault, WriteFault, OutOfMemory, Migrated, Checked, Broken, BadTrace, Quit, BadScript, Explored, BadReply}
 use Rattle.sa_cli.specs.declared.outcome.Finding.TheVariants as say
 use Rattle.sa_io.specs.declared.input.ReadError.{ReadError}
 use Rattle.sa_io.specs.declared.input.ReadError.TheVariants as read
@@ -37,6 +37,7 @@ code_of (Broken event rule) = 8
 code_of (BadTrace bad) = 9
 code_of Quit = 0
 code_of (BadScript bad) = 10
+code_of (BadReply bad) = 11
 code_of (Explored say.Clear) = 0
 code_of (Explored say.Stuck) = 3
 code_of (Explored say.Open) = 4
@@ -101,7 +102,18 @@ abbrev pub HasExplored : Status → Type 0
 HasExplored (Explored finding) = ⊤
 HasExplored other = ⊥
 
--- the statuses with which nothing is written
+-- the statuses of a session of replies that is over and was written
+abbrev pub HasTalked : Status → Type 0
+HasTalked (BadReply bad) = ⊤
+HasTalked status = HasEnded status
+
+-- the statuses with which there is no workload
+abbrev pub LacksWorkload : Status → Type 0
+LacksWorkload Usage = ⊤
+LacksWorkload (BadWorkload bad) = ⊤
+LacksWorkload other = ⊥
+
+-- the statuses with which a command writes nothing that reads all before it writes
 abbrev pub WritesNothing : Status → Type 0
 WritesNothing Usage = ⊤
 WritesNothing (BadWorkload bad) = ⊤

@@ -6,17 +6,16 @@ use Rattle.std.specs.declared.io.Error.{Error}
 use Rattle.std.specs.Vec.Iter.{into_iter_items}
 use Rattle.std.specs.IoError.{error_kind}
 use Rattle.sa_io.specs.Words.{words_after_name, without_words}
-use Rattle.sa_io.specs.Input.{LosesAtMost}
 use Rattle.sa_command.specs.declared.command.Command.{Command}
 use Rattle.sa_command.specs.Commands.{command_of}
 use Rattle.sa_cli.specs.declared.outcome.Outcome.{Outcome}
 use Rattle.sa_cli.specs.declared.outcome.Ran.TheVariants.{Nothing}
 use Rattle.sa_cli.specs.declared.outcome.Status.{Status}
 use Rattle.sa_cli.specs.declared.outcome.Status.TheVariants.{Usage, OutOfMemory}
-use Rattle.sa_cli.specs.Outcome.{WritesNothing, status_of_no_words}
+use Rattle.sa_cli.specs.Outcome.{status_of_no_words}
 use Rattle.sa_cli.specs.Answers.{World}
 use Rattle.sa_cli.specs.Streams.{Streams}
-use Rattle.sa_cli.specs.Commands.{AnswersTo, CanHaveRun, ReadsNothing, SearchesNothing, most_read}
+use Rattle.sa_cli.specs.Commands.{AnswersTo, CanHaveRun, ReadsNothing, SearchesNothing, WritesNothingBy, Loses}
 use Rattle.sa_cli.specs.Complete.{IsCompleteTo}
 
 -- The outcome is an answer to the command, where the source and the sink were `before` and have become `after`.
@@ -26,14 +25,15 @@ pub record DoesTheCommand {S K : Type 0} (world_of : Streams S K → World) (com
   pub usage : (outcome.status ≡ Usage) ↔ (command ≡ None)
   -- On Usage the source and the sink are what they were.
   pub untouched : outcome.status ≡ Usage → (after.source ≡ before.source) × (after.sink ≡ before.sink)
-  -- The sink is what it was wherever the status says that nothing is written.
-  pub unwritten : WritesNothing outcome.status → after.sink ≡ before.sink
+  -- The sink is what it was wherever the status says that the command writes nothing.
+  pub unwritten : WritesNothingBy command outcome.status → after.sink ≡ before.sink
   -- The source is what it was under a command that reads nothing.
   pub unread : ReadsNothing command → after.source ≡ before.source
   -- What ran is what the command lets run.
   pub ran : CanHaveRun command outcome.ran
-  -- Whatever the answer, the source lost at its front at most one byte more than the limit of the command's input, or none.
-  pub lost : LosesAtMost (most_read command) (world_of before).left (world_of after).left
+  -- Whatever the answer, the source lost bytes at its front alone, or none; but under `kernel`, at most one more than the limit of the
+  -- command's input.
+  pub lost : Loses command (world_of before).left (world_of after).left
   -- Whatever the answer, the count of failed reads did not fall.
   pub reads_counted : (world_of before).reads ≤ (world_of after).reads
   -- Whatever the answer, the count of failed writes did not fall.

@@ -11,6 +11,7 @@ ghost use Rattle.sa_cli.specs.TopCall.{DoesTheCommand, DoesTheProgram, AsksForNo
 use crate::commands::{check_texts, migrate, run_generated, run_text};
 use crate::debug::debug_texts;
 use crate::explore::explore_text;
+use crate::kernel::run_by_replies;
 use crate::outcome::{Outcome, Status};
 use crate::shared::run_shared;
 use crate::vp::run_virtual;
@@ -87,8 +88,9 @@ pub fn run_threads<S: Source, K: Sink, G: Gate, R: Threads + Wait + Sync>(
 }
 
 /// Does the command, which is not `threads`: it runs a workload of the source or a generated one and writes its trace to the
-/// sink, writes a workload of the source anew, judges a trace of the source, debugs a workload of the source by a script, or goes
-/// through every order of turns of a workload of the source, and is told then alone how far that has come. It always returns.
+/// sink, writes a workload of the source anew, judges a trace of the source, debugs a workload of the source by a script, runs
+/// one by the replies of the source, or goes through every order of turns of a workload of the source, and is told then alone how far
+/// that has come. It always returns.
 pub fn run_one<S: Source, K: Sink, P: Progress>(
     alloc: Global,
     command: Option<Command>,
@@ -130,5 +132,8 @@ pub fn run_one<S: Source, K: Sink, P: Progress>(
         ) => Outcome::nothing(explore_text(
             alloc, states, user_level, give, source, sink, progress,
         )),
+        Some(Command::Kernel { schedule, budget }) => {
+            run_by_replies(alloc, schedule, budget, source, sink)
+        }
     }
 }

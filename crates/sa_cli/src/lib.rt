@@ -6,6 +6,7 @@ mod commands;
 mod debug;
 mod explore;
 mod found;
+mod kernel;
 mod outcome;
 mod output;
 mod reading;

@@ -1,5 +1,6 @@
 ghost use Rattle.std.specs.Prelude.{◌≡◌};
 ghost use Rattle.sa_cli.specs.Outcome.{code_of, status_of, status_of_end, status_of_no_words, status_of_unread, status_of_verdict};
+ghost use Rattle.sa_cli.specs.Kernel.{status_of_close, status_of_no_talk};
 ghost use Rattle.sa_cli.specs.declared.outcome.Status.TheVariants.{OutOfMemory};
 
 use sa_base::{Bad, End, Trace, Unread};
@@ -7,6 +8,7 @@ use sa_check::Verdict;
 use sa_io::{NoWords, ReadError};
 use sa_laws::Rule;
 use sa_seat::Closed;
+use sa_session::{Close, NoTalk};
 use std::alloc::AllocError;
 
 /// What a search through every order of turns says of a workload.
@@ -55,6 +57,8 @@ pub enum Status {
     BadScript(Bad),
     /// Every order of turns of the workload was gone through, as far as the states went, and what was found was written.
     Explored(Finding),
+    /// A reply is refused, and all was written. Replies are counted from 1, and 10 is the cause of one that is no step of the machine.
+    BadReply(Bad),
 }
 
 impl From<ReadError> for Status {
@@ -113,6 +117,32 @@ impl From<Verdict> for Status {
     }
 }
 
+impl From<Close> for Status {
+    ghost from_gives = { λ close status. status ≡ status_of_close close };
+
+    fn from(close: Close) -> Self {
+        match close {
+            Close::Ended(end) => Status::from(end),
+            Close::Refused { line, wrong } => Status::BadReply(Bad {
+                line,
+                why: wrong.number(),
+            }),
+        }
+    }
+}
+
+impl From<NoTalk> for Status {
+    ghost from_gives = { λ why status. status ≡ status_of_no_talk why };
+
+    fn from(why: NoTalk) -> Self {
+        match why {
+            NoTalk::Read => Status::ReadFault,
+            NoTalk::Write => Status::WriteFault,
+            NoTalk::OutOfMemory => Status::OutOfMemory,
+        }
+    }
+}
+
 impl From<AllocError> for Status {
     ghost from_gives = { λ _ status. status ≡ OutOfMemory };
 
@@ -138,6 +168,7 @@ impl Status {
             Status::Broken(..) => 8,
             Status::BadTrace(_) => 9,
             Status::BadScript(_) => 10,
+            Status::BadReply(_) => 11,
             Status::Explored(Finding::Clear) => 0,
             Status::Explored(Finding::Stuck) => 3,
             Status::Explored(Finding::Open) => 4,

@@ -1,5 +1,5 @@
 -- The numbers of a command are in their ranges, since their words are.
-use Rattle.std.proofs.Common.{◌≡◌, ℕ, ◌≤◌, Bool, true, false, List, [], ◌∷◌, Option, Some, None, refl, subst, lit≤}
+use Rattle.std.proofs.Common.{◌≡◌, ℕ, Bool, true, false, List, [], ◌∷◌, Option, Some, None, refl, subst, lit≤}
 use Rattle.std.proofs.lemmas.Bool.{leb-true}
 use Rattle.std.specs.Prelude.{IfSome, ⊤, nat_le, ◌&&◌, option_and_then, unwrap_or, codes, is_none, if◌then◌else◌}
 use Rattle.std.specs.Option.{option_map}
@@ -8,7 +8,7 @@ use Rattle.sa_base.specs.declared.limits.TheConstants.{MAX_BURST, MAX_EVENTS, DE
 use Rattle.sa_command.specs.declared.command.ScheduleWord.TheVariants.{RoundRobin}
 use Rattle.sa_base.specs.declared.package.PackageName.TheVariants.{FastThreads}
 use Rattle.sa_command.specs.declared.command.Command.{Command}
-use Rattle.sa_command.specs.declared.command.Command.TheVariants.{Run, Threads, Load, Migrate, Check, Vp, Debug, Explore}
+use Rattle.sa_command.specs.declared.command.Command.TheVariants.{Run, Threads, Load, Migrate, Check, Vp, Debug, Explore, Kernel}
 use Rattle.sa_command.specs.declared.options.Options.{Options}
 use Rattle.sa_command.specs.declared.explore.TheConstants.{DEFAULT_STATES}
 use Rattle.sa_states.specs.declared.TheConstants.{MAX_STATES}
@@ -16,7 +16,7 @@ use Rattle.sa_command.specs.declared.options.Settings.{Settings}
 use Rattle.sa_text.specs.Number.{number_of}
 use Rattle.sa_base.specs.Package.{package_of, rules_word}
 use Rattle.sa_command.specs.Values.{within, number_within, schedule_of, give_of}
-use Rattle.sa_command.specs.Commands.{with_schedule, with_budget, with_burst, with_package, with_states, with_give, with_option, settings_of, nothing_set, set_by, run_options, threads_options, turn_options, budget_option, explore_options, run_of, threads_of, load_of, migrate_of, check_of, vp_of, debug_of, explore_of, named, command_of}
+use Rattle.sa_command.specs.Commands.{with_schedule, with_budget, with_burst, with_package, with_states, with_give, with_option, settings_of, nothing_set, set_by, run_options, threads_options, turn_options, budget_option, explore_options, run_of, threads_of, load_of, migrate_of, check_of, vp_of, debug_of, explore_of, kernel_of, named, command_of}
 use Rattle.sa_command.specs.Ranges.{IsFrom, IsInRange, CommandsAreInRange}
 
 -- what holds of the value, if there is one, holds after a step that keeps it
@@ -159,9 +159,16 @@ explore-range words =
     mapped AreFine IsInRange (λ s. Explore (unwrap_or s.states DEFAULT_STATES) (unwrap_or s.user_level FastThreads) s.give) (set_by explore_options words)
     (set-range explore_options words) (λ s h. states-range s.states h.states)
 
+kernel-range : (words : List (List ℕ)) → IfSome (kernel_of words) IsInRange
+kernel-range words =
+    mapped AreFine IsInRange (λ s. Kernel (unwrap_or s.schedule RoundRobin) (unwrap_or s.budget DEFAULT_BUDGET))
+    (set_by turn_options words) (set-range turn_options words)
+    (λ s h. budget-range s.budget h.budget)
+
 named-range : (name : List ℕ) (words : List (List ℕ)) → IfSome (named name words) IsInRange
 named-range name words =
-    let explores = if bytes_eq name (codes "explore") then explore_of words else None in
+    let kernels = if bytes_eq name (codes "kernel") then kernel_of words else None in
+    let explores = if bytes_eq name (codes "explore") then explore_of words else kernels in
     let debugs = if bytes_eq name (codes "debug") then debug_of words else explores in
     let virtual = if bytes_eq name (codes "vp") then vp_of words else debugs in
     let checks = if bytes_eq name (codes "check") then check_of words else virtual in
@@ -175,7 +182,8 @@ named-range name words =
     (chosen IsInRange (bytes_eq name (codes "check")) (check_of words) virtual (check-range words)
     (chosen IsInRange (bytes_eq name (codes "vp")) (vp_of words) debugs (vp-range words)
     (chosen IsInRange (bytes_eq name (codes "debug")) (debug_of words) explores (debug-range words)
-    (chosen IsInRange (bytes_eq name (codes "explore")) (explore_of words) None (explore-range words) tt)))))))
+    (chosen IsInRange (bytes_eq name (codes "explore")) (explore_of words) kernels (explore-range words)
+    (chosen IsInRange (bytes_eq name (codes "kernel")) (kernel_of words) None (kernel-range words) tt))))))))
 
 command-range : (words : List (List ℕ)) → IfSome (command_of words) IsInRange
 command-range [] = tt

@@ -7,7 +7,7 @@ use Rattle.sa_base.specs.declared.limits.TheConstants.{MAX_BURST, MAX_EVENTS, DE
 use Rattle.sa_command.specs.declared.command.ScheduleWord.TheVariants.{RoundRobin}
 use Rattle.sa_base.specs.declared.package.PackageName.TheVariants.{FastThreads}
 use Rattle.sa_command.specs.declared.command.Command.{Command}
-use Rattle.sa_command.specs.declared.command.Command.TheVariants.{Run, Threads, Load, Migrate, Check, Vp, Debug, Explore}
+use Rattle.sa_command.specs.declared.command.Command.TheVariants.{Run, Threads, Load, Migrate, Check, Vp, Debug, Explore, Kernel}
 use Rattle.sa_command.specs.declared.options.Options.{Options}
 use Rattle.sa_command.specs.declared.options.Settings.{Settings}
 use Rattle.sa_command.specs.declared.options.TheConstants.{NO_OPTIONS}
@@ -79,6 +79,7 @@ set_by taken words = settings_of taken nothing_set words
 --   vp                        --schedule, --budget
 --   debug                     --budget
 --   explore                   --states, --package, --give
+--   kernel                    --schedule, --budget
 abbrev pub run_options : Options
 run_options = record NO_OPTIONS { schedule = true; budget = true; user_level = true }
 
@@ -131,6 +132,10 @@ abbrev pub explore_of : List (List ℕ) → Option Command
 explore_of words =
     option_map (λ s. Explore (unwrap_or s.states DEFAULT_STATES) (unwrap_or s.user_level FastThreads) s.give) (set_by explore_options words)
 
+abbrev pub kernel_of : List (List ℕ) → Option Command
+kernel_of words =
+    option_map (λ s. Kernel (unwrap_or s.schedule RoundRobin) (unwrap_or s.budget DEFAULT_BUDGET)) (set_by turn_options words)
+
 abbrev pub named : List ℕ → List (List ℕ) → Option Command
 named name words =
     if bytes_eq name (codes "run") then run_of words
@@ -140,7 +145,8 @@ named name words =
     else (if bytes_eq name (codes "check") then check_of words
     else (if bytes_eq name (codes "vp") then vp_of words
     else (if bytes_eq name (codes "debug") then debug_of words
-    else (if bytes_eq name (codes "explore") then explore_of words else None)))))))
+    else (if bytes_eq name (codes "explore") then explore_of words
+    else (if bytes_eq name (codes "kernel") then kernel_of words else None))))))))
 
 -- the command of the words after the program's name
 abbrev pub command_of : List (List ℕ) → Option Command

@@ -2,7 +2,7 @@
 use Rattle.std.specs.Prelude.{◌≡◌, ℕ, ◌≤◌, ⊤, List, Some}
 use Rattle.sa_base.specs.declared.limits.TheConstants.{MAX_BURST, MAX_EVENTS}
 use Rattle.sa_command.specs.declared.command.Command.{Command}
-use Rattle.sa_command.specs.declared.command.Command.TheVariants.{Run, Threads, Load, Migrate, Check, Vp, Debug, Explore}
+use Rattle.sa_command.specs.declared.command.Command.TheVariants.{Run, Threads, Load, Migrate, Check, Vp, Debug, Explore, Kernel}
 use Rattle.sa_command.specs.Commands.{command_of}
 use Rattle.sa_states.specs.declared.TheConstants.{MAX_STATES}
 
@@ -21,6 +21,7 @@ IsInRange (Check rules) = ⊤
 IsInRange (Vp schedule budget) = IsFrom 1 MAX_EVENTS budget
 IsInRange (Debug budget) = IsFrom 1 MAX_EVENTS budget
 IsInRange (Explore states user_level give) = IsFrom 1 MAX_STATES states
+IsInRange (Kernel schedule budget) = IsFrom 1 MAX_EVENTS budget
 
 abbrev pub CommandsAreInRange : Type 0
 CommandsAreInRange = (words : List (List ℕ)) (command : Command) → command_of words ≡ Some command → IsInRange command

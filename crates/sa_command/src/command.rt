@@ -68,4 +68,10 @@ pub enum Command {
         user_level: PackageName,
         give: Option<GiveWord>,
     },
+    /// Runs the workload of standard input, step by step as the replies that follow it say, for at most that many events, 1 to
+    /// 1,000,000.
+    Kernel {
+        schedule: ScheduleWord,
+        budget: u64,
+    },
 }

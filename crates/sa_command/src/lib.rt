@@ -5,6 +5,7 @@ mod check;
 mod command;
 mod debug;
 mod explore;
+mod kernel;
 pub mod laws;
 mod options;
 mod read;

@@ -5,6 +5,7 @@ use crate::check::read_check;
 use crate::command::{Command, ScheduleWord};
 use crate::debug::read_debug;
 use crate::explore::read_explore;
+use crate::kernel::read_kernel;
 use crate::options::{NO_OPTIONS, Options, read_options};
 use crate::threads::read_threads;
 use crate::value::read_within;
@@ -56,6 +57,9 @@ fn read_named(name: &str, words: &[String]) -> Option<Command>
     }
     if name == "explore" {
         return read_explore(words);
+    }
+    if name == "kernel" {
+        return read_kernel(words);
     }
     None
 }

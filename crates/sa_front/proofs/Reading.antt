@@ -1,11 +1,11 @@
 -- What was read in front of the lines, at each end of the loop.
-use Rattle.std.proofs.Common.{◌≡◌, ℕ, ◌+◌, ◌<◌, ◌≤◌, List, [], ◌++◌, length, take, drop, Option, Some, None, refl, sym, ap, ◌∙◌, subst, inl, inr, arith, append_assoc, append-nil, take-append-drop, length-append}
+use Rattle.std.proofs.Common.{◌≡◌, ℕ, ◌+◌, ◌<◌, ◌≤◌, List, [], ◌++◌, length, take, drop, Option, Some, refl, sym, ap, ◌∙◌, subst, inl, inr, arith, append_assoc, append-nil, take-append-drop, length-append}
 use Rattle.std.proofs.lemmas.List.{length-take}
 use Rattle.std.proofs.KnownBytes.{Consumes-trans}
 use Rattle.std.specs.Prelude.{IfSome, ◌↔◌}
 use Rattle.std.specs.Io.KnownBytes.{Consumes}
 use Rattle.sa_lines_in.proofs.Filling.{at-end, still-told}
-use Rattle.sa_front.specs.Front.{IsOpen, IsClosed, TakesPiece, ReadsFront}
+use Rattle.sa_front.specs.Front.{IsOpen, TakesPiece, ReadsFront}
 
 -- the source is at its end
 pub read-nothing : (limit : ℕ) (before at after : Option (List ℕ)) (text line piece shown kept : List ℕ) (n : ℕ) → shown ≡ text → kept ≡ []

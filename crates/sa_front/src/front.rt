@@ -2,6 +2,7 @@
 ghost use Rattle.std.specs.Prelude.{◌≡◌, ◌+◌, ◌≤◌, ◌++◌, [], length, drop, codes, IfOk, IsErrOf};
 ghost use Rattle.std.specs.Str.{bytes_eq};
 ghost use Rattle.sa_io.specs.Faults.{HasRisen};
+ghost use Rattle.sa_io.specs.Input.{LosesAtMost};
 ghost use Rattle.sa_front.specs.Front.{ReadsFront, TakesPiece, IsOpen};
 
 use sa_io::{PIECE, ReadError, Source};
@@ -18,7 +19,8 @@ pub struct Front {
 }
 
 /// Reads the source through its first line that is `close`, or to its end, or until one byte more than the limit was got. No read
-/// is made once that line has come, and what came too much is kept for the lines.
+/// is made once that line has come, and what came too much is kept for the lines. Whatever it answers, the source has lost the bytes
+/// that were got, and no others: at most one more than the limit.
 pub fn read_front<S: Source>(
     alloc: Global,
     limit: usize,
@@ -27,6 +29,7 @@ pub fn read_front<S: Source>(
     ensures front { IfOk result (λ front.
         ReadsFront limit (S.left source.old) (S.left source.new) front.text.items front.lines) }
     ensures fault { IsErrOf result ReadError.Fault → HasRisen (S.faults source.old) (S.faults source.new) }
+    ensures lost { LosesAtMost (limit + 1) (S.left source.old) (S.left source.new) }
     ensures counted { S.faults source.old ≤ S.faults source.new }
 {
     let mut text = Vec::new(alloc);

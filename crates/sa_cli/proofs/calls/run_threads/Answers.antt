@@ -17,4 +17,4 @@ run_shared-requires-clause-few_burst g c κs within = c.requires.1.most
 pub returns : goal.returns
 returns g c =
     let said = c.run_shared.ensures in
-    does (Threads c.args.limits.budget c.args.limits.burst) said.shared (λ load. absurd load) said.uses said.answers
+    does (Threads c.args.limits.budget c.args.limits.burst) tt said.shared (λ load. absurd load) said.uses said.answers
