@@ -1,29 +1,21 @@
 -- What an event does to a session, case by case.
-use Rattle.std.proofs.Common.{◌≡◌, ℕ, ◌+◌, ◌<◌, List, [], ◌∷◌, ◌++◌, length, take, Option, Some, None, refl, sym, ap, ◌∙◌, subst, append_assoc, append-nil, arith}
+use Rattle.std.proofs.Common.{◌≡◌, ℕ, ◌+◌, ◌<◌, List, [], ◌∷◌, ◌++◌, Option, Some, None, refl, sym, ap, ◌∙◌, subst, append-nil, arith}
 use Rattle.std.proofs.KnownBytes.{Appends-nil}
-use Rattle.std.specs.Prelude.{Result, Ok, Err, IsSome}
-use Rattle.std.specs.Io.KnownBytes.{Appends, IsAtEnd}
 use Rattle.sa_base.specs.declared.limits.TheConstants.{MAX_EVENTS}
 use Rattle.sa_base.specs.declared.number.ProcNo.{ProcNo}
-use Rattle.sa_base.specs.declared.refusal.Cause.{Cause}
-use Rattle.sa_base.specs.declared.refusal.Cause.TheVariants.{Missing}
 use Rattle.sa_io.specs.Faults.{AppendsPrefix}
 use Rattle.sa_io.specs.Pieces.{GoesOut}
 use Rattle.sa_io.proofs.PieceLemmas.{prefix-behind}
-use Rattle.sa_lines_in.specs.Line.{line_len}
-use Rattle.sa_lines_in.specs.Reading.{ReadsLine, LacksLine}
-use Rattle.sa_core_model.specs.Run.{IsTurn, CanTurn}
+use Rattle.sa_lines_in.specs.Reading.{ReadsLine}
+use Rattle.sa_core_model.specs.Run.{IsTurn}
 use Rattle.sa_asked.specs.declared.question.Question.{Question}
 use Rattle.sa_asked.specs.Questions.{question}
 use Rattle.sa_driven_model.specs.Step.{driven_calls}
-use Rattle.sa_session.specs.declared.wrong.Wrong.{Wrong}
-use Rattle.sa_session.specs.declared.wrong.Wrong.TheVariants.{Bad}
 use Rattle.sa_session.specs.Machines.{DrivenMachine}
 use Rattle.sa_session.specs.Exchange.{ExchangeView, Hears}
 use Rattle.sa_session.specs.Text.{ask_text}
-use Rattle.sa_session.specs.Answer.{answer, answer_in, answer_by, Puts}
-use Rattle.sa_session.specs.Moments.{IsAnswered}
-use Rattle.sa_session.specs.Events.{Makes, Refuses, IsLost}
+use Rattle.sa_session.specs.Answer.{Puts}
+use Rattle.sa_session.specs.Events.{Makes, IsLost}
 use Rattle.sa_session.proofs.Lines.{hears-none, hears-got, hears-line}
 use Rattle.sa_session.proofs.Puts.{put-workload, put-event}
 

@@ -1,10 +1,9 @@
 -- A session goes on by one event more, or is over.
-use Rattle.std.proofs.Common.{◌≡◌, ℕ, suc, ◌+◌, ◌≤◌, List, [], ◌∷◌, ◌++◌, length, take, drop, Option, Some, None, refl, sym, ap, ◌∙◌, subst, append_assoc, append-nil, add-one, arith}
-use Rattle.std.proofs.lemmas.List.{take-append-le, take_all, drop_all}
+use Rattle.std.proofs.Common.{◌≡◌, ℕ, suc, ◌+◌, ◌≤◌, List, [], ◌∷◌, ◌++◌, length, take, Option, Some, None, refl, sym, ap, ◌∙◌, subst, append_assoc, append-nil, add-one, arith}
+use Rattle.std.proofs.lemmas.List.{drop_all}
 use Rattle.std.proofs.lemmas.List.{length-append}
 use Rattle.std.proofs.KnownBytes.{Appends-nil}
-use Rattle.std.specs.Prelude.{IsSome, Err}
-use Rattle.std.specs.Io.KnownBytes.{Appends, IsAtEnd}
+use Rattle.std.specs.Io.KnownBytes.{Appends}
 use Rattle.sa_base.specs.declared.number.ProcNo.{ProcNo}
 use Rattle.sa_base.specs.declared.record.Item.{Item}
 use Rattle.sa_spaces.specs.Workload.{WorkloadView, IsWorkload}
@@ -25,7 +24,7 @@ use Rattle.sa_core_model.specs.Run.{opening}
 use Rattle.sa_driven_model.specs.declared.context.DrivenContext.{DrivenContext}
 use Rattle.sa_driven_model.specs.declared.space.DrivenSpace.{DrivenSpace}
 use Rattle.sa_driven_model.specs.Step.{driven_calls}
-use Rattle.sa_replies.specs.Telling.{Telling, opened, told_through, items_text}
+use Rattle.sa_replies.specs.Telling.{opened, told_through, items_text}
 use Rattle.sa_session.specs.Machines.{DrivenMachine, proc_after}
 use Rattle.sa_session.specs.Exchange.{ExchangeView, Hears}
 use Rattle.sa_session.specs.Text.{ask_text, text_from}
@@ -34,10 +33,9 @@ use Rattle.sa_session.specs.Answer.{answer_in}
 use Rattle.sa_asked.specs.Questions.{question}
 use Rattle.sa_session.specs.Views.{SessionView, Follows, HasToldAll}
 use Rattle.sa_session.specs.Events.{Makes, Refuses, IsLost}
-use Rattle.sa_session.specs.declared.conversation.Close.{Close}
 use Rattle.sa_session.specs.declared.conversation.Close.TheVariants.{Ended, Refused}
 use Rattle.sa_session.specs.declared.wrong.Wrong.{Wrong}
-use Rattle.sa_session.specs.Over.{said_at, EndsAt, IsRefused, IsClosed, CameSoFar}
+use Rattle.sa_session.specs.Over.{said_at, IsClosed, CameSoFar}
 use Rattle.sa_session.proofs.Lines.{hears-on, hears-none}
 use Rattle.sa_session.proofs.Sessions.{reached-plays, adds-event}
 

@@ -1,16 +1,15 @@
 -- The bytes with which a line begins, and how what is read adds up.
-use Rattle.std.proofs.Common.{◌≡◌, ℕ, suc, ◌+◌, ◌≤◌, List, [], ◌∷◌, ◌++◌, length, take, drop, Bool, true, false, Option, refl, sym, ap, ◌∙◌, subst, append_assoc, append-nil, arith}
+use Rattle.std.proofs.Common.{◌≡◌, ℕ, suc, ◌+◌, List, [], ◌∷◌, ◌++◌, length, take, drop, Bool, true, false, Option, refl, sym, ap, ◌∙◌, append_assoc, append-nil, arith}
 use Rattle.std.proofs.lemmas.Bool.Decides.{nat_tests}
 use Rattle.std.proofs.lemmas.Grind.{flat_map-append}
 use Rattle.std.proofs.KnownBytes.{Consumes-nil, Consumes-trans}
-use Rattle.std.specs.Prelude.{◌==◌, ◌&&◌, nat_le, Result, Ok, Err, if◌then◌else◌}
+use Rattle.std.specs.Prelude.{◌==◌, ◌&&◌, nat_le, Ok, Err, if◌then◌else◌}
 use Rattle.std.specs.Io.KnownBytes.{Consumes}
-use Rattle.sa_base.specs.declared.refusal.Cause.{Cause}
-use Rattle.sa_base.specs.declared.refusal.Cause.TheVariants.{NotAscii, TooMany, Missing}
+use Rattle.sa_base.specs.declared.refusal.Cause.TheVariants.{NotAscii, TooMany}
 use Rattle.sa_lemmas.proofs.Results.{same-ok}
 use Rattle.sa_lines_in.specs.declared.line.TheConstants.{LINE_LIMIT}
 use Rattle.sa_lines_in.specs.Line.{line_len, len_from}
-use Rattle.sa_lines_in.specs.Reading.{ReadsLine, LacksLine}
+use Rattle.sa_lines_in.specs.Reading.{ReadsLine}
 use Rattle.sa_session.specs.Exchange.{lines_text, Hears}
 
 -- some bytes begin with a line of this length, of which this many came before

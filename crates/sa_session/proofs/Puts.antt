@@ -1,17 +1,16 @@
 -- A reply ends no run, and adds no item.
-use Rattle.std.proofs.Common.{◌≡◌, ℕ, zero, suc, ◌==◌, Bool, ◌&&◌, not, if◌then◌else◌, Option, Some, None, List, [], ◌∷◌, length, refl, sym, ap, ◌∙◌, subst}
+use Rattle.std.proofs.Common.{◌≡◌, ℕ, zero, suc, ◌==◌, Bool, ◌&&◌, not, if◌then◌else◌, Option, Some, None, List, [], ◌∷◌, length, refl, sym, ap, ◌∙◌}
 use Rattle.std.proofs.Math.Path.{fun_ext}
 use Rattle.std.specs.Prelude.{slice_get, slice_set, is_some}
 use Rattle.std.specs.List.{list_all}
-use Rattle.std.proofs.lemmas.Option.{same_Some, none-some}
+use Rattle.std.proofs.lemmas.Option.{same_Some}
 use Rattle.sa_base.specs.declared.number.SpaceNo.{SpaceNo}
-use Rattle.sa_base.specs.declared.record.End.{End}
 use Rattle.sa_base.specs.declared.record.End.TheVariants.{AllDone, Stuck, Budget}
 use Rattle.sa_assign.specs.Aims.{least_below}
 use Rattle.sa_kernel_model.specs.State.{owner_of}
 use Rattle.sa_kernel_model.specs.Seen.{is_quiet}
 use Rattle.sa_assign.specs.Reaim.{proc_no}
-use Rattle.sa_core_model.specs.Machine.{Machine, user_of, context_on}
+use Rattle.sa_core_model.specs.Machine.{user_of, context_on}
 use Rattle.sa_core_model.specs.End.{is_done, is_inactive, owes_by, owes_in, is_inside, is_any_inside, all_done, is_stuck, end_of}
 use Rattle.sa_asked.specs.Questions.{put_by, put_reply, with_user}
 use Rattle.sa_driven.specs.Replies.{driven_replies}

@@ -30,7 +30,7 @@ use Rattle.sa_driven_model.specs.Step.{driven_calls}
 use Rattle.sa_driven_laws.proofs.DrivenLaws.{driven_level}
 use Rattle.sa_driven_runs.specs.Sessions.{DrivenMoves, IsSessionFrom}
 use Rattle.sa_driven_runs.proofs.Alike.{driven-alike}
-use Rattle.sa_session_runs.specs.Sessions.{SessionMove, NotEnded, moves_of}
+use Rattle.sa_session_runs.specs.Sessions.{NotEnded, moves_of}
 use Rattle.sa_session_runs.specs.Sessions.SessionMove.{does, puts}
 use Rattle.sa_session_runs.proofs.Asked.{question-of}
 use Rattle.sa_session_runs.proofs.Growing.{session-push, not-ended-push, moves-push}
@@ -42,7 +42,6 @@ use Rattle.sa_package_runs.proofs.Leading.{turns_by, are-turns, many-processors,
 use Rattle.sa_package_runs.proofs.Playable.{events-play}
 use Rattle.sa_package_runs.proofs.Reaching.{turn-goes}
 use Rattle.sa_session.specs.Machines.{DrivenMachine, proc_after}
-use Rattle.sa_session.specs.Answer.{Puts}
 use Rattle.sa_session.specs.Moments.{Moment, IsAnswered, IsEvent, GoesOn, Reaches}
 use Rattle.sa_session.proofs.Puts.{put-end}
 

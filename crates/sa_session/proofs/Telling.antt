@@ -3,9 +3,7 @@ use Rattle.std.proofs.Common.{◌≡◌, ℕ, zero, suc, ◌+◌, ◌<◌, List,
 use Rattle.sa_base.specs.declared.record.Item.{Item}
 use Rattle.sa_spaces.specs.Workload.{WorkloadView}
 use Rattle.sa_laws.specs.State.{State, opening_state}
-use Rattle.sa_laws.specs.Machine.{changed}
 use Rattle.sa_replay.specs.Needs.{CanChange}
-use Rattle.sa_replay.specs.Replayed.{Replayed}
 use Rattle.sa_debug.specs.Reached.{CanPlay}
 use Rattle.sa_debug.specs.Views.{state_behind}
 use Rattle.sa_debug.proofs.Playing.{can-next}

@@ -1,3 +1,4 @@
+// The conversation of a session: each event, and what is said and heard between events.
 ghost use Rattle.std.specs.Prelude.{◌≡◌, ◌≤◌, ◌<◌, None, [], IfOk, IfErr, OnErr};
 ghost use Rattle.sa_base.specs.declared.limits.TheConstants.{MAX_EVENTS};
 ghost use Rattle.sa_core.specs.View.{machine};

@@ -1,10 +1,9 @@
 // The machine of a session, with what was told of its trace.
-ghost use Rattle.std.specs.Prelude.{◌≡◌, ◌≤◌, ◌<◌, ◌+◌, ◌++◌, Some, None, length, IfOk, IfErr, OnOk, OnErr};
+ghost use Rattle.std.specs.Prelude.{◌≡◌, ◌≤◌, ◌<◌, ◌+◌, ◌++◌, Some, None, IfOk, IfErr, OnOk, OnErr};
 ghost use Rattle.sa_base.specs.declared.limits.TheConstants.{MAX_EVENTS};
 ghost use Rattle.sa_laws.specs.State.{opening_state};
 ghost use Rattle.sa_debug.specs.Reached.{CanPlay};
-ghost use Rattle.sa_replies.specs.Telling.{opened, told_through};
-ghost use Rattle.sa_replies.specs.Texts.{question_text};
+ghost use Rattle.sa_replies.specs.Telling.{opened};
 ghost use Rattle.sa_asked.specs.Questions.{question};
 ghost use Rattle.sa_core.specs.View.{machine};
 ghost use Rattle.sa_core_model.specs.End.{end_of};

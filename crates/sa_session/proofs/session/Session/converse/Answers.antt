@@ -1,18 +1,15 @@
-use Rattle.std.proofs.Common.{rules, arith, ◌≡◌, ℕ, ◌+◌, ◌<◌, ◌≤◌, Some, None, List, [], take, length, refl, sym, ap, ◌∙◌, subst}
-use Rattle.sa_base.specs.declared.record.Item.{Item}
+use Rattle.std.proofs.Common.{rules, arith, ◌≡◌, ℕ, ◌+◌, Some, None, take, refl, sym, ap, ◌∙◌, subst}
 use Rattle.sa_lemmas.proofs.Results.{on_err}
 use Rattle.sa_sched.specs.Kind.{order_of}
 use Rattle.sa_sched.specs.Turns.{Turns, start, turned_often}
 use Rattle.sa_core.specs.View.{CoreView, machine}
 use Rattle.sa_core.proofs.CoreLemmas.{goes-on}
 use Rattle.sa_core_model.specs.End.{end_of}
-use Rattle.sa_core_model.specs.Run.{opening}
 use Rattle.sa_driven_model.specs.declared.context.DrivenContext.{DrivenContext}
 use Rattle.sa_driven_model.specs.declared.space.DrivenSpace.{DrivenSpace}
 use Rattle.sa_driven_model.specs.Step.{driven_calls}
 use Rattle.sa_replies.specs.Telling.{opened, told_through}
 use Rattle.sa_session.specs.declared.conversation.Went.{Went}
-use Rattle.sa_session.specs.declared.conversation.Went.TheVariants.{Alone, Answered, Refused}
 use Rattle.sa_session.specs.Machines.{DrivenMachine, proc_after}
 use Rattle.sa_session.specs.Exchange.{ExchangeView}
 use Rattle.sa_session.specs.Events.{Makes, Refuses, Goes}

@@ -1,4 +1,4 @@
-use Rattle.std.proofs.Common.{◌≡◌, ℕ, List, [], ◌++◌, None, Some, refl, sym, ap, ◌∙◌, subst}
+use Rattle.std.proofs.Common.{◌≡◌, ℕ, List, [], ◌++◌, Some, refl, sym, ap, ◌∙◌, subst}
 use Rattle.sa_lemmas.proofs.Results.{on_err}
 use Rattle.sa_core.specs.View.{machine}
 use Rattle.sa_core_model.specs.End.{end_of}

@@ -1,8 +1,5 @@
-use Rattle.std.proofs.Common.{◌≡◌, ◌<◌, List, length, sym, ap, ◌∙◌, subst, arith}
-use Rattle.sa_base.specs.declared.record.Item.{Item}
-use Rattle.sa_laws.specs.State.{opening_state}
+use Rattle.std.proofs.Common.{◌≡◌, ◌<◌, length, ap, ◌∙◌, arith}
 use Rattle.sa_core.specs.View.{CoreView, machine}
-use Rattle.sa_debug.specs.Reached.{CanPlay}
 use Rattle.sa_driven_model.specs.declared.context.DrivenContext.{DrivenContext}
 use Rattle.sa_driven_model.specs.declared.space.DrivenSpace.{DrivenSpace}
 use Rattle.sa_session.proofs.Telling.{tells-next, told-next, text-told}
