@@ -109,7 +109,9 @@ impl LineReader {
         line
     }
 
-    // Reads once, and answers how many bytes came, which are behind what is kept.
+    // Reads once, and answers how many bytes came, which are behind what is kept. Its pieces are cleared: so it is a function of its own,
+    // and a line that is whole costs none of that.
+    #[inline(never)]
     fn fill<S: Source>(&mut self, source: &mut S) -> Result<usize, Failed>
         requires { length self.old ≤ LINE_LIMIT }
         ensures ok { IfOk result (λ n. FillsBy self.old self.new (S.left source.old) (S.left source.new) n) }
