@@ -167,9 +167,10 @@ module _ (schedule : ScheduleWord) (budget : ℕ) (old new : World) where
       over-by x close writes status reached closes more (inr cut) =
           let line = last_line_of x.machine.items (end_of_close close) x.machine.event in
           let risen : HasRisen writes new.writes = cut.1 in
-          subst (λ (s : Status). AnswersKernel schedule budget old new x.machine.items s) (sym cut.0)
-          (omega (arith, more, risen),
-          cut-answers x.machine.items close (over-so (TookSome old new) x close reached closes (λ said. part-joins line said cut.2)))
+          subst (λ (s : Status). AnswersKernel schedule budget old new x.machine.items s) (sym cut.0) (
+            omega (arith, more, risen),
+            cut-answers x.machine.items close (over-so (TookSome old new) x close reached closes (λ said. part-joins line said cut.2)),
+          )
 
       over-whole : (over : Over) (ran : Ran) (writes : ℕ) (status : Status) → ran ≡ Plain over.trace → old.writes ≤ writes
           → IsOver w (order_by schedule w) budget kept at new.left old.taken mid over
