@@ -4,7 +4,8 @@ pub mod Slices
 pub mod Words
 pub mod Json
 pub mod Events
-pub mod Passing
+pub mod Touches
+pub mod Along
 pub mod Arrows
 pub mod Whole
 pub mod Laws

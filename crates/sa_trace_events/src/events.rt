@@ -1,20 +1,22 @@
 // The text of the trace events: the slices of every track, the marks, and the arrows.
-ghost use Rattle.std.specs.Prelude.{◌≡◌, ◌++◌, OnOk};
-ghost use Rattle.std.specs.List.{flat_map};
-ghost use Rattle.sa_svg.specs.Titles.{part};
-ghost use Rattle.sa_trace_events.specs.Events.{names_thread, concerns, line_if, rest_text, lines_text, slice_text, track_text, titled_track, has_mark, mark_text, notice_of, told_arrow};
+ghost use Rattle.std.specs.Prelude.{◌≡◌, ◌<◌, [], ◌++◌, OnOk, length};
+ghost use Rattle.sa_trace_events.specs.Along.{slice_by, closed_text, text_unless, lines_after, text_from};
+ghost use Rattle.sa_trace_events.specs.Events.{names_thread, concerns, line_if, track_text, titled_track, has_mark, mark_text, notice_of, told_arrow};
+ghost use Rattle.sa_trace_events.specs.Slices.{after, slice_begun, slice_goes_on, going_by};
+ghost use Rattle.sa_trace_events.specs.Touches.{group_of, number_of, IsIndexOf};
 
 use crate::json::{push_arrow, push_quoted, push_slice_head, push_slice_times, push_titled};
-use crate::slices::{Slice, Span, push_slices};
+use crate::slices::{Going, Slice, Span};
 use crate::state::{is_thread, is_thread_of};
+use crate::touches::{Index, Touch};
 use crate::track::{Level, Track};
 use crate::words::{category, push_state_name, push_track_name};
 use sa_base::{Item, Note, Record, SpaceNo, ThreadNo};
 use sa_trace::append_record;
 use std::alloc::{AllocError, Global};
 
-/// The record names the thread.
-pub(crate) fn names_thread(s: SpaceNo, t: ThreadNo, what: &Record) -> bool
+// The record names the thread.
+fn names_thread(s: SpaceNo, t: ThreadNo, what: &Record) -> bool
     ensures { result ≡ names_thread s t what.now }
 {
     match *what {
@@ -40,14 +42,6 @@ fn concerns(track: Track, item: &Item) -> bool
     }
 }
 
-// The items from one index to another.
-fn part(items: &[Item], first: usize, last: usize) -> &[Item]
-    ensures { result.now ≡ part items.now first last }
-{
-    let rest = &items[first.min(items.len())..];
-    &rest[..last.saturating_sub(first).min(rest.len())]
-}
-
 fn push_line_if(out: &mut Vec<u8>, track: Track, item: &Item) -> Result<(), AllocError>
     ensures { OnOk result (out.new.items ≡ out.old.items ++ line_if track item.now) }
 {
@@ -58,30 +52,10 @@ fn push_line_if(out: &mut Vec<u8>, track: Track, item: &Item) -> Result<(), Allo
     Ok(())
 }
 
-fn push_rest(out: &mut Vec<u8>, track: Track, items: &[Item]) -> Result<(), AllocError>
-    ensures { OnOk result (out.new.items ≡ out.old.items ++ rest_text track items.now) }
-{
-    for item in items {
-        push_line_if(out, track, item)?;
-    }
-    Ok(())
-}
-
-fn push_lines(out: &mut Vec<u8>, track: Track, items: &[Item]) -> Result<(), AllocError>
-    ensures { OnOk result (out.new.items ≡ out.old.items ++ lines_text track items.now) }
-{
-    match items {
-        [] => Ok(()),
-        [first, rest @ ..] => {
-            push_quoted(out, first)?;
-            push_rest(out, track, rest)
-        }
-    }
-}
-
-#[tactic(auto, unfolding(crate::specs::Events::slice_text))]
-fn push_slice(out: &mut Vec<u8>, items: &[Item], slice: &Slice) -> Result<(), AllocError>
-    ensures { OnOk result (out.new.items ≡ out.old.items ++ slice_text items.now slice.now) }
+// Appends the record of a slice that has these lines.
+#[tactic(auto, unfolding(crate::specs::Along::slice_by))]
+fn push_slice(out: &mut Vec<u8>, slice: &Slice, lines: &[u8]) -> Result<(), AllocError>
+    ensures { OnOk result (out.new.items ≡ out.old.items ++ slice_by slice.now lines.now) }
 {
     push_slice_head(out, category(slice.track))?;
     push_state_name(out, slice.track, &slice.shown)?;
@@ -92,32 +66,113 @@ fn push_slice(out: &mut Vec<u8>, items: &[Item], slice: &Slice) -> Result<(), Al
         slice.from,
         slice.to,
     )?;
-    push_lines(out, slice.track, part(items, slice.first, slice.last))?;
+    out.extend_from_slice(lines)?;
     out.extend_from_slice(b"]}}")
 }
 
-fn push_each(out: &mut Vec<u8>, items: &[Item], slices: &[Slice]) -> Result<(), AllocError>
-    ensures { OnOk result (out.new.items ≡ out.old.items ++ flat_map (slice_text items.now) slices.now) }
+// Appends the slice, which ends before this event and index, unless it has no event or shows nothing.
+fn push_closed(
+    out: &mut Vec<u8>,
+    track: Track,
+    going: Going,
+    to: u64,
+    last: usize,
+    lines: &[u8],
+) -> Result<(), AllocError>
+    ensures { OnOk result (out.new.items ≡ out.old.items ++ closed_text track going to last lines.now) }
 {
-    for slice in slices {
-        push_slice(out, items, slice)?;
+    if going.from < to && track.is_shown(going.shown) {
+        let slice = Slice {
+            track,
+            from: going.from,
+            to,
+            shown: going.shown,
+            first: going.first,
+            last,
+        };
+        return push_slice(out, &slice, lines);
     }
     Ok(())
 }
 
-/// Appends the slices of a track.
+// Adds the line of the item, if the track goes on to show the same; else the slice ends, and another one begins with the item.
+fn push_line(
+    out: &mut Vec<u8>,
+    lines: &mut Vec<u8>,
+    same: bool,
+    track: Track,
+    going: Going,
+    touch: &Touch,
+) -> Result<(), AllocError>
+    ensures text { OnOk result (out.new.items ≡ out.old.items ++ text_unless same track going touch.now lines.old.items) }
+    ensures lines { OnOk result (lines.new.items ≡ lines_after same track touch.now.item lines.old.items) }
+{
+    if same {
+        return push_line_if(lines, track, &touch.item);
+    }
+    push_closed(out, track, going, touch.clock, touch.at, lines)?;
+    lines.clear();
+    push_quoted(lines, &touch.item)
+}
+
+// Goes over an item that may change the track.
+fn push_step(
+    out: &mut Vec<u8>,
+    lines: &mut Vec<u8>,
+    going: &mut Going,
+    track: Track,
+    touch: &Touch,
+) -> Result<(), AllocError>
+    ensures text { OnOk result (out.new.items ≡ out.old.items
+        ++ text_unless (slice_goes_on track going.old touch.now.item) track going.old touch.now lines.old.items) }
+    ensures lines { OnOk result (lines.new.items
+        ≡ lines_after (slice_goes_on track going.old touch.now.item) track touch.now.item lines.old.items) }
+    ensures going { OnOk result (going.new ≡ going_by (slice_goes_on track going.old touch.now.item) going.old
+        (after track going.old.state touch.now.item) touch.now.clock touch.now.at) }
+{
+    let next = track.after(going.state, &touch.item);
+    let same = track.is_same(going.shown, next);
+    push_line(out, lines, same, track, *going, touch)?;
+    *going = going.moved(same, next, touch.clock, touch.at);
+    Ok(())
+}
+
+// Appends the slices of the track, which shows what it shows after all these items up to the event.
+fn push_along(
+    out: &mut Vec<u8>,
+    alloc: Global,
+    begin: u64,
+    end: u64,
+    len: usize,
+    track: Track,
+    touches: &[Touch],
+) -> Result<(), AllocError>
+    ensures { OnOk result (out.new.items ≡ out.old.items ++ text_from track end len (slice_begun track begin) [] touches.now) }
+{
+    let mut going = Going::slice_begun(track, begin);
+    let mut lines = Vec::new(alloc);
+    for touch in touches {
+        push_step(out, &mut lines, &mut going, track, touch)?;
+    }
+    push_closed(out, track, going, end, len, &lines)
+}
+
+/// Appends the slices of a track, of which the items that may change it were found.
 pub(crate) fn push_track(
     out: &mut Vec<u8>,
     alloc: Global,
     span: Span,
     items: &[Item],
+    index: &Index,
     track: Track,
 ) -> Result<(), AllocError>
+    requires index { IsIndexOf (group_of track) span.begin items.now index.now }
+    requires number { number_of track < length index.now.lists.items }
     ensures { OnOk result (out.new.items ≡ out.old.items ++ track_text span items.now track) }
 {
-    let mut slices = Vec::new(alloc);
-    push_slices(&mut slices, track, span, items)?;
-    push_each(out, items, &slices)
+    let end = index.clock.max(span.end);
+    let touches = index.at(track.number());
+    push_along(out, alloc, span.begin, end, items.len(), track, touches)
 }
 
 /// Appends the slices of a track behind its name.
@@ -126,14 +181,17 @@ pub(crate) fn push_titled_track(
     alloc: Global,
     span: Span,
     items: &[Item],
+    index: &Index,
     track: Track,
 ) -> Result<(), AllocError>
+    requires index { IsIndexOf (group_of track) span.begin items.now index.now }
+    requires number { number_of track < length index.now.lists.items }
     ensures { OnOk result (out.new.items ≡ out.old.items ++ titled_track span items.now track) }
 {
     let mut name = Vec::new(alloc);
     push_track_name(&mut name, track)?;
     push_titled(out, b"thread", track.pid(), track.tid(), &name, track.tid())?;
-    push_track(out, alloc, span, items, track)
+    push_track(out, alloc, span, items, index, track)
 }
 
 // The record has a mark: each but an instruction, an aim, a new owner, a number that is given back, a look in vain, and a turn of nobody.

@@ -7,6 +7,7 @@ mod json;
 pub mod laws;
 mod slices;
 mod state;
+mod touches;
 mod track;
 mod whole;
 mod words;

@@ -1,14 +1,11 @@
 // The slices of a track.
-ghost use Rattle.std.specs.Prelude.{◌≡◌, ◌++◌, OnOk};
-ghost use Rattle.sa_trace_events.specs.Slices.{level_of, shown_context, is_work, shown_doing, shown_holder, start, after, same_state, is_shown, is_block, is_free, is_lock, is_over_after, since, slice_begun, going_by, closed, closed_unless, slice_goes_on, clock_at, slices};
-ghost use Rattle.sa_trace_events.specs.Passing.{passes};
+ghost use Rattle.std.specs.Prelude.{◌≡◌};
+ghost use Rattle.sa_trace_events.specs.Slices.{level_of, shown_context, is_work, shown_doing, shown_holder, start, after, same_state, is_shown, is_block, is_free, slice_begun, going_by};
 
-use crate::events::names_thread;
 use crate::state::{Context, Doing, Holder, Tally};
 use crate::track::{Level, Track};
 use sa_base::{Item, Record};
 use sa_shapes::{Look, MAX_LANES};
-use std::alloc::AllocError;
 
 /// What a track shows, and what it needs to go on.
 #[derive(Clone, Copy)]
@@ -129,8 +126,8 @@ impl Track {
         }
     }
 
-    // The state after an item.
-    fn after(self, state: State, item: &Item) -> State
+    /// The state after an item.
+    pub(crate) fn after(self, state: State, item: &Item) -> State
         ensures { result ≡ after self state item.now }
     {
         match (self, state) {
@@ -150,8 +147,8 @@ impl Track {
         }
     }
 
-    // Both states show the same.
-    fn is_same(self, a: State, b: State) -> bool
+    /// Both states show the same.
+    pub(crate) fn is_same(self, a: State, b: State) -> bool
         ensures { result ≡ same_state self a b }
     {
         match (a, b) {
@@ -163,8 +160,8 @@ impl Track {
         }
     }
 
-    // The state shows something.
-    fn is_shown(self, state: State) -> bool
+    /// The state shows something.
+    pub(crate) fn is_shown(self, state: State) -> bool
         ensures { result ≡ is_shown self state }
     {
         match state {
@@ -174,49 +171,10 @@ impl Track {
             State::Tally(tally) => 0 < tally.n,
         }
     }
-
-    // The track is that of a lock.
-    fn is_lock(self) -> bool
-        ensures { result ≡ is_lock self }
-    {
-        match self {
-            Track::Lock(_, _) => true,
-            _ => false,
-        }
-    }
-
-    // What the item ends is shown at its event too: a block, and of a lock that it is freed.
-    fn is_over_after(self, what: &Record) -> bool
-        ensures { result ≡ is_over_after self what.now }
-    {
-        is_block(what) || (self.is_lock() && is_free(what))
-    }
-
-    // The item leaves the track as it is, which shows its state.
-    fn passes(self, going: &Going, item: &Item) -> bool
-        ensures { result ≡ passes self going.now item.now }
-    {
-        match (self, going.shown, going.state) {
-            (Track::Thread(s, t), State::Doing(shown), State::Doing(doing)) => {
-                (shown.is_same(doing) && !doing.is_at(item.proc)) && !names_thread(s, t, &item.what)
-            }
-            _ => false,
-        }
-    }
-
-    // The event from which on a track shows what the item makes it show.
-    fn since(self, item: &Item) -> u64
-        ensures { result ≡ since self item.now }
-    {
-        if self.is_over_after(&item.what) {
-            item.event.saturating_add(1)
-        } else {
-            item.event
-        }
-    }
 }
 
-fn is_block(what: &Record) -> bool
+/// A block.
+pub(crate) fn is_block(what: &Record) -> bool
     ensures { result ≡ is_block what.now }
 {
     match *what {
@@ -225,7 +183,8 @@ fn is_block(what: &Record) -> bool
     }
 }
 
-fn is_free(what: &Record) -> bool
+/// That a lock is freed.
+pub(crate) fn is_free(what: &Record) -> bool
     ensures { result ≡ is_free what.now }
 {
     match *what {
@@ -235,7 +194,8 @@ fn is_free(what: &Record) -> bool
 }
 
 impl Going {
-    fn slice_begun(track: Track, begin: u64) -> Going
+    /// Before the first item.
+    pub(crate) fn slice_begun(track: Track, begin: u64) -> Going
         ensures { result ≡ slice_begun track begin }
     {
         Going {
@@ -247,8 +207,8 @@ impl Going {
         }
     }
 
-    // What goes on after the item of this index, which leaves this state.
-    fn moved(self, same: bool, next: State, clock: u64, k: usize) -> Going
+    /// What goes on after the item of this index, which leaves this state.
+    pub(crate) fn moved(self, same: bool, next: State, clock: u64, k: usize) -> Going
         ensures { result ≡ going_by same self next clock k }
     {
         if same {
@@ -267,87 +227,4 @@ impl Going {
             }
         }
     }
-}
-
-/// Appends the slices of the track.
-pub(crate) fn push_slices(
-    out: &mut Vec<Slice>,
-    track: Track,
-    span: Span,
-    items: &[Item],
-) -> Result<(), AllocError>
-    ensures { OnOk result (out.new.items ≡ out.old.items ++ slices span items.now track) }
-{
-    let mut going = Going::slice_begun(track, span.begin);
-    for (k, item) in items.iter().enumerate() {
-        push_step(out, &mut going, track, item, k)?;
-    }
-    let end = going.clock.max(span.end);
-    push_closed(out, track, going, end, items.len())
-}
-
-// Goes over the item of this index. Most items pass a thread: then only the clock goes on.
-#[tactic(auto, using(crate::proofs::Passing::passed_written, crate::proofs::Passing::passed_going))]
-fn push_step(
-    out: &mut Vec<Slice>,
-    going: &mut Going,
-    track: Track,
-    item: &Item,
-    k: usize,
-) -> Result<(), AllocError>
-    ensures written { OnOk result (out.new.items ≡ out.old.items
-        ++ closed_unless (slice_goes_on track going.old item.now) track going.old (clock_at track going.old item.now) k) }
-    ensures going { OnOk result (going.new ≡ going_by (slice_goes_on track going.old item.now) going.old
-        (after track going.old.state item.now) (clock_at track going.old item.now) k) }
-{
-    let clock = going.clock.max(track.since(item));
-    if track.passes(going, item) {
-        going.clock = clock;
-        return Ok(());
-    }
-    let next = track.after(going.state, item);
-    let same = track.is_same(going.shown, next);
-    push_unless(out, same, track, *going, clock, k)?;
-    *going = going.moved(same, next, clock, k);
-    Ok(())
-}
-
-// Appends the slice, unless the track goes on to show the same.
-fn push_unless(
-    out: &mut Vec<Slice>,
-    same: bool,
-    track: Track,
-    going: Going,
-    to: u64,
-    last: usize,
-) -> Result<(), AllocError>
-    ensures { OnOk result (out.new.items ≡ out.old.items ++ closed_unless same track going to last) }
-{
-    if same {
-        return Ok(());
-    }
-    push_closed(out, track, going, to, last)
-}
-
-// Appends the slice, which ends before this event and index, unless it has no event or shows nothing.
-fn push_closed(
-    out: &mut Vec<Slice>,
-    track: Track,
-    going: Going,
-    to: u64,
-    last: usize,
-) -> Result<(), AllocError>
-    ensures { OnOk result (out.new.items ≡ out.old.items ++ closed track going to last) }
-{
-    if going.from < to && track.is_shown(going.shown) {
-        out.push(Slice {
-            track,
-            from: going.from,
-            to,
-            shown: going.shown,
-            first: going.first,
-            last,
-        })?;
-    }
-    Ok(())
 }

@@ -1,7 +1,6 @@
 // What the tracks show: the state of each after an item.
 ghost use Rattle.std.specs.Prelude.{◌≡◌};
 ghost use Rattle.sa_shapes.specs.Change.{is_aimed, is_space, with_aim};
-ghost use Rattle.sa_trace_events.specs.Passing.{is_at};
 ghost use Rattle.sa_trace_events.specs.State.{act_after, context_after, same_space, same_act, same_context, is_thread, is_thread_of, left, at_list, own_or_left, doing_by, same_doing, held, holder_by, same_holder, more_if, less_if, demand_by, aimed_to, aimed_by, owned_by, ready_by, told_by, untold_by, tally_by};
 
 use crate::track::{Count, Level};
@@ -142,17 +141,6 @@ impl Doing {
             Doing::Runs(q) => { if q.0 == p.0 { Doing::Away } else { self } }
             Doing::Section(q) => { if q.0 == p.0 { Doing::Away } else { self } }
             _ => self,
-        }
-    }
-
-    /// It runs on this processor.
-    pub(crate) fn is_at(self, p: ProcNo) -> bool
-        ensures { result ≡ is_at p self }
-    {
-        match self {
-            Doing::Runs(q) => q.0 == p.0,
-            Doing::Section(q) => q.0 == p.0,
-            _ => false,
         }
     }
 

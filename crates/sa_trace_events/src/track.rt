@@ -1,5 +1,6 @@
 // The tracks of a viewer: what it shows one below another.
 ghost use Rattle.std.specs.Prelude.{◌≡◌};
+ghost use Rattle.sa_trace_events.specs.Touches.{number_of};
 ghost use Rattle.sa_trace_events.specs.Track.{count_number, pid_of, tid_of};
 
 use sa_base::{ProcNo, SpaceNo, ThreadNo};
@@ -42,7 +43,7 @@ pub enum Track {
 
 impl Count {
     /// Its place among the counts of a space.
-    pub(crate) fn number(self) -> u64
+    pub(crate) fn number(self) -> usize
         ensures { result ≡ count_number self }
     {
         match self {
@@ -56,6 +57,18 @@ impl Count {
 }
 
 impl Track {
+    /// Its number among the tracks of its kind.
+    pub(crate) fn number(self) -> usize
+        ensures { result ≡ number_of self }
+    {
+        match self {
+            Track::Processor(p, _) => usize::from(p.0),
+            Track::Thread(_, t) => usize::from(t.0),
+            Track::Lock(_, l) => usize::from(l.0),
+            Track::Count(_, count) => count.number(),
+        }
+    }
+
     /// The number of the viewer's process: 1 for the processors, 10 on for the spaces.
     pub(crate) fn pid(self) -> u64
         ensures { result ≡ pid_of self }
@@ -74,7 +87,7 @@ impl Track {
             Track::Processor(p, _) => 1 + u64::from(p.0),
             Track::Thread(_, t) => 1 + u64::from(t.0),
             Track::Lock(_, l) => 1001 + u64::from(l.0),
-            Track::Count(_, count) => 2001 + count.number(),
+            Track::Count(_, count) => 2001 + count.number() as u64,
         }
     }
 }

@@ -1,13 +1,15 @@
 // The whole file.
-ghost use Rattle.std.specs.Prelude.{◌≡◌, ◌++◌, false, true, MatchOption, IfOk, OnOk};
+ghost use Rattle.std.specs.Prelude.{◌≡◌, ◌<◌, ◌++◌, false, true, length, MatchOption, IfOk, OnOk};
 ghost use Rattle.std.specs.List.{flat_map};
 ghost use Rattle.sa_trace_events.specs.Events.{mark_text, notice_of};
+ghost use Rattle.sa_trace_events.specs.Touches.{IsIndexOf};
 ghost use Rattle.sa_trace_events.specs.Whole.{thread_of, above_thread, threads_of, first_event, end_of, span_of, can_be_shown, lane_text, lanes_text, counts_text, locks_text, threads_text, space_head, space_text, spaces_text, lines_ends, space_ends, spaces_ends, arrows_text, events_by, events_text};
 
 use crate::arrows::{Arrow, push_ends};
 use crate::events::{push_mark, push_notice, push_titled_track, push_track};
 use crate::json::push_titled;
 use crate::slices::Span;
+use crate::touches::{Group, Index, index_of, items_of};
 use crate::track::{Count, Level, Track};
 use crate::words::push_numbered;
 use sa_base::{Item, MAX_THREADS, ProcNo, Record, SpaceNo, ThreadNo};
@@ -136,8 +138,10 @@ fn push_space_arrows(
 ) -> Result<(), AllocError>
     ensures { OnOk result (out.new.items ≡ out.old.items ++ space_ends items.now threads s.0) }
 {
+    let index = index_of(alloc, Group::Threads(s), 0, usize::from(threads), items)?;
     for t in 0..threads {
-        push_ends(out, alloc, Arrow::Ready(s, ThreadNo(t)), items)?;
+        let own = items_of(alloc, index.at(usize::from(t)))?;
+        push_ends(out, alloc, Arrow::Ready(s, ThreadNo(t)), &own)?;
     }
     Ok(())
 }
@@ -152,8 +156,9 @@ fn push_lanes(
 ) -> Result<(), AllocError>
     ensures { OnOk result (out.new.items ≡ out.old.items ++ lanes_text span items.now lanes) }
 {
+    let index = index_of(alloc, Group::Lanes, span.begin, usize::from(lanes), items)?;
     for p in 0..lanes {
-        push_lane(out, alloc, span, items, ProcNo(p))?;
+        push_lane(out, alloc, span, items, &index, ProcNo(p))?;
     }
     Ok(())
 }
@@ -163,19 +168,19 @@ fn push_lane(
     alloc: Global,
     span: Span,
     items: &[Item],
+    index: &Index,
     p: ProcNo,
 ) -> Result<(), AllocError>
+    requires index { IsIndexOf Group.Lanes span.begin items.now index.now }
+    requires number { p.0 < length index.now.lists.items }
     ensures { OnOk result (out.new.items ≡ out.old.items ++ lane_text span items.now p.0) }
 {
-    push_titled_track(out, alloc, span, items, Track::Processor(p, Level::Owner))?;
-    push_track(
-        out,
-        alloc,
-        span,
-        items,
-        Track::Processor(p, Level::Activation),
-    )?;
-    push_track(out, alloc, span, items, Track::Processor(p, Level::Work))
+    let owner = Track::Processor(p, Level::Owner);
+    push_titled_track(out, alloc, span, items, index, owner)?;
+    let activation = Track::Processor(p, Level::Activation);
+    push_track(out, alloc, span, items, index, activation)?;
+    let work = Track::Processor(p, Level::Work);
+    push_track(out, alloc, span, items, index, work)
 }
 
 // Appends the tracks of the spaces from 0 on.
@@ -234,11 +239,17 @@ fn push_counts(
 ) -> Result<(), AllocError>
     ensures { OnOk result (out.new.items ≡ out.old.items ++ counts_text span items.now s.0) }
 {
-    push_titled_track(out, alloc, span, items, Track::Count(s, Count::Demand))?;
-    push_titled_track(out, alloc, span, items, Track::Count(s, Count::Aimed))?;
-    push_titled_track(out, alloc, span, items, Track::Count(s, Count::Owned))?;
-    push_titled_track(out, alloc, span, items, Track::Count(s, Count::Ready))?;
-    push_titled_track(out, alloc, span, items, Track::Count(s, Count::Untold))
+    let index = index_of(alloc, Group::Counts(s), span.begin, 5, items)?;
+    let demand = Track::Count(s, Count::Demand);
+    push_titled_track(out, alloc, span, items, &index, demand)?;
+    let aimed = Track::Count(s, Count::Aimed);
+    push_titled_track(out, alloc, span, items, &index, aimed)?;
+    let owned = Track::Count(s, Count::Owned);
+    push_titled_track(out, alloc, span, items, &index, owned)?;
+    let ready = Track::Count(s, Count::Ready);
+    push_titled_track(out, alloc, span, items, &index, ready)?;
+    let untold = Track::Count(s, Count::Untold);
+    push_titled_track(out, alloc, span, items, &index, untold)
 }
 
 fn push_locks(
@@ -251,8 +262,15 @@ fn push_locks(
 ) -> Result<(), AllocError>
     ensures { OnOk result (out.new.items ≡ out.old.items ++ locks_text span items.now s.0 lanes) }
 {
+    let index = index_of(
+        alloc,
+        Group::Locks(s),
+        span.begin,
+        usize::from(lanes),
+        items,
+    )?;
     for l in 0..lanes {
-        push_titled_track(out, alloc, span, items, Track::Lock(s, ProcNo(l)))?;
+        push_titled_track(out, alloc, span, items, &index, Track::Lock(s, ProcNo(l)))?;
     }
     Ok(())
 }
@@ -267,8 +285,22 @@ fn push_threads(
 ) -> Result<(), AllocError>
     ensures { OnOk result (out.new.items ≡ out.old.items ++ threads_text span items.now s.0 threads) }
 {
+    let index = index_of(
+        alloc,
+        Group::Threads(s),
+        span.begin,
+        usize::from(threads),
+        items,
+    )?;
     for t in 0..threads {
-        push_titled_track(out, alloc, span, items, Track::Thread(s, ThreadNo(t)))?;
+        push_titled_track(
+            out,
+            alloc,
+            span,
+            items,
+            &index,
+            Track::Thread(s, ThreadNo(t)),
+        )?;
     }
     Ok(())
 }
