@@ -1,0 +1,10 @@
+use Rattle.std.proofs.lemmas.Result.{on_ok_weaker}
+use Rattle.toga_diagnostic.proofs.Appended.{two}
+use Rattle.toga_diagnostic.specs.Sentence.{no_operand_text}
+use Rattle.toga_diagnostic.proofs.sentence.push_no_operand.Goals as goal
+
+pub returns : goal.returns
+unfolding no_operand_text
+returns c =
+    on_ok_weaker c.push_kind_word.result (λ e. two c.args.out.now.items _ _ _ _ c.in_ok-push_around.ensures e)
+    c.push_kind_word.ensures

@@ -1,0 +1,4 @@
+pub mod Names
+pub mod Plain
+pub mod Runs
+pub mod Show
