@@ -41,7 +41,7 @@ module _ (m : DrivenMachine) (p : ProcNo) (x : ExchangeView) (at now : Option (L
       → IsTurn driven_calls m p made → made.event ≡ m.event + 1 → made.workload ≡ m.workload → y.said ≡ x.said ++ ask_text m p → y.kept ≡ x.kept
       → Makes m p x at at now now None y made
   alone y made none within few turn number workload said kept = record {
-    event = (none, record { within = within; event = few }, turn);
+    event = (none, (record { within = within; event = few }, turn));
     number = number;
     workload = workload;
     hears = subst (λ bs. Hears x.kept bs at at []) (sym kept) (hears-none x.kept at);
@@ -61,37 +61,9 @@ module _ (m : DrivenMachine) (p : ProcNo) (x : ExchangeView) (at now : Option (L
     spoken : (y : List ℕ) → GoesOut now new said [] y → GoesOut now new x.said (ask_text m p) y
     spoken y out = record { sent = out.sent; taken = out.taken; whole = sym is_said ∙ sym (append-nil said) ∙ out.whole }
 
-    -- what was read is no line
-    pub refused-bad : (q : Question) (kept : List ℕ) (cause : Cause) (y : ExchangeView) → question driven_calls m p ≡ Some q
-        → LacksLine x.kept kept at after cause → GoesOut now new said [] y.said → Refuses m p x at after now new (Bad cause) y
-    refused-bad q kept cause y asked lacks out =
-        let why : line_len kept ≡ Err cause = ap line_len lacks.rest ∙ lacks.why in
-        record {
-          asked = q;
-          is_asked = asked;
-          later = kept;
-          hears = hears-got x.kept lacks.got kept at after lacks.taken lacks.rest;
-          is_wrong = ap (answer_by m p q.space kept) why;
-          end = λ told missing. lacks.end told (let e : (λ (r : Result ℕ Cause). r) (Err cause) ≡ Err Missing = sym why ∙ missing in cc);
-          out = spoken y.said out;
-        }
-
     module _ (kept line : List ℕ) (reads : ReadsLine x.kept kept at after line) (y : ExchangeView) (out : GoesOut now new said [] y.said) where
-      all : List ℕ
+      abbrev all : List ℕ
       all = x.kept ++ reads.got
-
-      -- the line is refused
-      pub refused-line : (q : Question) (wrong : Wrong) → question driven_calls m p ≡ Some q → answer m p q.space line ≡ Err wrong
-          → Refuses m p x at after now new wrong y
-      refused-line q wrong asked is_wrong = record {
-        asked = q;
-        is_asked = asked;
-        later = all;
-        hears = hears-got x.kept reads.got all at after reads.taken refl;
-        is_wrong = ap (answer_by m p q.space all) reads.len ∙ ap (answer m p q.space) (sym reads.is) ∙ is_wrong;
-        end = λ told missing. absurd (let e : (λ (r : Result ℕ Cause). r) (Ok (length line)) ≡ Err Missing = sym reads.len ∙ missing in cc);
-        out = spoken y.said out;
-      }
 
       -- memory ran out after its reply was put
       pub lost-turning : IsLost m p x at after now new

@@ -14,9 +14,16 @@ use Rattle.sa_io.proofs.PieceLemmas.{out-both, out-all, out-end_cut, prefix-behi
 use Rattle.sa_sched.specs.Order.{Order}
 use Rattle.sa_lines_in.proofs.Filling.{still-told}
 use Rattle.sa_base.specs.declared.record.End.{End}
-use Rattle.sa_core.specs.View.{machine}
+use Rattle.sa_laws.specs.State.{opening_state}
+use Rattle.sa_debug.specs.Reached.{CanPlay}
+use Rattle.sa_sched.specs.Turns.{Turns, start, turned, turned_often, next_processor}
+use Rattle.sa_sched.specs.Laws.{TurnsAreInOrder}
+use Rattle.sa_assign.specs.Reaim.{proc_no}
+use Rattle.sa_core.specs.View.{CoreView, machine}
 use Rattle.sa_core_model.specs.End.{end_of}
 use Rattle.sa_core_model.specs.Run.{opening}
+use Rattle.sa_driven_model.specs.declared.context.DrivenContext.{DrivenContext}
+use Rattle.sa_driven_model.specs.declared.space.DrivenSpace.{DrivenSpace}
 use Rattle.sa_driven_model.specs.Step.{driven_calls}
 use Rattle.sa_replies.specs.Telling.{Telling, opened, told_through, items_text}
 use Rattle.sa_session.specs.Machines.{DrivenMachine, proc_after}
@@ -32,6 +39,7 @@ use Rattle.sa_session.specs.declared.conversation.Close.TheVariants.{Ended, Refu
 use Rattle.sa_session.specs.declared.wrong.Wrong.{Wrong}
 use Rattle.sa_session.specs.Over.{said_at, EndsAt, IsRefused, IsClosed, CameSoFar}
 use Rattle.sa_session.proofs.Lines.{hears-on, hears-none}
+use Rattle.sa_session.proofs.Sessions.{reached-plays, adds-event}
 
 -- the lines of no item
 text-end : (n : ℕ) (w : WorkloadView) (items : List Item) → n ≡ length items → text_from n w items ≡ []
@@ -85,6 +93,18 @@ module _ (w : WorkloadView) (order : Order) (budget : ℕ) (kept : List ℕ) (be
     pending = ap (λ (z : DrivenMachine). text_from 0 z.workload z.items) is;
     workload = ap (λ (z : DrivenMachine). z.workload) is;
   }
+
+  -- MEMORY RAN OUT at the opening.
+  pub lost-start : CameSoFar w order budget kept before before old old
+  lost-start =
+      record { moment = first_moment w; reached = refl; later = kept; hears = hears-none kept before; taken = (0, Appends-nil old) }
+
+  -- ITS ITEMS can be played.
+  pub at-plays : (m : DrivenMachine) (x : ExchangeView) (at now : Option (List ℕ)) (told replies : ℕ) → IsWorkload w
+      → IsAt w order budget kept before at old now m told x replies → CanPlay m.workload (opening_state m.workload) m.items
+  at-plays m x at now told replies ok a =
+      subst (λ (v : WorkloadView). CanPlay v (opening_state v) m.items) (sym a.workload)
+      (subst (λ (z : DrivenMachine). CanPlay w (opening_state w) z.items) a.is (reached-plays w order budget m.event a.moment ok a.reached))
 
   module _ (m : DrivenMachine) (x : ExchangeView) (at now : Option (List ℕ)) (told replies : ℕ) (a : IsAt w order budget kept before at old now m told x replies)
     where
@@ -213,33 +233,34 @@ module _ (w : WorkloadView) (order : Order) (budget : ℕ) (kept : List ℕ) (be
 
           -- A REPLY IS REFUSED, and all was written.
           pub at-refusal : (none : end_of driven_calls budget m ≡ None) (wrong : Wrong) (line : ℕ) (y : ExchangeView) (after between new : Option (List ℕ))
-              → Refuses m p x at after now between wrong y → line ≡ replies + 1 → Appends between new y.said
-              → IsClosed w order budget kept before after old new m (Refused line wrong)
-          at-refusal none wrong line y after between new no counted wrote = record {
+              (made : DrivenMachine) → Refuses m p x at after now between wrong y made → line ≡ replies + 1 → Appends between new y.said
+              → IsClosed w order budget kept before after old new made (Refused line wrong)
+          at-refusal none wrong line y after between new made refusal counted wrote = record {
             moment = a.moment;
-            is = a.is;
-            reached = a.reached;
+            is = a.is ∙ sym refusal.same;
+            reached = subst (λ (z : DrivenMachine). Reaches w order budget z.event a.moment) (sym refusal.same) a.reached;
             closes = record {
               goes_on = ap (end_of driven_calls budget) a.is ∙ none;
-              asked = no.asked;
-              is_asked = ap (question driven_calls a.moment.machine) is-turn ∙ ap (λ (z : DrivenMachine). question driven_calls z p) a.is ∙ no.is_asked;
-              later = no.later;
-              hears = subst (λ lines. Hears kept no.later before after lines) (append-nil a.moment.replies)
-                  (hears-on kept x.kept no.later before at after a.moment.replies [] a.hears no.hears);
-              is_wrong = ap (λ (q : ProcNo). answer_in a.moment.machine q no.asked.space no.later) is-turn
-                  ∙ ap (λ (z : DrivenMachine). answer_in z p no.asked.space no.later) a.is ∙ no.is_wrong;
-              end = λ told missing. no.end (still-told before at a.hears.got a.hears.taken told) missing;
+              asked = refusal.asked;
+              is_asked = ap (question driven_calls a.moment.machine) is-turn ∙ ap (λ (z : DrivenMachine). question driven_calls z p) a.is ∙ refusal.is_asked;
+              later = refusal.later;
+              hears = subst (λ lines. Hears kept refusal.later before after lines) (append-nil a.moment.replies)
+                  (hears-on kept x.kept refusal.later before at after a.moment.replies [] a.hears refusal.hears);
+              is_wrong = ap (λ (q : ProcNo). answer_in a.moment.machine q refusal.asked.space refusal.later) is-turn
+                  ∙ ap (λ (z : DrivenMachine). answer_in z p refusal.asked.space refusal.later) a.is ∙ refusal.is_wrong;
+              end = λ told missing. refusal.end (still-told before at a.hears.got a.hears.taken told) missing;
               counted = counted ∙ ap (λ n. n + 1) a.counted;
-              taken = subst (λ bs. Appends old new bs) (sym is-said) (out-all old between new (a.moment.text ++ ask_text m p) y.said (out-asked y between no.out) wrote);
+              taken = subst (λ bs. Appends old new bs) (sym is-said) (out-all old between new (a.moment.text ++ ask_text m p) y.said (out-asked y between refusal.out) wrote);
             };
           }
 
           -- THAT WRITE failed.
-          pub lost-refusing : (wrong : Wrong) (y : ExchangeView) (after between new : Option (List ℕ)) → Refuses m p x at after now between wrong y
+          pub lost-refusing : (wrong : Wrong) (y : ExchangeView) (after between new : Option (List ℕ)) (made : DrivenMachine)
+              → Refuses m p x at after now between wrong y made
               → AppendsPrefix between new y.said → CameSoFar w order budget kept before after old new
-          lost-refusing wrong y after between new no cut =
-              came no.later after new no.hears (subst (λ bs. AppendsPrefix old new bs) (sym is-said)
-              (out-end_cut old between new (a.moment.text ++ ask_text m p) y.said (out-asked y between no.out) cut))
+          lost-refusing wrong y after between new made refusal cut =
+              came refusal.later after new refusal.hears (subst (λ bs. AppendsPrefix old new bs) (sym is-said)
+              (out-end_cut old between new (a.moment.text ++ ask_text m p) y.said (out-asked y between refusal.out) cut))
 
           -- THE EVENT could not be made.
           pub lost-event : (after new : Option (List ℕ)) → IsLost m p x at after now new → CameSoFar w order budget kept before after old new
@@ -249,3 +270,37 @@ module _ (w : WorkloadView) (order : Order) (budget : ℕ) (kept : List ℕ) (be
               (ap (λ bs. bs ++ ask_text m p) (sym is-text ∙ a.out.whole)
               ∙ append_assoc a.out.sent x.said (ask_text m p)
               ∙ ap (λ bs. a.out.sent ++ bs) (sym (append-nil (x.said ++ ask_text m p)))) a.out.taken lost.taken))
+
+  -- THE ITEMS were told.
+  pub at-all : (at now : Option (List ℕ)) (replies : ℕ) (s t : SessionView) (x view : ExchangeView) (said : List ℕ) → view ≡ x → t.core ≡ s.core
+      → HasToldAll t → said ≡ view.said ++ text_from s.told (machine s.core).workload (machine s.core).items
+      → IsAt w order budget kept before at old now (machine s.core) s.told x replies
+      → IsAt w order budget kept before at old now (machine t.core) t.told (record { said = said; kept = view.kept }) replies
+  at-all at now replies s t x view said seen same all is_said a =
+      subst (λ (c : CoreView DrivenSpace DrivenContext). IsAt w order budget kept before at old now (machine c) t.told
+      (record { said = said; kept = view.kept }) replies) (sym same)
+      (at-told (machine s.core) x at now s.told replies a t.told (record { said = said; kept = view.kept })
+      (all.all ∙ ap (λ (c : CoreView DrivenSpace DrivenContext). length (machine c).items) same)
+      (is_said ∙ ap (λ (v : ExchangeView). v.said ++ text_from s.told (machine s.core).workload (machine s.core).items) seen)
+      (ap (λ (v : ExchangeView). v.kept) seen))
+
+-- A TURN is that of the order.
+pub turn-is : (w : WorkloadView) (order : Order) (n : ℕ) (s : Turns) (p : ProcNo) → TurnsAreInOrder → 1 ≤ w.processors
+    → s ≡ turned_often (start order w.processors) n → p.0 ≡ next_processor s → p ≡ proc_after w order n
+turn-is w order n s p in_order some at gives = ap proc_no (gives ∙ ap next_processor at ∙ in_order order w.processors n some)
+
+-- the schedule after it
+pub schedule-on : (order : Order) (processors n : ℕ) (s t : Turns) → s ≡ turned_often (start order processors) n → t ≡ turned s
+    → t ≡ turned_often (start order processors) (n + 1)
+schedule-on order processors n s t at is = is ∙ ap turned at ∙ ap (turned_often (start order processors)) (sym (add-one n))
+
+-- What follows the trace before an event follows the one after it.
+pub follows-event : (w : WorkloadView) (order : Order) (budget : ℕ) (kept : List ℕ) (before old at now after new : Option (List ℕ)) (replies : ℕ)
+    (s t : SessionView) (x y : ExchangeView) (p : ProcNo) (line : Option (List ℕ)) → IsWorkload w
+    → IsAt w order budget kept before at old now (machine s.core) s.told x replies → end_of driven_calls budget (machine s.core) ≡ None
+    → Makes (machine s.core) p x at after now new line y (machine t.core) → HasToldAll s → t.teller ≡ s.teller → t.told ≡ s.told → Follows t
+follows-event w order budget kept before old at now after new replies s t x y p line ok a none go all teller told =
+    let more =
+    adds-event w order budget (machine s.core).event a.moment p line (machine t.core) ok a.reached (ap (end_of driven_calls budget) a.is ∙ none)
+    (subst (λ (z : DrivenMachine). IsEvent z p line (machine t.core)) (sym a.is) go.event) in
+    follows-on s t more.0 all teller told go.workload (more.1 ∙ ap (λ (z : DrivenMachine). z.items ++ more.0) a.is)

@@ -28,7 +28,7 @@ module _ (m : DrivenMachine) (p : ProcNo) (x : ExchangeView) (before after old n
     pub out : GoesOut old new x.said (ask_text m p) y.said
 
   -- it was not made: its question was said, and the reply is refused
-  pub record Refuses (wrong : Wrong) (y : ExchangeView) : Type 0 where
+  pub record Refuses (wrong : Wrong) (y : ExchangeView) (made : DrivenMachine) : Type 0 where
     pub asked : Question
     pub is_asked : question driven_calls m p ≡ Some asked
     pub later : List ℕ
@@ -36,11 +36,12 @@ module _ (m : DrivenMachine) (p : ProcNo) (x : ExchangeView) (before after old n
     pub is_wrong : answer_in m p asked.space later ≡ Err wrong
     pub end : IsSome before → line_len later ≡ Err Missing → IsAtEnd after
     pub out : GoesOut old new x.said (ask_text m p) y.said
+    pub same : made ≡ m
 
   abbrev pub Goes : Went → ExchangeView → DrivenMachine → Type 0
   Goes Alone y made = Makes None y made
   Goes Answered y made = (line : List ℕ) × Makes (Some line) y made
-  Goes (Refused wrong) y made = Refuses wrong y
+  Goes (Refused wrong) y made = Refuses wrong y made
 
   -- it could not be made: a prefix of what was said was written, and all that was read is left
   pub record IsLost : Type 0 where

@@ -5,6 +5,7 @@ ghost use Rattle.sa_io.specs.Faults.{AppendsPrefix, HasRisen};
 ghost use Rattle.sa_io.specs.Pieces.{GoesOut};
 ghost use Rattle.sa_lines_in.specs.Line.{line_len};
 ghost use Rattle.sa_lines_in.specs.Reading.{is_decided};
+ghost use Rattle.sa_session.specs.declared.exchange.NoTalk.TheVariants.{OutOfMemory};
 ghost use Rattle.sa_session.specs.Exchange.{Hears, IsHeard, FailsFor};
 
 use sa_base::Cause;
@@ -25,7 +26,7 @@ pub enum NoTalk {
 }
 
 impl From<AllocError> for NoTalk {
-    ghost from_gives = { λ error why. why ≡ NoTalk.OutOfMemory };
+    ghost from_gives = { λ error why. why ≡ OutOfMemory };
 
     fn from(_error: AllocError) -> NoTalk {
         NoTalk::OutOfMemory

@@ -104,6 +104,7 @@ impl Session {
         ensures ok { OnOk result (Puts (machine self.old.core) p asked.now.space line.now (machine self.new.core)) }
         ensures budget { self.new.core.budget ≡ self.old.core.budget }
         ensures err { IfErr result (λ wrong. answer (machine self.old.core) p asked.now.space line.now ≡ Err wrong) }
+        ensures same { OnErr result (machine self.new.core ≡ machine self.old.core) }
         ensures teller { self.new.teller ≡ self.old.teller }
         ensures count { self.new.told ≡ self.old.told }
     {
