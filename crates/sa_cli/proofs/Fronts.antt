@@ -25,7 +25,7 @@ closed-front text more input is closed = ap workload_part is ∙ closed more
 open-front : (text line more input : List ℕ) → input ≡ text ++ more → IsOpen text line → workload_part input ≡ text ++ through_close line more
 open-front text line more input is goes = ap workload_part is ∙ goes more
 
--- what holds of it as it was read holds of the front of the whole, if it is not too long, or if more behind it changes nothing
+-- what holds of it as it was read holds of the front of the whole, if it is not too long, or if more after it changes nothing
 front-on : (limit : ℕ) (Is : List ℕ → Type 0) (before after : Option (List ℕ)) (text kept : List ℕ) → ReadsFront limit before after text kept → Is text
     → (length text ≤ limit) ⊎ ((more : List ℕ) → Is (text ++ more)) → IfSome before (λ input. Is (workload_part input))
 front-on limit Is None after text kept reads is rest = tt

@@ -1,12 +1,10 @@
 -- What the parts of `kernel` say together.
-use Rattle.std.proofs.Common.{◌≡◌, ◌⊎◌, ℕ, ◌≤◌, List, [], ◌++◌, length, Option, None, Some, refl, sym, ap, ◌∙◌, subst, arith, inl, inr, append_assoc, append-nil}
+use Rattle.std.proofs.Common.{◌≡◌, ℕ, ◌≤◌, List, [], ◌++◌, Option, None, Some, refl, sym, ap, ◌∙◌, subst, arith, inl, inr, append_assoc, append-nil}
 use Rattle.std.proofs.lemmas.Bool.{false≢true}
 use Rattle.std.specs.Prelude.{IsSome}
-use Rattle.std.proofs.KnownBytes.{Appends-nil, Appends-trans, Consumes-trans}
+use Rattle.std.proofs.KnownBytes.{Appends-trans, Consumes-trans}
 use Rattle.std.specs.Io.KnownBytes.{Appends, Consumes}
-use Rattle.sa_base.specs.Recorded.{Recorded}
 use Rattle.sa_base.specs.declared.record.Item.{Item}
-use Rattle.sa_base.specs.declared.record.End.{End}
 use Rattle.sa_base.specs.declared.record.End.TheVariants as end
 use Rattle.sa_base.specs.declared.refusal.Bad.{Bad}
 use Rattle.sa_io.specs.Faults.{HasRisen, AppendsPrefix}
@@ -33,11 +31,11 @@ use Rattle.sa_cli.specs.declared.outcome.Ran.{Ran}
 use Rattle.sa_cli.specs.declared.outcome.Ran.TheVariants.{Nothing, Plain}
 use Rattle.sa_cli.specs.declared.outcome.Status.{Status}
 use Rattle.sa_cli.specs.declared.outcome.Status.TheVariants.{AllDone, BadWorkload, Stuck, Budget, ReadFault, WriteFault, OutOfMemory, BadReply}
-use Rattle.sa_cli.specs.Outcome.{history, status_of_end, HasTalked, LacksWorkload}
+use Rattle.sa_cli.specs.Outcome.{history}
 use Rattle.sa_cli.specs.Schedules.{order_by}
 use Rattle.sa_cli.specs.Answers.{World, TookAll, TookSome, Writes}
 use Rattle.sa_cli.specs.Complete.{Talks, RefusesFront}
-use Rattle.sa_cli.specs.Kernel.{bad_reply, status_of_close, end_of_close, status_of_no_talk, LosesSome, HasFront, LacksFront, GaveLines, IsSilent, Talked, EndsSo, RefusesSo, StopsSo, IsCut, AnswersKernel}
+use Rattle.sa_cli.specs.Kernel.{bad_reply, status_of_close, end_of_close, status_of_no_talk, LosesSome, HasFront, GaveLines, Talked, EndsSo, RefusesSo, StopsSo, IsCut, AnswersKernel}
 use Rattle.sa_cli.proofs.Inputs.{all-parted, refused-once, text-not_refused, told-is}
 
 -- WHAT IS LOST of the source

@@ -117,7 +117,7 @@ abbrev pub SearchesNothing : Option Command → Type 0
 SearchesNothing (Some (Explore states user_level give)) = ⊥
 SearchesNothing other = ⊤
 
--- the statuses with which a command writes nothing; `kernel` writes what it says before it reads on, so much may be written where a
+-- the statuses with which a command writes nothing; `kernel` writes what it says before it reads on, so much may be written before a
 -- read fails or memory runs out
 abbrev pub WritesNothingBy : Option Command → Status → Type 0
 WritesNothingBy (Some (Kernel schedule budget)) status = LacksWorkload status

@@ -1,4 +1,4 @@
--- What `kernel` answers: the source gave the text of a workload through its first line that is `close`, and behind it replies, a
+-- What `kernel` answers: the source gave the text of a workload through its first line that is `close`, and after it replies, a
 -- line each. The kernel and the machine ran by the order of turns, and each step of a user level did what the next line says.
 use Rattle.std.specs.Prelude.{◌≡◌, ◌⊎◌, ⊤, ℕ, ◌+◌, ◌≤◌, List, [], ◌++◌, length, Option, None, Some, Err, IsSome, IfSome}
 use Rattle.std.specs.Io.KnownBytes.{Consumes, IsAtEnd}
@@ -63,11 +63,11 @@ status_of_no_talk stopped.OutOfMemory = OutOfMemory
 abbrev pub LosesSome : Option (List ℕ) → Option (List ℕ) → Type 0
 LosesSome before after = (bytes : List ℕ) × Consumes before after bytes
 
--- the refusal of what stands in front of the replies, where the source tells
+-- the refusal of what stands in front of the replies, if the source tells
 abbrev pub IsFrontRefused : Option (List ℕ) → Bad → Type 0
 IsFrontRefused left bad = IfSome left (λ input. IsInputRefused BadAt (workload_part input) bad)
 
--- The source gave the text of the workload, and these bytes behind it. Where it tells, the text goes through the first line that is
+-- The source gave the text of the workload, and these bytes after it. If it tells, the text goes through the first line that is
 -- `close`.
 pub record HasFront (before after : Option (List ℕ)) (w : WorkloadView) (kept : List ℕ) : Type 0 where
   pub text : List ℕ
@@ -83,7 +83,7 @@ LacksFront left faults_before faults_after ReadFault = HasRisen faults_before fa
 LacksFront left faults_before faults_after OutOfMemory = ⊤
 LacksFront left faults_before faults_after other = ⊥
 
--- The source gave the text of the workload, these lines behind it, each with its line feed, and then some bytes more. Where it tells,
+-- The source gave the text of the workload, these lines after it, each with its line feed, and then some bytes more. If it tells,
 -- the text goes through the first line that is `close`.
 pub record GaveLines (before after : Option (List ℕ)) (w : WorkloadView) (lines : List (List ℕ)) (later : List ℕ) : Type 0 where
   pub text : List ℕ
@@ -98,7 +98,7 @@ IsSilent old new = TookAll old new []
 
 module _ (schedule : ScheduleWord) (budget : ℕ) (old new : World) where
   -- A session of the source's workload came to this moment: turn by turn in the order, each step by the next of the lines. Its trace
-  -- is legal by the rules of any user level, strict, and its end is as it is defined. What came behind those lines is not used.
+  -- is legal by the rules of any user level, strict, and its end is as it is defined. What came after those lines is not used.
   pub record Talked : Type 0 where
     pub workload : WorkloadView
     pub moment : Moment
@@ -120,7 +120,7 @@ module _ (schedule : ScheduleWord) (budget : ℕ) (old new : World) where
     pub right : IsEnded any talked.workload budget items end talked.moment.machine.event
     pub went : goes (talked.moment.text ++ last_line_of items end talked.moment.machine.event)
 
-  -- The run had not ended, and its next event is a step; the bytes behind the lines that were used begin with no reply that the step
+  -- The run had not ended, and its next event is a step; the bytes after the lines that were used begin with no reply that the step
   -- can do, and this is the first thing that is wrong with them. All that was said, the open question, and a last line that says
   -- that the run goes on went to the sink in this way.
   pub record RefusesSo (goes : List ℕ → Type 0) (items : List Item) (bad : Bad) : Type 0 where
