@@ -13,7 +13,7 @@ use Rattle.sa_instr.specs.declared.instr.Instr.{Instr}
 use Rattle.sa_svg.specs.Laws.{is_plain}
 use Rattle.sa_cells.specs.Pieces.{numbered, one, two, a_space, a_thread}
 use Rattle.sa_cells.specs.Thread.{instr_text}
-use Rattle.sa_cells.specs.Words.{list_words, stop_words, block_words, unblock_words, cont_words, through_words, way_words, back_words, ready_words, ran_words, ran_text, ins_words, processors_word, move_words, aim_words, words_of}
+use Rattle.sa_cells.specs.Words.{list_words, stop_words, block_words, unblock_words, cont_words, through_words, way_words, ready_words, ran_words, ran_text, ins_words, processors_word, move_words, aim_words, words_of}
 use Rattle.sa_svg.proofs.Plain.{plain-append}
 use Rattle.sa_cells.proofs.Plain.{plain-instr}
 use Rattle.sa_cells.proofs.PlainPieces.{plain-choice, plain-numbered, plain-one, plain-two, plain-three, plain-a-space, plain-a-thread}
