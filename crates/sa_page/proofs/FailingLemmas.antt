@@ -1,21 +1,27 @@
 -- The record that breaks a rule: at most one is named, it breaks it, and a rule that is of records alone has one.
-use Rattle.std.proofs.Common.{◌≡◌, ◌≢◌, ℕ, ◌+◌, true, List, [], ◌∷◌, Option, Some, None, sym, ◌∙◌, ap, subst, inl, inr, refl}
-use Rattle.std.proofs.lemmas.Option.{none-some}
+use Rattle.std.proofs.Common.{◌≡◌, ◌≢◌, ℕ, zero, suc, ◌+◌, ◌<◌, ◌≤◌, true, List, [], ◌∷◌, take, Option, Some, None, sym, ◌∙◌, ap, subst, inl, inr, refl, arith}
+use Rattle.std.specs.Prelude.{slice_get}
+use Rattle.std.proofs.lemmas.Bool.{false≢true}
+use Rattle.std.proofs.lemmas.Option.{none-some, same_Some}
 use Rattle.sa_base.specs.declared.number.ProcNo.{ProcNo}
 use Rattle.sa_base.specs.declared.record.Record.{Record}
+use Rattle.sa_base.specs.declared.record.Item.{Item}
 use Rattle.sa_base.specs.declared.package.RulesName.{RulesName}
 use Rattle.sa_spaces.specs.Workload.{WorkloadView}
 use Rattle.sa_ranks.specs.Packages.{rules_named}
 use Rattle.sa_laws.specs.declared.rule.Rule.{Rule}
 use Rattle.sa_laws.specs.declared.rule.Rule.TheVariants.{Numbered, Stepwise, ToldOnce, ToldInTime, WhereOwned, AllTold, UpcallGiven, InterruptNext, LineCause, WantCause, SharesCovered, DemandAnnounced, TurnsTaken, LocksKept, OrderKept, EndTold}
-use Rattle.sa_laws.specs.Event.{Event}
+use Rattle.sa_laws.specs.Event.{Event, events_of}
 use Rattle.sa_laws.specs.Readings.{Readings}
 use Rattle.sa_laws.specs.Record.{after_record}
+use Rattle.sa_laws.specs.History.{event_begun, after_records, after_events}
+use Rattle.sa_laws.specs.Opening.{IsNumbered}
+use Rattle.sa_laws.specs.Legal.{line_at, FirstBreakIn, FirstBreak}
 use Rattle.sa_laws.specs.Ends.{LastLine}
 use Rattle.sa_laws.specs.Rules.{Holds, Breaks}
 use Rattle.sa_laws.specs.Step.{Needs, AreSteps, IsStepwise}
 use Rattle.sa_laws.specs.Upcalls.{EachRecord}
-use Rattle.sa_check_moment.specs.Seen.{Seen, at_event, behind_record}
+use Rattle.sa_check_moment.specs.Seen.{Seen, opened, at_event, behind_record}
 use Rattle.sa_check.specs.Judged.{after}
 use Rattle.sa_check.specs.declared.verdict.Verdict.{Verdict}
 use Rattle.sa_check.specs.declared.verdict.Verdict.TheVariants.{Legal, Broken}
@@ -166,7 +172,7 @@ all-asked : (m : Seen) (e : Event) (rule : Rule) → IsStepwise m.workload m.rea
     → let s = at_event e.number e.proc m in EachRecord (HoldsOf rule s.workload e.proc) s.workload e.number e.proc s.readings e.records
 all-asked m e rule steps none = all-hold rule (at_event e.number e.proc m) e 0 e.records steps.steps none
 
-pub has-one : (rules : RulesName) (m : Seen) (e : Event) (last : Option LastLine) (rule : Rule) → is_of_records rule ≡ true
+has-one : (rules : RulesName) (m : Seen) (e : Event) (last : Option LastLine) (rule : Rule) → is_of_records rule ≡ true
     → Breaks (rules_named rules) m.workload m.readings e last rule → FailsIn rule m e None → ⊥
 has-one rules m e last Numbered never breaks none = cc
 has-one rules m e last Stepwise so breaks none = breaks.broken (record { steps = all-steps (at_event e.number e.proc m) e 0 e.records none })
@@ -184,3 +190,81 @@ has-one rules m e last TurnsTaken never breaks none = cc
 has-one rules m e last LocksKept never breaks none = cc
 has-one rules m e last OrderKept never breaks none = cc
 has-one rules m e last EndTold never breaks none = cc
+
+-- THE VERDICT'S EVENT. No event before it has its number, and all of them are stepwise
+numbered-first : (rules : RulesName) (w : WorkloadView) (r : Readings) (e : Event) (last : Option LastLine) (rule : Rule) → is_of_records rule ≡ true
+    → Breaks (rules_named rules) w r e last rule → IsNumbered w r e
+numbered-first rules w r e last Numbered never breaks = cc
+numbered-first rules w r e last Stepwise so breaks = breaks.earlier.0
+numbered-first rules w r e last ToldOnce so breaks = breaks.earlier.0
+numbered-first rules w r e last ToldInTime never breaks = cc
+numbered-first rules w r e last WhereOwned never breaks = cc
+numbered-first rules w r e last AllTold so breaks = breaks.earlier.0
+numbered-first rules w r e last UpcallGiven so breaks = breaks.earlier.0
+numbered-first rules w r e last InterruptNext never breaks = cc
+numbered-first rules w r e last LineCause never breaks = cc
+numbered-first rules w r e last WantCause never breaks = cc
+numbered-first rules w r e last SharesCovered never breaks = cc
+numbered-first rules w r e last DemandAnnounced never breaks = cc
+numbered-first rules w r e last TurnsTaken never breaks = cc
+numbered-first rules w r e last LocksKept never breaks = cc
+numbered-first rules w r e last OrderKept never breaks = cc
+numbered-first rules w r e last EndTold never breaks = cc
+
+same-number : (w : WorkloadView) (n : ℕ) (p : ProcNo) (r : Readings) (xs : List Record) → (after_records w n p r xs).number ≡ r.number
+same-number w n p r [] = refl
+same-number w n p r (x ∷ xs) = same-number w n p (after_record w n p r x) xs
+
+next-number : (m : Seen) (e : Event) → (after m e).readings.number ≡ m.readings.number + 1
+next-number m e = ap (λ n. n + 1) (same-number m.workload e.number e.proc (event_begun m.workload e m.readings) e.records)
+
+abbrev pub Steady : Seen → List Event → ℕ → Type 0
+Steady m events n =
+    (k : ℕ) (e : Event) → k < n → slice_get events k ≡ Some e
+    → let r = after_events (rules_named m.rules).inside m.workload m.readings (take k events) in IsNumbered m.workload r e × IsStepwise m.workload r e
+
+-- from a moment on, where the break comes later, and here
+pub record HasOne (rule : Rule) (number : ℕ) (m : Seen) (events : List Event) : Type 0 where
+  pub later : m.readings.number ≤ number
+  pub named : FailsAt rule number m events None → ⊥
+
+has-later : (m : Seen) (e : Event) (es : List Event) (rule : Rule) (number : ℕ) → IsNumbered m.workload m.readings e → IsStepwise m.workload m.readings e
+    → HasOne rule number (after m e) es → HasOne rule number m (e ∷ es)
+has-later m e es rule number numbered steps has = record { later = omega (arith, has.later, next-number m e); named = none } where
+  none : FailsAt rule number m (e ∷ es) None → ⊥
+  none (inl found) = absurd (omega (arith, has.later, next-number m e, numbered.number, found.0))
+  none (inr (_, inl found)) = has.named found.1
+  none (inr (_, inr found)) = found.0 steps
+
+has-here : (m : Seen) (e : Event) (es : List Event) (last : Option LastLine) (rule : Rule) → is_of_records rule ≡ true
+    → Breaks (rules_named m.rules) m.workload m.readings e last rule → HasOne rule e.number m (e ∷ es)
+has-here m e es last rule of breaks =
+    let numbered = numbered-first m.rules m.workload m.readings e last rule of breaks in
+    record { later = omega (arith, numbered.number); named = none } where
+  none : FailsAt rule e.number m (e ∷ es) None → ⊥
+  none (inl found) = has-one m.rules m e last rule of breaks found.1
+  none (inr found) = found.0 refl
+
+has-from : (m : Seen) (events : List Event) (place : ℕ) (e : Event) (last : Option LastLine) (rule : Rule) → is_of_records rule ≡ true
+    → slice_get events place ≡ Some e → Steady m events place
+    → Breaks (rules_named m.rules) m.workload (after_events (rules_named m.rules).inside m.workload m.readings (take place events)) e last rule
+    → HasOne rule e.number m events
+has-from m [] place e last rule of at steady breaks = absurd (none-some e at)
+has-from m (f ∷ es) zero e last rule of at steady breaks =
+    let same : f ≡ e = same_Some f e at in
+    subst (λ (g : Event). HasOne rule e.number m (g ∷ es)) (sym same) (has-here m e es last rule of breaks)
+has-from m (f ∷ es) (suc n) e last rule of at steady breaks =
+    let here = steady 0 f (omega arith) refl in
+    has-later m f es rule e.number here.0 here.1
+    (has-from (after m f) es n e last rule of at (λ k g below found. steady (suc k) g (omega (arith, below)) found) breaks)
+
+pub break-named : (rules : RulesName) (w : WorkloadView) (items : List Item) (line : LastLine) (number : ℕ) (rule : Rule) → is_of_records rule ≡ true
+    → FirstBreak (rules_named rules) w items line number rule → FailsAt rule number (opened rules w) (events_of items) None → ⊥
+break-named rules w items line number rule of first = by (events_of items) first where
+  by : (events : List Event) → FirstBreakIn (rules_named rules) w events line number rule → FailsAt rule number (opened rules w) events None → ⊥
+  by [] none found = absurd (false≢true (sym (ap is_of_records none.1) ∙ of))
+  by (e ∷ es) at found =
+      let has : HasOne rule at.event.number (opened rules w) (e ∷ es) =
+      has-from (opened rules w) (e ∷ es) at.place at.event (line_at (e ∷ es) line at.place) rule of at.at
+      (λ k f below found. let held = at.earlier k f below found in (held.0, held.1.0)) at.breaks in
+      has.named (subst (λ n. FailsAt rule n (opened rules w) (e ∷ es) None) (sym at.numbered) found)
