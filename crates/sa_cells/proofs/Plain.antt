@@ -164,7 +164,7 @@ plain-operation does.Io = refl
 plain-operation does.Touch = refl
 plain-operation does.End = refl
 
-plain-instr : (i : Instr) → is_plain (instr_text i) ≡ true
+pub plain-instr : (i : Instr) → is_plain (instr_text i) ≡ true
 plain-instr i =
     plain-append (form_of (parts_of i).operation).word (flat_map operand_text (parts_of i).operands) (plain-operation (parts_of i).operation)
     (plain-each operand_text (λ o. plain-append (codes " ") (operand_word o) refl (plain-operand o)) (parts_of i).operands)

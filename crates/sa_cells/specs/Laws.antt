@@ -1,7 +1,8 @@
 -- What holds of every text that is written of cells and records.
-use Rattle.std.specs.Prelude.{◌≡◌, Bool, true, List}
+use Rattle.std.specs.Prelude.{◌≡◌, Bool, true, List, Option}
 use Rattle.sa_base.specs.declared.record.Record.{Record}
 use Rattle.sa_base.specs.declared.number.ActNo.{ActNo}
+use Rattle.sa_instr.specs.declared.instr.Instr.{Instr}
 use Rattle.sa_svg.specs.Laws.{is_plain}
 use Rattle.sa_check_moment.specs.Seen.{Seen}
 use Rattle.sa_cells.specs.declared.cell.Cell.{Cell}
@@ -17,4 +18,4 @@ abbrev pub TextsArePlain : Type 0
 TextsArePlain = (ups : List ActNo) (m : Seen) (c : Cell) → is_plain (text_of ups m c) ≡ true
 
 abbrev pub WordsArePlain : Type 0
-WordsArePlain = (in_copy : Bool) (what : Record) → is_plain (words_of in_copy what) ≡ true
+WordsArePlain = (in_copy : Bool) (instr : Option Instr) (what : Record) → is_plain (words_of in_copy instr what) ≡ true

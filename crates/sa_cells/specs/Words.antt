@@ -1,5 +1,5 @@
 -- What a record says, in words.
-use Rattle.std.specs.Prelude.{ℕ, Bool, true, false, List, ◌++◌, ◌==◌, codes, Option, if◌then◌else◌}
+use Rattle.std.specs.Prelude.{ℕ, Bool, true, false, List, ◌++◌, ◌==◌, codes, Option, Some, None, if◌then◌else◌}
 use Rattle.sa_base.specs.declared.number.ProcNo.{ProcNo}
 use Rattle.sa_base.specs.declared.number.SpaceNo.{SpaceNo}
 use Rattle.sa_base.specs.declared.number.ThreadNo.{ThreadNo}
@@ -9,7 +9,9 @@ use Rattle.sa_base.specs.declared.record.Note.{Note}
 use Rattle.sa_base.specs.declared.record.Note.TheVariants.{Add, Preempted, Blocked, Unblocked}
 use Rattle.sa_base.specs.declared.record.Record.{Record}
 use Rattle.sa_base.specs.declared.record.Record.TheVariants as the
-use Rattle.sa_cells.specs.Pieces.{one, two, three, a_space, a_thread}
+use Rattle.sa_instr.specs.declared.instr.Instr.{Instr}
+use Rattle.sa_cells.specs.Pieces.{numbered, one, two, three, a_space, a_thread}
+use Rattle.sa_cells.specs.Thread.{instr_text}
 
 -- a stop, a block and an unblock: the activation, with its thread if it has one
 unfoldable pub stop_words : SpaceNo → Option ThreadNo → ActNo → List ℕ
@@ -32,13 +34,16 @@ unfoldable pub cont_words : SpaceNo → Option ThreadNo → List ℕ
 cont_words s t = one (codes "A section of space ") s.0 (codes " that was cut off runs on in its copy, with ") ++ a_thread t ++ codes "."
 
 -- a back: the copy of the section is through, or the thread gives way if none is open
-abbrev pub back_cause : Bool → List ℕ
-back_cause in_copy =
-    if in_copy then codes "The copy of the section is through: the handler of space "
-    else codes "The thread gives way, with no section open: the handler of space "
+unfoldable pub through_words : SpaceNo → Option ThreadNo → List ℕ
+through_words s t =
+    one (codes "The copy of the section is through: the handler of space ") s.0 (codes " has control, with ") ++ a_thread t ++ codes "."
 
-unfoldable pub back_words : Bool → SpaceNo → Option ThreadNo → List ℕ
-back_words in_copy s t = one (back_cause in_copy) s.0 (codes " has control, with ") ++ a_thread t ++ codes "."
+abbrev pub way_words : SpaceNo → Option ThreadNo → List ℕ
+way_words s None = one (codes "The handler of space ") s.0 (codes " has control again, with no thread.")
+way_words s (Some t) = two (codes "Thread ") t.0 (codes " of space ") s.0 (codes " gives way, and is to be made ready again.")
+
+abbrev pub back_words : Bool → SpaceNo → Option ThreadNo → List ℕ
+back_words in_copy s t = if in_copy then through_words s t else way_words s t
 
 -- a thread: what it does, with a number; what becomes of it
 abbrev pub thread_words : SpaceNo → ThreadNo → List ℕ → ℕ → List ℕ
@@ -47,12 +52,23 @@ thread_words s t does n = three (codes "Thread ") t.0 (codes " of space ") s.0 d
 abbrev pub ready_words : SpaceNo → ThreadNo → List ℕ → List ℕ
 ready_words s t does = two (codes "Thread ") t.0 (codes " of space ") s.0 does
 
+-- an instruction, as the thread's program has it at its place, if that is known
+unfoldable pub ran_words : Instr → List ℕ
+ran_words i = codes ": " ++ instr_text i ++ codes "."
+
+abbrev pub ran_text : Option Instr → List ℕ
+ran_text None = codes "."
+ran_text (Some i) = ran_words i
+
+unfoldable pub ins_words : SpaceNo → ThreadNo → ℕ → Option Instr → List ℕ
+ins_words s t i instr = ready_words s t (codes " runs ") ++ numbered (codes "its instruction ") i ++ ran_text instr
+
 -- how many processors a space can use
 abbrev pub processors_word : ℕ → List ℕ
-processors_word n = if n == 1 then codes " processor, it says." else codes " processors, it says."
+processors_word n = if n == 1 then codes " processor." else codes " processors."
 
 abbrev pub want_words : SpaceNo → ℕ → List ℕ
-want_words s n = two (codes "Space ") s.0 (codes " can use ") n (processors_word n)
+want_words s n = two (codes "Space ") s.0 (codes " says that it can use ") n (processors_word n)
 
 -- the upcall page of a space; the lock of a list, with the thread that it has to do with
 abbrev pub page_words : SpaceNo → List ℕ → List ℕ
@@ -75,28 +91,29 @@ told_words (Preempted a) = one (codes "It hears that activation ") a.0 (codes " 
 told_words (Blocked a) = one (codes "It hears that activation ") a.0 (codes " has blocked.")
 told_words (Unblocked a) = one (codes "It hears that activation ") a.0 (codes " has unblocked.")
 
--- what a record says, if the life that runs on its processor is in the copy of a section, or is not
-abbrev pub words_of : Bool → Record → List ℕ
-words_of in_copy (the.Ins s t i) = thread_words s t (codes " runs its instruction at ") i
-words_of in_copy (the.Out s t value) = thread_words s t (codes " gives out ") value
-words_of in_copy (the.Run s t) = ready_words s t (codes " leaves its ready list, and is to run here.")
-words_of in_copy (the.Stop s t a) = stop_words s t a
-words_of in_copy (the.Block s t a io) = block_words s t a io
-words_of in_copy (the.Unblock s t a) = unblock_words s t a
-words_of in_copy (the.Cont s t) = cont_words s t
-words_of in_copy (the.Back s t) = back_words in_copy s t
-words_of in_copy (the.Ready s t) = ready_words s t (codes " is ready, and stands in a list.")
-words_of in_copy (the.Take s l t) = list_words s l (codes " is taken, for ") t
-words_of in_copy (the.Free s l t) = list_words s l (codes " is free again; it was taken for ") t
-words_of in_copy (the.Up s a) = two (codes "Space ") s.0 (codes " gets an upcall, in the fresh activation ") a.0 (codes ".")
-words_of in_copy (the.Told note) = told_words note
-words_of in_copy (the.Move old new) = move_words old new
-words_of in_copy (the.Want s n) = want_words s n
-words_of in_copy (the.Aim p s) = aim_words p s
-words_of in_copy (the.Line p) = one (codes "Processor ") p.0 (codes " is called into the kernel: its interrupt line goes up.")
-words_of in_copy (the.Fetch s) = page_words s (codes " is not there: it is being fetched, and the upcall must wait.")
-words_of in_copy (the.Fetched s) = page_words s (codes " has come.")
-words_of in_copy (the.GiveBack a) = one (codes "The space needs the number of activation ") a.0 (codes " no more: the kernel may use it again.")
-words_of in_copy the.Idle = codes "No list has a thread that could run."
-words_of in_copy (the.Spin l) = one (codes "List ") l.0 (codes " is locked by another: this turn only waits.")
-words_of in_copy the.Tick = codes "The processor is nobody's, and its turn passes."
+-- what a record says, if the life that runs on its processor is in the copy of a section, or is not, and if this is the instruction that it
+-- runs, where one is known
+abbrev pub words_of : Bool → Option Instr → Record → List ℕ
+words_of in_copy instr (the.Ins s t i) = ins_words s t i instr
+words_of in_copy instr (the.Out s t value) = thread_words s t (codes " gives out ") value
+words_of in_copy instr (the.Run s t) = ready_words s t (codes " leaves its ready list, and is to run here.")
+words_of in_copy instr (the.Stop s t a) = stop_words s t a
+words_of in_copy instr (the.Block s t a io) = block_words s t a io
+words_of in_copy instr (the.Unblock s t a) = unblock_words s t a
+words_of in_copy instr (the.Cont s t) = cont_words s t
+words_of in_copy instr (the.Back s t) = back_words in_copy s t
+words_of in_copy instr (the.Ready s t) = ready_words s t (codes " is ready, and stands in a list.")
+words_of in_copy instr (the.Take s l t) = list_words s l (codes " is taken, for ") t
+words_of in_copy instr (the.Free s l t) = list_words s l (codes " is free again; it was taken for ") t
+words_of in_copy instr (the.Up s a) = two (codes "Space ") s.0 (codes " gets an upcall, in the fresh activation ") a.0 (codes ".")
+words_of in_copy instr (the.Told note) = told_words note
+words_of in_copy instr (the.Move old new) = move_words old new
+words_of in_copy instr (the.Want s n) = want_words s n
+words_of in_copy instr (the.Aim p s) = aim_words p s
+words_of in_copy instr (the.Line p) = one (codes "Processor ") p.0 (codes " is called into the kernel: its interrupt line goes up.")
+words_of in_copy instr (the.Fetch s) = page_words s (codes " is not there: it is being fetched, and the upcall must wait.")
+words_of in_copy instr (the.Fetched s) = page_words s (codes " has come.")
+words_of in_copy instr (the.GiveBack a) = one (codes "The space needs the number of activation ") a.0 (codes " no more: the kernel may use it again.")
+words_of in_copy instr the.Idle = codes "No list has a thread that could run."
+words_of in_copy instr (the.Spin l) = one (codes "List ") l.0 (codes " is locked by another: this turn only waits.")
+words_of in_copy instr the.Tick = codes "The processor is nobody's, and its turn passes."

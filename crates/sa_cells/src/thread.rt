@@ -143,8 +143,8 @@ fn push_next(out: &mut Vec<u8>, pc: u16, instr: Instr) -> Result<(), AllocError>
     push_instr(out, instr)
 }
 
-// Appends an instruction, as the workload text has it.
-fn push_instr(out: &mut Vec<u8>, instr: Instr) -> Result<(), AllocError>
+/// Appends an instruction, as the workload text has it.
+pub(crate) fn push_instr(out: &mut Vec<u8>, instr: Instr) -> Result<(), AllocError>
     ensures { OnOk result (out.new.items ≡ out.old.items ++ instr_text instr) }
 {
     let parts = instr.parts();

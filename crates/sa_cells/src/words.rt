@@ -1,20 +1,28 @@
 // What a record says, in words.
 ghost use Rattle.std.specs.Prelude.{◌≡◌, ◌++◌, codes, OnOk};
 ghost use Rattle.sa_cells.specs.Pieces.{one, two};
-ghost use Rattle.sa_cells.specs.Words.{thread_words, ready_words, page_words, list_words, stop_words, block_words, unblock_words, cont_words, back_cause, back_words, processors_word, want_words, move_words, aim_words, told_words, words_of};
+ghost use Rattle.sa_cells.specs.Words.{thread_words, ready_words, page_words, list_words, stop_words, block_words, unblock_words, cont_words, through_words, way_words, back_words, ran_words, ran_text, ins_words, processors_word, want_words, move_words, aim_words, told_words, words_of};
 
-use crate::pieces::{push_a_space, push_a_thread, push_one, push_piece, push_three, push_two};
+use crate::pieces::{
+    push_a_space, push_a_thread, push_numbered, push_one, push_piece, push_three, push_two,
+};
+use crate::thread::push_instr;
 use sa_base::{ActNo, IoNo, Note, ProcNo, Record, SpaceNo, ThreadNo};
+use sa_instr::Instr;
 use std::alloc::AllocError;
 
-/// Appends what the record says, in words, if the life that runs on its processor is in the copy of a section, or is not.
-pub fn push_words(out: &mut Vec<u8>, in_copy: bool, what: &Record) -> Result<(), AllocError>
-    ensures { OnOk result (out.new.items ≡ out.old.items ++ words_of in_copy what.now) }
+/// Appends what the record says, in words, if the life that runs on its processor is in the copy of a section, or is not, and
+/// if this is the instruction that it runs, where one is known.
+pub fn push_words(
+    out: &mut Vec<u8>,
+    in_copy: bool,
+    instr: Option<Instr>,
+    what: &Record,
+) -> Result<(), AllocError>
+    ensures { OnOk result (out.new.items ≡ out.old.items ++ words_of in_copy instr what.now) }
 {
     match *what {
-        Record::Ins(s, t, i) => {
-            push_thread(out, s, t, b" runs its instruction at ", u64::from(i))
-        }
+        Record::Ins(s, t, i) => push_ins(out, s, t, i, instr),
         Record::Out(s, t, value) => push_thread(out, s, t, b" gives out ", value),
         Record::Run(s, t) => push_ready(out, s, t, b" leaves its ready list, and is to run here."),
         Record::Stop(s, t, a) => push_stop(out, s, t, a),
@@ -207,20 +215,71 @@ fn push_back(
 ) -> Result<(), AllocError>
     ensures { OnOk result (out.new.items ≡ out.old.items ++ back_words in_copy s t) }
 {
-    push_space(out, back_cause(in_copy), s, b" has control, with ")?;
+    if in_copy {
+        push_through(out, s, t)
+    } else {
+        push_way(out, s, t)
+    }
+}
+
+fn push_through(out: &mut Vec<u8>, s: SpaceNo, t: Option<ThreadNo>) -> Result<(), AllocError>
+    ensures { OnOk result (out.new.items ≡ out.old.items ++ through_words s t) }
+{
+    push_space(
+        out,
+        b"The copy of the section is through: the handler of space ",
+        s,
+        b" has control, with ",
+    )?;
     push_a_thread(out, t)?;
     push_piece(out, b".")
 }
 
-// Why a handler has control again.
-fn back_cause(in_copy: bool) -> &'static [u8]
-    ensures { result.now ≡ back_cause in_copy }
+fn push_way(out: &mut Vec<u8>, s: SpaceNo, t: Option<ThreadNo>) -> Result<(), AllocError>
+    ensures { OnOk result (out.new.items ≡ out.old.items ++ way_words s t) }
 {
-    if in_copy {
-        b"The copy of the section is through: the handler of space "
-    } else {
-        b"The thread gives way, with no section open: the handler of space "
+    match t {
+        None => push_space(
+            out,
+            b"The handler of space ",
+            s,
+            b" has control again, with no thread.",
+        ),
+        Some(t) => push_ready(out, s, t, b" gives way, and is to be made ready again."),
     }
+}
+
+fn push_ins(
+    out: &mut Vec<u8>,
+    s: SpaceNo,
+    t: ThreadNo,
+    i: u16,
+    instr: Option<Instr>,
+) -> Result<(), AllocError>
+    ensures { OnOk result (out.new.items ≡ out.old.items ++ ins_words s t i instr) }
+{
+    push_ready(out, s, t, b" runs ")?;
+    push_numbered(out, b"its instruction ", u64::from(i))?;
+    push_ran(out, instr)
+}
+
+// Appends the instruction that was run, where it is known.
+fn push_ran(out: &mut Vec<u8>, instr: Option<Instr>) -> Result<(), AllocError>
+    ensures { OnOk result (out.new.items ≡ out.old.items ++ ran_text instr) }
+{
+    match instr {
+        None => push_piece(out, b"."),
+        Some(instr) => push_ran_instr(out, instr),
+    }
+}
+
+#[tactic(auto, unfolding(crate::specs::Words::ran_words))]
+fn push_ran_instr(out: &mut Vec<u8>, instr: Instr) -> Result<(), AllocError>
+    ensures { OnOk result (out.new.items ≡ out.old.items ++ ran_words instr) }
+{
+    push_piece(out, b": ")?;
+    push_instr(out, instr)?;
+    push_piece(out, b".")
 }
 
 // Appends how many processors a space can use.
@@ -231,7 +290,7 @@ fn push_want(out: &mut Vec<u8>, s: SpaceNo, n: u16) -> Result<(), AllocError>
         out,
         b"Space ",
         u64::from(s.0),
-        b" can use ",
+        b" says that it can use ",
         u64::from(n),
         processors_word(n),
     )
@@ -241,9 +300,9 @@ fn processors_word(n: u16) -> &'static [u8]
     ensures { result.now ≡ processors_word n }
 {
     if n == 1 {
-        b" processor, it says."
+        b" processor."
     } else {
-        b" processors, it says."
+        b" processors."
     }
 }
 

@@ -1,13 +1,13 @@
 -- A history leads to one end.
-use Rattle.std.proofs.Common.{◌≡◌, ℕ, sym, ◌∙◌, ap, subst, List, [], ◌∷◌, Option, Some, None, inl, inr, refl}
+use Rattle.std.proofs.Common.{◌≡◌, ℕ, sym, ◌∙◌, ap, subst, List, [], ◌∷◌, ◌++◌, Option, Some, None, inl, inr, refl}
 use Rattle.sa_base.specs.declared.record.End.{End}
-use Rattle.sa_base.specs.declared.record.End.TheVariants.{AllDone, Stuck, Budget}
 use Rattle.sa_laws.specs.Event.{Event}
 use Rattle.sa_laws.specs.Step.{IsStepwise}
 use Rattle.sa_check_moment.specs.Seen.{Seen}
 use Rattle.sa_check.specs.Judged.{after}
 use Rattle.sa_page.specs.Advance.{IsAdvanced}
-use Rattle.sa_page.specs.Ended.{EndsAt, SaysStuck, stuck_at}
+use Rattle.sa_page.specs.Said.{end_said}
+use Rattle.sa_page.specs.Ended.{EndsAt, SaysEnd, last_said}
 
 -- so far these events led to this moment, and what the rest leads to the whole leads to
 abbrev pub Leads : Seen → List Event → Seen → List Event → Type 0
@@ -34,7 +34,7 @@ end-one m (e ∷ es) a b (inl p) (inr q) = absurd (q.0 p.0)
 end-one m (e ∷ es) a b (inr p) (inl q) = absurd (p.0 q.0)
 end-one m (e ∷ es) a b (inr p) (inr q) = p.1 ∙ sym q.1
 
-pub says-one : (m : Seen) (end : End) (events : List Event) (a b : List ℕ) → SaysStuck m end events a → SaysStuck m end events b → a ≡ b
-says-one m AllDone events a b p q = p ∙ sym q
-says-one m Stuck events a b p q = p.is ∙ ap stuck_at (end-one m events p.end q.end p.ends q.ends) ∙ sym q.is
-says-one m Budget events a b p q = p ∙ sym q
+pub says-one : (m : Seen) (end : End) (number : ℕ) (events : List Event) (a b : List ℕ) → SaysEnd m end number events a → SaysEnd m end number events b
+    → a ≡ b
+says-one m end number events a b p q =
+    p.is ∙ ap (λ (last : Option Seen). end_said end number ++ last_said end last) (end-one m events p.last q.last p.ends q.ends) ∙ sym q.is

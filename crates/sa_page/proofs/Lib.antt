@@ -2,5 +2,7 @@ mod AdvanceLemmas
 mod ShownLemmas
 mod PageLemmas
 mod SaidLemmas
+mod CountLemmas
 mod EndedLemmas
+mod FailingLemmas
 mod CircleLemmas

@@ -11,10 +11,11 @@ use Rattle.sa_workload.specs.Text.{text_of as workload_text}
 use Rattle.sa_check.proofs.VerdictLemmas.{one-verdict}
 use Rattle.sa_cells.specs.Change.{opening_lines}
 use Rattle.sa_check_moment.specs.Seen.{opened}
-use Rattle.sa_page.specs.Said.{verdict_said, end_said}
+use Rattle.sa_page.specs.Said.{verdict_said}
 use Rattle.sa_page.specs.Page.{page_text, said, IsPrinted, IsPage}
 use Rattle.sa_page.proofs.ShownLemmas.{shown-one}
 use Rattle.sa_page.proofs.EndedLemmas.{says-one}
+use Rattle.sa_page.proofs.FailingLemmas.{failing-one}
 
 -- a piece more
 pub behind : (before after piece whole part : List ℕ) → after ≡ before ++ piece → before ≡ whole → piece ≡ part → after ≡ whole ++ part
@@ -28,9 +29,11 @@ begins-with before after piece e none = e ∙ ap (λ xs. xs ++ piece) none
 printed-one : (rules : RulesName) (w : WorkloadView) (v : Verdict) (t : Told) (a b : List ℕ) → IsPrinted rules w v t a → IsPrinted rules w v t b → a ≡ b
 printed-one rules w v t a b p q =
     p.is
-    ∙ ap (λ stuck. page_text (verdict_said rules v) (end_said t.end t.events) stuck (workload_text w) (said w t.items) (opening_lines (opened rules w)) p.shown)
-    (says-one (opened rules w) t.end (events_of t.items) p.stuck q.stuck p.says q.says)
-    ∙ ap (page_text (verdict_said rules v) (end_said t.end t.events) q.stuck (workload_text w) (said w t.items) (opening_lines (opened rules w)))
+    ∙ ap (λ failing. page_text (verdict_said rules v) failing p.end (workload_text w) (said w t.items) (opening_lines (opened rules w)) p.shown)
+    (failing-one (opened rules w) v (events_of t.items) p.failing q.failing p.fails q.fails)
+    ∙ ap (λ end. page_text (verdict_said rules v) q.failing end (workload_text w) (said w t.items) (opening_lines (opened rules w)) p.shown)
+    (says-one (opened rules w) t.end t.events (events_of t.items) p.end q.end p.ends q.ends)
+    ∙ ap (page_text (verdict_said rules v) q.failing q.end (workload_text w) (said w t.items) (opening_lines (opened rules w)))
     (shown-one (opened rules w) [] (events_of t.items) p.shown q.shown p.shows q.shows)
     ∙ sym q.is
 

@@ -3,6 +3,9 @@ pub mod Advance
 pub mod Shown
 pub mod Shell
 pub mod Said
+pub mod Counts
 pub mod Ended
+pub mod Failing
+pub mod Programs
 pub mod Page
 pub mod Laws

@@ -1,5 +1,5 @@
 -- What is said of the whole trace, before its lines: each line, and after it its words.
-use Rattle.std.specs.Prelude.{ℕ, List, ◌++◌, codes, decimal}
+use Rattle.std.specs.Prelude.{ℕ, ◌==◌, List, ◌++◌, codes, decimal, if◌then◌else◌}
 use Rattle.sa_base.specs.declared.package.RulesName.{RulesName}
 use Rattle.sa_base.specs.declared.package.RulesName.TheVariants.{FastThreads, Priorities, Any}
 use Rattle.sa_base.specs.declared.record.End.{End}
@@ -72,5 +72,8 @@ end_words AllDone = codes "All threads are done, after "
 end_words Stuck = codes "Threads wait, and nothing can happen any more, after "
 end_words Budget = codes "The run was cut off, since its budget was spent, after "
 
+abbrev pub events_word : ℕ → List ℕ
+events_word events = if events == 1 then codes " event." else codes " events."
+
 unfoldable pub end_said : End → ℕ → List ℕ
-end_said end events = end_text end events ++ end_words end ++ decimal events ++ codes " events.\n"
+end_said end events = end_text end events ++ end_words end ++ decimal events ++ events_word events

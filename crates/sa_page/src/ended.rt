@@ -1,52 +1,86 @@
 // The end of a history, and the threads that wait there.
-ghost use Rattle.std.specs.Prelude.{◌≡◌, IfOk};
+ghost use Rattle.std.specs.Prelude.{◌≡◌, ◌++◌, IfOk, OnOk};
 ghost use Rattle.std.specs.Option.{option_map};
 ghost use Rattle.sa_laws.specs.Event.{events_of};
 ghost use Rattle.sa_check_moment.specs.Seen.{seen, opened};
 ghost use Rattle.sa_cells.specs.declared.view.View.{View};
-ghost use Rattle.sa_page.specs.Ended.{EndsAt, SaysStuck, stuck_at};
+ghost use Rattle.sa_page.specs.Ended.{EndsAt, SaysEnd, last_said, threads_said, stuck_said};
 
 mod circles;
+mod counts;
 mod waits;
 
 use crate::advance::advance;
 use crate::event::gather;
+use crate::said::push_end;
+use counts::push_counts;
 use sa_base::{End, Item, RulesName};
 use sa_cells::View;
 use sa_check::TraceEvent;
+use sa_replay::Replay;
 use sa_spaces::Workload;
 use sa_waits::waits as waits_of;
 use std::alloc::{AllocError, Global};
-use waits::waits_said;
+use waits::push_waits;
 
-/// What is said of the end of these items of a trace of this workload, which has this end: if it is stuck, each thread that waits, and
-/// each circle of them.
-pub(crate) fn stuck_said(
+/// What is said of the end of these items of a trace of this workload, which has this end after this many events: how the run
+/// ended, and what its threads are there.
+pub(crate) fn ending_said(
     alloc: Global,
     rules: RulesName,
     workload: &Workload,
     end: End,
+    events: u64,
     items: &[Item],
 ) -> Result<Vec<u8>, AllocError>
-    ensures { IfOk result (λ text. SaysStuck (opened rules workload.now) end (events_of items.now) text.items) }
+    ensures { IfOk result (λ text. SaysEnd (opened rules workload.now) end events (events_of items.now) text.items) }
 {
-    match end {
-        End::Stuck => {
-            let last = ended(alloc, View::start(alloc, rules, workload)?, items)?;
-            said_at(alloc, last)
-        }
-        _ => Ok(Vec::new(alloc)),
+    let last = ended(alloc, View::start(alloc, rules, workload)?, items)?;
+    let mut out = Vec::new(alloc);
+    push_end(&mut out, end, events)?;
+    push_last(&mut out, alloc, end, &last)?;
+    Ok(out)
+}
+
+// Appends what the threads are at the end, if it is known, and who waits there, if the run is stuck.
+fn push_last(
+    out: &mut Vec<u8>,
+    alloc: Global,
+    end: End,
+    last: &Option<View>,
+) -> Result<(), AllocError>
+    ensures { OnOk result (out.new.items ≡ out.old.items
+        ++ last_said end (option_map (λ (view : View). seen view.moment) last.now)) }
+{
+    match last {
+        None => out.extend_from_slice(b"\n"),
+        Some(view) => push_threads(out, alloc, end, &view.replay),
     }
 }
 
-// What is said of threads that wait at this end, if there is one.
-fn said_at(alloc: Global, last: Option<View>) -> Result<Vec<u8>, AllocError>
-    ensures { IfOk result (λ text. text.items
-        ≡ stuck_at (option_map (λ (view : View). seen view.moment) last)) }
+fn push_threads(
+    out: &mut Vec<u8>,
+    alloc: Global,
+    end: End,
+    replay: &Replay,
+) -> Result<(), AllocError>
+    ensures { OnOk result (out.new.items ≡ out.old.items ++ threads_said end replay.now.state) }
 {
-    match last {
-        None => Ok(Vec::new(alloc)),
-        Some(view) => waits_said(alloc, &waits_of(alloc, &view.replay)?),
+    push_counts(out, replay)?;
+    out.extend_from_slice(b"\n")?;
+    push_stuck(out, alloc, end, replay)
+}
+
+// Appends who waits, if this end is a stuck one.
+fn push_stuck(out: &mut Vec<u8>, alloc: Global, end: End, replay: &Replay) -> Result<(), AllocError>
+    ensures { OnOk result (out.new.items ≡ out.old.items ++ stuck_said end replay.now.state) }
+{
+    match end {
+        End::Stuck => {
+            let waits = waits_of(alloc, replay)?;
+            push_waits(out, alloc, replay, &waits)
+        }
+        _ => Ok(()),
     }
 }
 

@@ -4,9 +4,11 @@
 mod advance;
 mod ended;
 mod event;
+mod failing;
 pub mod laws;
 mod lines;
 mod page;
+mod programs;
 mod said;
 mod shell;
 mod shown;

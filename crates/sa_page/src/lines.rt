@@ -3,9 +3,11 @@ ghost use Rattle.std.specs.Prelude.{◌≡◌, ◌++◌, OnOk};
 ghost use Rattle.sa_check_lives.specs.View.{lives_of};
 ghost use Rattle.sa_page.specs.Page.{in_copy_on, item_text, items_text, said};
 
+use crate::programs::Programs;
 use sa_base::{Item, ProcNo};
 use sa_cells::push_words;
 use sa_check_lives::Lives;
+use sa_instr::Instr;
 use sa_spaces::Workload;
 use sa_trace::append_line;
 use std::alloc::{AllocError, Global};
@@ -22,16 +24,26 @@ pub(crate) fn push_items(
     workload.ranges();
     let spaces = workload.spaces().len() as u16;
     let mut lives = Lives::new(alloc, workload.processors(), spaces)?;
-    push_from(out, &mut lives, items)
+    let mut programs = Programs::new(alloc, spaces)?;
+    push_from(out, workload, &mut lives, &mut programs, items)
 }
 
-// The same of items that come after these lives.
-fn push_from(out: &mut Vec<u8>, lives: &mut Lives, items: &[Item]) -> Result<(), AllocError>
-    ensures { OnOk result (out.new.items ≡ out.old.items ++ items_text (lives_of lives.old) items.now) }
+// The same of items that come after these lives, and threads of these programs.
+fn push_from(
+    out: &mut Vec<u8>,
+    workload: &Workload,
+    lives: &mut Lives,
+    programs: &mut Programs,
+    items: &[Item],
+) -> Result<(), AllocError>
+    ensures { OnOk result (out.new.items
+        ≡ out.old.items ++ items_text workload.now (lives_of lives.old) programs.old items.now) }
 {
     for item in items {
-        push_item(out, in_copy_on(lives, item.proc), item)?;
+        let instr = programs.instr(workload, &item.what);
+        push_item(out, in_copy_on(lives, item.proc), instr, item)?;
         lives.read(item.proc, item.what, &[], false)?;
+        programs.read(&item.what, instr)?;
     }
     Ok(())
 }
@@ -47,10 +59,15 @@ fn in_copy_on(lives: &Lives, p: ProcNo) -> bool
 }
 
 #[tactic(auto, unfolding(crate::specs::Page::item_text))]
-fn push_item(out: &mut Vec<u8>, in_copy: bool, item: &Item) -> Result<(), AllocError>
-    ensures { OnOk result (out.new.items ≡ out.old.items ++ item_text in_copy item.now) }
+fn push_item(
+    out: &mut Vec<u8>,
+    in_copy: bool,
+    instr: Option<Instr>,
+    item: &Item,
+) -> Result<(), AllocError>
+    ensures { OnOk result (out.new.items ≡ out.old.items ++ item_text in_copy instr item.now) }
 {
     append_line(out, item)?;
-    push_words(out, in_copy, &item.what)?;
+    push_words(out, in_copy, instr, &item.what)?;
     out.extend_from_slice(b"\n")
 }

@@ -1,15 +1,16 @@
 // The page.
 ghost use Rattle.std.specs.Prelude.{◌≡◌, ◌++◌, Ok, IfOk, IfErr, OnOk};
 ghost use Rattle.sa_trace.specs.Reading.{read_of, told};
-ghost use Rattle.sa_page.specs.Said.{verdict_said, end_said};
+ghost use Rattle.sa_page.specs.Said.{verdict_said};
 ghost use Rattle.sa_page.specs.Page.{said_part, texts_part, said, IsPage, IsPrinted, HasNoPage};
 
-use crate::ended::stuck_said;
+use crate::ended::ending_said;
+use crate::failing::failing_said;
 use crate::lines::push_items;
-use crate::said::{push_end, push_verdict};
+use crate::said::push_verdict;
 use crate::shell::{CELLS, SAID, TRACE, WORKLOAD, push_back, push_front};
 use crate::shown::{Pair, push_shown};
-use sa_base::{Bad, End, Item, RulesName, Unread};
+use sa_base::{Bad, Item, RulesName, Unread};
 use sa_cells::push_opening;
 use sa_check::{Verdict, check};
 use sa_spaces::Workload;
@@ -89,20 +90,20 @@ fn print(
     ensures { IfOk result (λ page. IsPrinted rules workload.now verdict
         (told trace.now.trace.items trace.now.end trace.now.events) page.items) }
 {
-    let stuck = stuck_said(alloc, rules, workload, trace.end, trace.trace.items())?;
+    let failing = failing_said(alloc, rules, workload, verdict, trace.trace.items())?;
+    let end = ending_said(
+        alloc,
+        rules,
+        workload,
+        trace.end,
+        trace.events,
+        trace.trace.items(),
+    )?;
     let pair = Pair::start(alloc, rules, workload)?;
     let text = workload_text(alloc, workload)?;
     let mut out = Vec::new(alloc);
     push_front(&mut out)?;
-    push_said(
-        &mut out,
-        alloc,
-        rules,
-        verdict,
-        trace.end,
-        trace.events,
-        &stuck,
-    )?;
+    push_said(&mut out, alloc, rules, verdict, &failing, &end)?;
     push_texts(&mut out, alloc, workload, &text, trace.trace.items())?;
     out.extend_from_slice(CELLS)?;
     push_opening(&mut out, alloc, &pair.now)?;
@@ -111,24 +112,23 @@ fn print(
     Ok(out)
 }
 
-// Appends the part that says of the whole trace the verdict, the end, and who waits there.
+// Appends the part that says of the whole trace the verdict, the record that breaks it, and the end.
 #[tactic(auto, unfolding(crate::specs::Page::said_part))]
 fn push_said(
     out: &mut Vec<u8>,
     alloc: Global,
     rules: RulesName,
     verdict: Verdict,
-    end: End,
-    events: u64,
-    stuck: &[u8],
+    failing: &[u8],
+    end: &[u8],
 ) -> Result<(), AllocError>
     ensures { OnOk result (out.new.items ≡ out.old.items
-        ++ said_part (verdict_said rules verdict) (end_said end events) stuck.now) }
+        ++ said_part (verdict_said rules verdict) failing.now end.now) }
 {
     out.extend_from_slice(SAID)?;
     push_verdict(out, alloc, rules, verdict)?;
-    push_end(out, end, events)?;
-    out.extend_from_slice(stuck)
+    out.extend_from_slice(failing)?;
+    out.extend_from_slice(end)
 }
 
 // Appends the parts of the workload, whose text this is, and of the trace.

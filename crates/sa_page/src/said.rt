@@ -1,6 +1,6 @@
 // What is said of the whole trace.
 ghost use Rattle.std.specs.Prelude.{◌≡◌, ◌++◌, OnOk};
-ghost use Rattle.sa_page.specs.Said.{demand_words, lock_words, order_words, rule_words, legal_words, breaks_at, broken_words, verdict_words, verdict_said, end_text, end_words, end_said};
+ghost use Rattle.sa_page.specs.Said.{demand_words, lock_words, order_words, rule_words, legal_words, breaks_at, broken_words, verdict_words, verdict_said, end_text, end_words, events_word, end_said};
 
 use sa_base::{End, RulesName};
 use sa_check::{Verdict, verdict_line, word};
@@ -172,7 +172,14 @@ pub(crate) fn push_end(out: &mut Vec<u8>, end: End, events: u64) -> Result<(), A
     push_end_line(out, end, events)?;
     out.extend_from_slice(end_words(end))?;
     print_number(events, out)?;
-    out.extend_from_slice(b" events.\n")
+    out.extend_from_slice(events_word(events))
+}
+
+// What comes after the number of events.
+fn events_word(events: u64) -> &'static [u8]
+    ensures { result.now ≡ events_word events }
+{
+    if events == 1 { b" event." } else { b" events." }
 }
 
 // How a run ended, up to the number of its events.

@@ -140,6 +140,11 @@ const isStuck = firstSaid('end').word[1] === 'stuck';
 const broken = allSaid('broken').map(({ word, words }) => ({ number: +word[1], rule: word[2], words }))[0];
 const breaksAt = (event) => broken !== undefined && broken.number === numbers[event];
 
+// The record that breaks the rule, by its place among those of its event; if no one record does, all of them count.
+const failing = allSaid('record').map(({ word, words }) => ({ place: word[1], words }))[0];
+const isFailing = (event, record) => breaksAt(event)
+  && (failing.place === '-' || firstRecord[event] + +failing.place === record);
+
 // ---- The programs of each space, and the names of a source, where there is one.
 
 const programs = [];

@@ -37,7 +37,9 @@ const layRows = () => {
   byId('tall').style.height = `${tops[shownRows.length] + 6}px`;
   lanesKey = '';
 };
-const room = () => Math.max(100, scroller.clientWidth - LEFT - RIGHT);
+// A page of paper is some 720 pixels wide, whatever the window is.
+const laneWidth = () => (printing ? 720 : scroller.clientWidth);
+const room = () => Math.max(100, laneWidth() - LEFT - RIGHT);
 const unit = () => room() / view.span;
 const laneX = (event) => LEFT + (event - view.from) * unit();
 const overviewX = (event) => LEFT + (event / (last + 1)) * room();
@@ -219,12 +221,13 @@ const drawRecordWords = (pen, scrolled) => {
   if (unit() < 3) return;
   pen.font = SMALL_FONT;
   for (let event = Math.max(0, Math.floor(view.from)); event < windowEnd(); event += 1) {
+    const [left, right] = [Math.max(LEFT, laneX(event)), Math.min(LEFT + room(), laneX(event + 1))];
     for (const [p, words] of recordWords(event)) {
       const y = tops[p] - scrolled + PROCESSOR_HIGH - BAR - 4;
       const more = words.length > 1 ? `+${words.length - 1}` : '';
-      const word = [words[0] + more, words[0]].find((one) => widthOf(pen, one) < unit() - 1);
-      if (word) fillText(pen, theme.ink, word, laneX(event) + 1, y);
-      else fillRect(pen, theme.ink, laneX(event) + unit() / 2 - 1, y - 6, 2, 6);
+      const word = laneX(event) < LEFT ? undefined : [words[0] + more, words[0]].find((one) => widthOf(pen, one) < right - left - 1);
+      if (word) fillText(pen, theme.ink, word, left + 1, y);
+      else if (right - left > 2) fillRect(pen, theme.ink, (left + right) / 2 - 1, y - 6, 2, 6);
     }
   }
 };
@@ -264,12 +267,15 @@ const drawLanesBase = (width, height, scrolled) => {
   drawRuler(pen, width, scrolled);
 };
 
-// The chosen event is framed, and an arrow points to the lane of its processor.
+// The chosen event is framed, and an arrow points to the lane of its processor. The frame is weak where it goes over words.
 const drawCursor = (pen, width, height, scrolled) => {
   const x = laneX(chosen);
   const wide = Math.max(2, unit());
   if (x <= LEFT - wide || x >= width) return;
+  pen.globalAlpha = 0.5;
   strokeRect(pen, theme.ink, 2, Math.max(LEFT, x) - 1, TOP - 2, wide + 1, height);
+  pen.globalAlpha = 1;
+  fillRect(pen, theme.ink, Math.max(LEFT, x) - 2, TOP - 4, wide + 3, 3);
   if (turns[chosen] >= processors) return;
   const y = tops[turns[chosen]] - scrolled + PROCESSOR_HIGH - BAR / 2 - 2;
   if (y < TOP) return;
@@ -281,8 +287,8 @@ const drawCursor = (pen, width, height, scrolled) => {
   pen.fill();
 };
 const drawLanes = () => {
-  const width = scroller.clientWidth;
-  const scrolled = scroller.scrollTop;
+  const width = laneWidth();
+  const scrolled = printing ? 0 : scroller.scrollTop;
   const all = tops[shownRows.length] + 6;
   const height = printing ? all : Math.min(all, Math.max(140, scroller.clientHeight || 600));
   const key = [width, height, scrolled, view.from, view.span, theme.paper, density(), chosenRow?.name].join(' ');
@@ -304,7 +310,7 @@ const drawOverviewBase = (width, height) => {
   drawFlags(pen, overviewX, 1, width - RIGHT);
 };
 const drawOverview = () => {
-  const width = scroller.clientWidth;
+  const width = laneWidth();
   const height = 25 + processors * (OVERVIEW_BAR + 1);
   const key = [width, height, theme.paper, density()].join(' ');
   if (key !== overviewKey) drawOverviewBase(width, height);

@@ -7,8 +7,9 @@ pub(crate) const MOVES: &[u8] = br##"
 const sliders = [lanesCanvas, overviewCanvas];
 const speak = (words) => { byId('spoken').textContent = words; };
 const speakEvent = () => {
-  const words = recordsOf(chosen).map(wordsOf).join(' ');
-  const rule = breaksAt(chosen) ? ` Rule ${broken.rule} breaks here.` : '';
+  const said = (record) => wordsOf(record) + (isFailing(chosen, record) && failing.place !== '-' ? ` This breaks rule ${broken.rule}.` : '');
+  const words = recordsOf(chosen).map(said).join(' ');
+  const rule = breaksAt(chosen) && failing.place === '-' ? ` Rule ${broken.rule} breaks here.` : '';
   speak(`Event ${numbers[chosen]}, processor ${turns[chosen]}. ${words}${rule}${chosen === last ? ' The last event.' : ''}`);
 };
 const show = () => {

@@ -229,6 +229,13 @@ const markLine = (item, here, ran) => {
   else item.removeAttribute('aria-current');
   item.lastChild.replaceChildren(...tags.map(({ text, look }) => make('span', text, `tag ${look}`)), ran ? ' just ran' : '');
 };
+// Where the programs have more lines than their panel has room for, it is scrolled to the one that just ran.
+const showLine = (item) => {
+  const box = byId('programs');
+  if (!item || box.scrollHeight <= box.clientHeight) return;
+  const [line, around] = [item.getBoundingClientRect(), box.getBoundingClientRect()];
+  if (line.height > 0 && (line.top < around.top || line.bottom > around.bottom)) box.scrollTop += line.top - around.top - box.clientHeight / 4;
+};
 const fillPrograms = () => {
   const at = threadsAtLines();
   const ran = new Set(recordsOf(chosen).map(ranIn).filter(Boolean).map(({ s, t, place }) => lineKey(s, programOf[s]?.[t], place)));
@@ -238,6 +245,7 @@ const fillPrograms = () => {
     if (item) markLine(item, at.get(key) ?? [], ran.has(key));
   }
   markedLines = marked;
+  showLine(lineItems.get([...ran][0]));
 };
 
 // ---- The event: its records in words, and the threads.
@@ -245,13 +253,12 @@ const fillPrograms = () => {
 const makeRecord = (record) => {
   const item = make('li');
   const line = make('p');
-  const words = make('p', wordsOf(record));
-  const ran = ranIn(record);
-  const instruction = ran && instructionOf(ran.s, ran.t, ran.place);
-  if (instruction) words.append(' ', make('code', instruction));
   line.append(make('code', lineOf(record), 'line'));
-  if (breaksAt(chosen)) item.className = 'bad';
-  item.append(line, words);
+  if (isFailing(chosen, record)) {
+    item.className = 'bad';
+    if (failing.place !== '-') line.append(' ', make('span', `breaks ${broken.rule}`, 'bad-words'));
+  }
+  item.append(line, make('p', wordsOf(record)));
   return item;
 };
 const endParts = () => {
@@ -283,7 +290,7 @@ const threadParts = () => {
 const fillEvent = () => {
   const list = make('ol', undefined, 'records');
   list.append(...recordsOf(chosen).map(makeRecord));
-  const rule = breaksAt(chosen) ? [make('p', broken.words, 'bad-words')] : [];
+  const rule = breaksAt(chosen) ? [make('p', `${broken.words} ${failing.words}`, 'bad-words')] : [];
   byId('event').replaceChildren(make('h2', `Event ${numbers[chosen]}, at processor ${turns[chosen]}`), ...rule, list, ...endParts(), ...threadParts());
 };
 "##;

@@ -16,7 +16,7 @@ const paragraph = (...parts) => {
 };
 const makeRules = () => {
   const box = make('div', undefined, broken ? 'bad' : '');
-  if (broken) box.append(paragraph(make('strong', 'Broken.'), broken.words, ' ', link(`show event ${broken.number}`, () => goNumber(broken.number))));
+  if (broken) box.append(paragraph(make('strong', 'Broken.'), broken.words, ' ', failing.words, ' ', link(`show event ${broken.number}`, () => goNumber(broken.number))));
   else box.append(paragraph(make('strong', 'Legal.'), firstSaid('legal').words));
   return box;
 };

@@ -48,7 +48,7 @@ canvas { display: block; width: 100%; touch-action: pan-y; }
 #tall { position: relative; }
 #lanes { position: sticky; top: 0; cursor: pointer; }
 #under { margin: .25em .9em; min-height: 1.45em; font-size: .9em; }
-#hint { font-weight: 600; margin-right: .6em; }
+#hint:not(:empty) { font-weight: 600; margin-right: .6em; }
 #legend { margin: .2em .9em .5em; }
 #legend-items { display: flex; flex-wrap: wrap; gap: .3em 1.2em; padding: .3em 0; }
 #legend-items canvas { width: 44px; height: 18px; display: inline-block; vertical-align: middle; margin-right: .4em; }
@@ -56,6 +56,8 @@ canvas { display: block; width: 100%; touch-action: pan-y; }
 /* the panels */
 #columns { display: grid; grid-template-columns: minmax(18em, 1fr) minmax(17em, .9fr) minmax(24em, 1.35fr); gap: 0 1.6em; padding: 0 .9em 1em; align-items: start; }
 #columns > section { contain: layout style; min-width: 0; }
+#programs { max-height: 90vh; overflow-y: auto; }
+#programs > h2 { position: sticky; top: 0; margin-top: 0; padding-top: .9em; background: var(--paper); }
 code, ol.lines { font: 13px/1.55 ui-monospace, Menlo, Consolas, monospace; }
 code { background: var(--pale); padding: 0 .25em; border-radius: 3px; }
 ol.records, ol.lines { list-style: none; padding: 0; margin: 0; }
@@ -92,6 +94,8 @@ ol.lines li.ran { background: var(--mark); box-shadow: inset 4px 0 0 var(--mark-
   button, .bar, #under, #legend { display: none !important; }
   #scroller { max-height: none; overflow: visible; }
   #columns { display: block; }
+  #programs { max-height: none; overflow: visible; }
   tr, li { break-inside: avoid; }
+  h2, h3, caption { break-after: avoid; }
 }
 "##;
