@@ -241,9 +241,9 @@ has-here : (m : Seen) (e : Event) (es : List Event) (last : Option LastLine) (ru
 has-here m e es last rule of breaks =
     let numbered = numbered-first m.rules m.workload m.readings e last rule of breaks in
     record { later = omega (arith, numbered.number); named = none } where
-  none : FailsAt rule e.number m (e ∷ es) None → ⊥
-  none (inl found) = has-one m.rules m e last rule of breaks found.1
-  none (inr found) = found.0 refl
+      none : FailsAt rule e.number m (e ∷ es) None → ⊥
+      none (inl found) = has-one m.rules m e last rule of breaks found.1
+      none (inr found) = found.0 refl
 
 has-from : (m : Seen) (events : List Event) (place : ℕ) (e : Event) (last : Option LastLine) (rule : Rule) → is_of_records rule ≡ true
     → slice_get events place ≡ Some e → Steady m events place
