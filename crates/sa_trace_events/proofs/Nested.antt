@@ -23,6 +23,7 @@ use Rattle.sa_trace_events.specs.declared.slices.State.TheVariants as state
 use Rattle.sa_trace_events.specs.State.{context_after, same_space, same_act, same_context}
 use Rattle.sa_trace_events.specs.Slices.{is_work, shown_context, since, going_by, closed, closed_unless, slices_from, slices}
 use Rattle.sa_trace_events.specs.Laws.{LiesIn, in_activation}
+use Rattle.sa_trace_events.proofs.Itself.{space-itself, act-itself}
 
 -- a slice of a processor that goes on
 abbrev going : ℕ → ℕ → Context → Context → ℕ → Going
@@ -183,14 +184,6 @@ act-joins : (a b d : Option ActNo) → same_act a b ≡ true → same_act b d �
 act-joins None None None h g = refl
 act-joins (Some s) (Some u) (Some v) h g = eq-eqb s.0 v.0 (eqb-true s.0 u.0 h ∙ eqb-true u.0 v.0 g)
 act-joins _ _ _ h g = absurd (cc)
-
-space-itself : (a : Option SpaceNo) → same_space a a ≡ true
-space-itself None = refl
-space-itself (Some s) = eq-eqb s.0 s.0 refl
-
-act-itself : (a : Option ActNo) → same_act a a ≡ true
-act-itself None = refl
-act-itself (Some s) = eq-eqb s.0 s.0 refl
 
 some-space : (a b : Option SpaceNo) → is_some b ≡ true → same_space a b ≡ true → is_some a ≡ true
 some-space None None h g = absurd (cc)

@@ -11,7 +11,7 @@ use Rattle.sa_trace_events.specs.declared.touches.Index.{Index}
 use Rattle.sa_trace_events.specs.declared.touches.Touch.{Touch}
 use Rattle.sa_trace_events.specs.Arrows.{is_ready, is_run, begun_after, end_if, end_text, ends_from, ends_of}
 use Rattle.sa_trace_events.specs.Events.{names_thread}
-use Rattle.sa_trace_events.specs.Touches.{on_after, touches, clock_after, touch_of, touched_from, touched, nobody, IsIndexOf, touches_at}
+use Rattle.sa_trace_events.specs.Touches.{on_after, touches, clock_after, touch_of, touched_from, nobody, IsIndexOf, touches_at}
 use Rattle.sa_trace_events.specs.Whole.{thread_ends}
 use Rattle.sa_trace_events.proofs.Touched.{unnamed}
 use Rattle.sa_trace_events.proofs.Lists.{found}

@@ -1,6 +1,6 @@
--- An item that does not touch a track leaves it as it is, and is none of whose lines it has.
-use Rattle.std.proofs.Common.{◌≡◌, ◌≢◌, ℕ, Bool, true, false, ◌==◌, ◌&&◌, ◌||◌, if◌then◌else◌, ◌++◌, [], codes, Option, Some, None, ◌⊎◌, inl, inr, refl, sym, ◌∙◌, ap, subst, cond}
-use Rattle.std.proofs.lemmas.Bool.{false≢true, eqb-true, eq-eqb, ne_eqb, cases_Bool, cases_eq, and_left, or_parts, cond-true, cond-false, false_from_ne_true}
+-- An item that does not touch a track leaves it as it is, and adds no line.
+use Rattle.std.proofs.Common.{◌≡◌, ◌≢◌, ℕ, Bool, true, false, ◌==◌, ◌&&◌, if◌then◌else◌, ◌++◌, [], codes, Option, Some, None, ◌⊎◌, inl, inr, refl, sym, ◌∙◌, ap}
+use Rattle.std.proofs.lemmas.Bool.{false≢true, eqb-true, eq-eqb, cases_Bool, cases_eq, or_parts, false_from_ne_true}
 use Rattle.sa_lemmas.specs.Function.{put}
 use Rattle.sa_lemmas.proofs.FunctionUpdates.{put-at, put-other}
 use Rattle.sa_base.specs.declared.number.ProcNo.{ProcNo}
@@ -16,7 +16,7 @@ use Rattle.sa_trace_events.specs.declared.track.Level.TheVariants.{Owner, Activa
 use Rattle.sa_trace_events.specs.declared.track.Track.{Track}
 use Rattle.sa_trace_events.specs.declared.track.Track.TheVariants as track
 use Rattle.sa_trace_events.specs.declared.state.Doing.{Doing}
-use Rattle.sa_trace_events.specs.declared.state.Doing.TheVariants.{Unseen, Ready, Runs, Section, Stopped, Blocked, Returned, Hand, Away}
+use Rattle.sa_trace_events.specs.declared.state.Doing.TheVariants.{Ready, Runs, Section, Stopped, Blocked, Returned, Hand, Away}
 use Rattle.sa_trace_events.specs.declared.state.Context.{Context}
 use Rattle.sa_trace_events.specs.declared.state.Holder.{Holder}
 use Rattle.sa_trace_events.specs.declared.state.Holder.TheVariants.{Nobody}

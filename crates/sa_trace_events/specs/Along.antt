@@ -1,5 +1,5 @@
--- The text of a track, found along the items that may change it.
-use Rattle.std.specs.Prelude.{ℕ, Bool, true, false, ◌&&◌, List, [], ◌∷◌, ◌++◌, codes, nat_lt, if◌then◌else◌}
+-- The text of a track, along the items that touch it.
+use Rattle.std.specs.Prelude.{ℕ, Bool, ◌&&◌, List, [], ◌∷◌, ◌++◌, codes, nat_lt, if◌then◌else◌}
 use Rattle.sa_base.specs.declared.record.Item.{Item}
 use Rattle.sa_trace_events.specs.declared.track.Track.{Track}
 use Rattle.sa_trace_events.specs.declared.slices.Going.{Going}
@@ -16,14 +16,14 @@ unfoldable pub slice_by : Slice → List ℕ → List ℕ
 slice_by s lines =
     slice_head (category s.track) ++ state_name s.track s.shown ++ slice_times (pid_of s.track) (tid_of s.track) s.from s.to ++ lines ++ codes "]}}"
 
--- that of the slice that ends before this event and index
+-- that of the slice that ends before this event and index, unless it has no event or shows nothing
 abbrev pub closed_text : Track → Going → ℕ → ℕ → List ℕ → List ℕ
 closed_text t g to last lines =
     if nat_lt g.from to && is_shown t g.shown
     then slice_by (record { track = t; from = g.from; to = to; shown = g.shown; first = g.first; last = last }) lines
     else []
 
--- at an item, where the track goes on to show the same and where it does not: the slice that ends, and the lines of the one that goes on
+-- at an item: the slice that ends there, unless the track goes on to show the same, and the lines of the one that goes on
 abbrev pub text_unless : Bool → Track → Going → Touch → List ℕ → List ℕ
 text_unless same t g e lines = if same then [] else closed_text t g e.clock e.at lines
 

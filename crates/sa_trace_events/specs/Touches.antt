@@ -1,5 +1,5 @@
--- The items that may change a track. Tracks of a kind have numbers, and a record may change that of one number, and a thread that it stops
--- from running.
+-- The items that touch a track: those that may change it. Tracks of one kind have numbers. A record changes one of them at most, and beside
+-- it a thread that it stops from running.
 use Rattle.std.specs.Prelude.{◌≡◌, ℕ, ◌+◌, ◌-◌, ◌^◌, Bool, true, false, ◌==◌, ◌&&◌, ◌||◌, List, [], ◌∷◌, ◌++◌, Option, Some, None, length, map, max, min, slice_index_or, slice_set, replicate, if◌then◌else◌}
 use Rattle.sa_lemmas.specs.Function.{put}
 use Rattle.sa_base.specs.declared.number.SpaceNo.{SpaceNo}
@@ -96,14 +96,14 @@ clears (what.Up s a) = true
 clears what.Idle = true
 clears other = false
 
--- by processors, the number that its last such record named
+-- of each processor: the number that its last such record named
 abbrev pub on_at : List (Option ℕ) → ℕ → Option ℕ
 on_at on p = slice_index_or on p None
 
 abbrev pub on_after : Group → (ℕ → Option ℕ) → Item → ℕ → Option ℕ
 on_after g on i = if clears i.what then put on i.proc.0 (number_by g i) else on
 
--- the thread that a record stops from running, which it does not name: that was on its processor
+-- the thread that a record stops from running and does not name: the one that was on its processor
 abbrev pub other_than : Option ℕ → Option ℕ → Option ℕ
 other_than number None = None
 other_than number (Some m) = if is_number m number then None else Some m
@@ -112,11 +112,11 @@ abbrev pub left_by : Group → Option ℕ → Option ℕ → Record → Option �
 left_by (Threads s) number was r = if clears r then other_than number was else None
 left_by g number was r = None
 
--- an item touches these two tracks, and no others
+-- an item touches the track that it changes, and the thread that it stops
 abbrev pub touches : Group → ℕ → (ℕ → Option ℕ) → Item → Bool
 touches g n on i = is_number n (number_by g i) || is_number n (left_by g (number_by g i) (on i.proc.0) i.what)
 
--- the event from which on the tracks of a kind show what an item makes them show, and the one at which they are after it
+-- the event from which on tracks of this kind show what an item makes them show, and the one at which they are after it
 abbrev pub are_locks : Group → Bool
 are_locks (Locks s) = true
 are_locks g = false
@@ -150,7 +150,7 @@ nobody p = None
 abbrev pub touched : Group → ℕ → ℕ → List Item → List Touch
 touched g n begin items = touched_from g n nobody begin 0 items
 
--- the same of all tracks of a kind, found in one pass: each item is put into the lists of those that it touches
+-- the same of all tracks of a kind, found in one pass: each item goes into the lists of those that it touches
 abbrev pub pushed : Option ℕ → Touch → List (List Touch) → List (List Touch)
 pushed None e lists = lists
 pushed (Some n) e lists = slice_set lists n (slice_index_or lists n [] ++ e ∷ [])
@@ -167,7 +167,7 @@ lists_from g on clock k (i ∷ is) lists =
 abbrev pub lists_of : Group → ℕ → ℕ → List Item → List (List Touch)
 lists_of g begin count items = lists_from g nobody begin 0 items (replicate count [])
 
--- what is found of these items, for so many tracks
+-- what one pass over the items finds
 pub record IsIndexOf (g : Group) (begin : ℕ) (items : List Item) (index : Index) : Type 0 where
   pub lists : map (λ v. v.items) index.lists.items ≡ lists_of g begin (length index.lists.items) items
   pub clock : index.clock ≡ clock_from g begin items

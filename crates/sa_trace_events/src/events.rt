@@ -115,7 +115,7 @@ fn push_line(
     push_quoted(lines, &touch.item)
 }
 
-// Goes over an item that may change the track.
+// Goes over an item that touches the track.
 fn push_step(
     out: &mut Vec<u8>,
     lines: &mut Vec<u8>,
@@ -137,7 +137,7 @@ fn push_step(
     Ok(())
 }
 
-// Appends the slices of the track, which shows what it shows after all these items up to the event.
+// Appends the slices of the track along the items that touch it: the last one ends before this event and index.
 fn push_along(
     out: &mut Vec<u8>,
     alloc: Global,
@@ -157,7 +157,7 @@ fn push_along(
     push_closed(out, track, going, end, len, &lines)
 }
 
-/// Appends the slices of a track, of which the items that may change it were found.
+/// Appends the slices of a track.
 pub(crate) fn push_track(
     out: &mut Vec<u8>,
     alloc: Global,

@@ -1,14 +1,14 @@
-// The items that may change a track: of all tracks of a kind they are found in one pass, and each track goes over its own alone.
+// The items that touch a track: those that may change it. One pass finds those of all tracks of a kind, and each track goes over its own alone.
 ghost use Rattle.std.specs.Prelude.{◌≡◌, ◌<◌, [], IfOk, OnOk, length, map, replicate};
 ghost use Rattle.sa_lemmas.specs.Function.{put};
 ghost use Rattle.sa_trace_events.specs.Touches.{number_if, is_number, count_in, lock_in, among, thread_in, number_by, clears, on_at, on_after, other_than, left_by, are_locks, over_after, since_in, pushed, both_pushed, touches_at, IsIndexOf};
 
 use crate::slices::{is_block, is_free};
-use crate::track::{Count, Track};
+use crate::track::Count;
 use sa_base::{Item, ProcNo, Record, SpaceNo, ThreadNo};
 use std::alloc::{AllocError, Global};
 
-/// A kind of tracks, each of which has a number.
+/// Tracks of one kind: each has a number.
 #[derive(Clone, Copy)]
 pub enum Group {
     /// The processors, each with all its slices.
@@ -21,7 +21,7 @@ pub enum Group {
     Threads(SpaceNo),
 }
 
-/// An item that may change a track.
+/// An item that touches a track.
 #[derive(Clone, Copy)]
 pub struct Touch {
     /// Its index.
@@ -31,7 +31,7 @@ pub struct Touch {
     pub item: Item,
 }
 
-/// The items that may change the tracks of a kind.
+/// The items that touch the tracks of a kind.
 #[derive(Drop)]
 pub struct Index {
     /// By the numbers of the tracks.
@@ -40,7 +40,7 @@ pub struct Index {
     pub clock: u64,
 }
 
-// The number, in a record of the space.
+// The number, if this is so.
 fn number_if(is: bool, n: usize) -> Option<usize>
     ensures { result ≡ number_if is n }
 {
@@ -134,7 +134,7 @@ fn other_than(number: Option<usize>, was: Option<usize>) -> Option<usize>
 }
 
 impl Group {
-    // The number of the track that the item changes, if any.
+    // The number of the track that the item changes.
     fn number(self, item: &Item) -> Option<usize>
         ensures { result ≡ number_by self item.now }
     {
@@ -146,7 +146,7 @@ impl Group {
         }
     }
 
-    // The thread that the record stops from running, beside the one that it names.
+    // The thread that the record stops from running and does not name.
     fn left(self, number: Option<usize>, was: Option<usize>, what: &Record) -> Option<usize>
         ensures { result ≡ left_by self number was what.now }
     {
@@ -190,7 +190,7 @@ impl Group {
     }
 }
 
-// Which thread was on the processor.
+// The number that the last record named that cleared the processor.
 fn on_at(on: &[Option<usize>], p: ProcNo) -> Option<usize>
     ensures { result ≡ on_at on.now p.0 }
 {
@@ -200,7 +200,7 @@ fn on_at(on: &[Option<usize>], p: ProcNo) -> Option<usize>
     }
 }
 
-// Makes room up to the processor, for which no number was put yet.
+// Makes room up to the processor, if there is none yet.
 fn reach(on: &mut Vec<Option<usize>>, p: ProcNo) -> Result<(), AllocError>
     ensures room { OnOk result (p.0 < length on.new.items) }
     ensures same { OnOk result (on_at on.new.items ≡ on_at on.old.items) }
@@ -265,7 +265,7 @@ fn empty_lists(alloc: Global, count: usize) -> Result<Vec<Vec<Touch>>, AllocErro
     Ok(lists)
 }
 
-/// Finds the items that may change the tracks of a kind, of which there are so many.
+/// Finds the items that touch the tracks of a kind, from number 0 up to this count.
 pub(crate) fn index_of(
     alloc: Global,
     group: Group,
@@ -292,7 +292,7 @@ pub(crate) fn index_of(
 }
 
 impl Index {
-    /// The items that may change the track of this number.
+    /// Those that touch the track of this number.
     pub(crate) fn at(&self, n: usize) -> &[Touch]
         ensures { result.now ≡ touches_at self.now n }
     {
