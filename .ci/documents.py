@@ -1,6 +1,6 @@
 #!/usr/bin/env python3
 """What .ci/documents asks of the documents, a line for each check: where it stands, what is checked, and what is wrong with it, if anything.
-Usage: .ci/documents.py links | names | bodies | manuals, at the top of the repository"""
+Usage: .ci/documents.py links | names | bodies | manuals | above, at the top of the repository"""
 
 import functools
 import pathlib
@@ -8,7 +8,7 @@ import re
 import subprocess
 import sys
 
-CRATE = r"(?:sa|tests)_[a-z0-9_]*[a-z0-9]"
+CRATE = r"(?:sa|tests|toga)_[a-z0-9_]*[a-z0-9]"
 ITEM = r"(?:fn|struct|enum|trait|type|const|static|mod|union)"
 PAGES = sorted([pathlib.Path("README.md"), pathlib.Path("CHANGELOG.md"), *pathlib.Path("docs").glob("*.md"), *pathlib.Path("examples").rglob("*.md")])
 
@@ -122,7 +122,7 @@ def unfit(file, crate):
     if not crate.is_dir():
         return "no such crate"
     if file.suffix == ".patch":
-        folder = "crates" if "\n--- a/sa_" in f"\n{file.read_text()}" else crate
+        folder = "crates" if re.search(rf"^--- a/{CRATE}/", file.read_text(), re.M) else crate
         with file.open() as patch:
             tried = subprocess.run(["patch", "--dry-run", "-s", "-f", "-p1", "-d", folder], stdin=patch, stdout=subprocess.PIPE, text=True, check=False)
         return "" if tried.returncode == 0 else " ".join(tried.stdout.split())
@@ -159,7 +159,8 @@ def bodies():
     entry = r"^(\S+)(?:, by .*:\n)? +\S+ +\S+ +(\d+) tried.*?(?:(\d+) not yet)?$"
     for folder, tried, later in re.findall(entry, pathlib.Path("wrong-bodies/WHEN").read_text(), re.M):
         said[folder] = str(int(tried) + int(later or 0))
-    places = [*pathlib.Path("crates").glob("*/must-fail"), *pathlib.Path("wrong-bodies").glob("sa_*"), *pathlib.Path("wrong-bodies/above").glob("*")]
+    others = [it for it in pathlib.Path("wrong-bodies").iterdir() if it.is_dir() and it.name != "above"]
+    places = [*pathlib.Path("crates").glob("*/must-fail"), *others, *pathlib.Path("wrong-bodies/above").glob("*")]
     for place in sorted(places):
         crate = place.parent if place.name == "must-fail" else pathlib.Path("crates", place.name)
         files = sorted(it for it in place.iterdir() if it.suffix in (".edit", ".patch"))
@@ -190,4 +191,25 @@ def manuals():
             print(f"docs/{page}.1", f"option {word}", f"is not in {document}", sep="\t")
 
 
-{"links": links, "names": names, "bodies": bodies, "manuals": manuals}[sys.argv[1]]()
+def standing_on(crate, below):
+    """Returns the crate and all that stand on it, of crates with what is below each."""
+    found, more = set(), {crate}
+    while more:
+        found |= more
+        more = {it for it, names in below.items() if found.intersection(names)} - found
+    return found
+
+
+def above():
+    """Prints the crates of which CHANGING says how many stand on them: the page, the crate, and what is wrong with the number, if anything."""
+    crates = re.findall(r"^(\w+)[^:#\n]*:(.*)$", pathlib.Path("crates.txt").read_text(), re.M)
+    below = {name: names.split() for name, names in crates}
+    page = pathlib.Path("docs/CHANGING.md")
+    total, said = re.search(r"of (\d+) crates ([^.]*)\.", page.read_text()).groups()
+    print(page, "all", "" if int(total) == len(below) else f"there are {len(below)} crates")
+    for number, crate in re.findall(r"(\d+) for\s+`(\w+)`", said):
+        count = len(standing_on(crate, below))
+        print(page, crate, "" if int(number) == count else f"there are {count} on it")
+
+
+{"links": links, "names": names, "bodies": bodies, "manuals": manuals, "above": above}[sys.argv[1]]()
