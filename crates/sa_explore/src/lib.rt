@@ -7,9 +7,11 @@ mod begin;
 mod expand;
 mod orders;
 mod progress;
+mod results;
 mod runs;
 mod search;
 
-pub use orders::explore;
+pub use orders::{explore, explore_results};
 pub use progress::{NoProgress, Progress};
+pub use results::{Results, Told};
 pub use runs::replay;
