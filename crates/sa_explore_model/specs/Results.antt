@@ -1,5 +1,5 @@
 -- The results of a search: the states with an end, by what the runs that end there left. Bytes say what was left.
-use Rattle.std.specs.Prelude.{◌≡◌, ℕ, ◌<◌, ◌≤◌, Bool, false, List, ◌++◌, length, take, count_by, Option, Some, None, slice_get}
+use Rattle.std.specs.Prelude.{◌≡◌, ℕ, ◌+◌, ◌<◌, ◌≤◌, ◌⊎◌, Bool, false, List, [], ◌∷◌, ◌++◌, length, take, count_by, Option, Some, None, slice_get, slice_set}
 use Rattle.std.specs.Str.{bytes_eq}
 use Rattle.sa_base.specs.declared.number.ProcNo.{ProcNo}
 use Rattle.sa_explore_model.specs.Order.{ComesFirst}
@@ -9,6 +9,21 @@ pub record Grouped : Type 0 where
   pub key : List ℕ
   pub first : ℕ
   pub states : ℕ
+
+-- one more state with these bytes is counted: it is of a result that is there, or the first of a new one
+pub record IsOneMore (key : List ℕ) (old new : List Grouped) : Type 0 where
+  pub place : ℕ
+  pub group : Grouped
+  pub is : slice_get old place ≡ Some group
+  pub same : group.key ≡ key
+  pub after : new ≡ slice_set old place (record group { states = group.states + 1 })
+
+pub record IsFirstOfIts (key : List ℕ) (at : ℕ) (old new : List Grouped) : Type 0 where
+  pub absent : (i : ℕ) (g : Grouped) → slice_get old i ≡ Some g → g.key ≡ key → ⊥
+  pub after : new ≡ old ++ record { key = key; first = at; states = 1 } ∷ []
+
+abbrev pub Counts : List ℕ → ℕ → List Grouped → List Grouped → Type 0
+Counts key at old new = IsOneMore key old new ⊎ IsFirstOfIts key at old new
 
 -- bytes that may be there are these
 abbrev pub is_key : List ℕ → Option (List ℕ) → Bool
@@ -26,11 +41,11 @@ pub record AreGroups (keys : List (Option (List ℕ))) (n : ℕ) (groups : List 
   pub rise : (i j : ℕ) (g h : Grouped) → i < j → slice_get groups i ≡ Some g → slice_get groups j ≡ Some h → g.first < h.first
 
 -- `result m` is what runs that end at m left, none where they go on; `code` is its bytes
-module _ {M R : Type 0} (Way : List ProcNo → M → Type 0) (result : M → Option R) (code : R → List ℕ) where
-  abbrev pub is_result : R → Option R → Bool
-  is_result r None = false
-  is_result r (Some other) = bytes_eq (code r) (code other)
+abbrev pub is_result : {R : Type 0} → (R → List ℕ) → R → Option R → Bool
+is_result code r None = false
+is_result code r (Some other) = bytes_eq (code r) (code other)
 
+module _ {M R : Type 0} (Way : List ProcNo → M → Type 0) (result : M → Option R) (code : R → List ℕ) where
   -- SOUND. A schedule, after the turns `begun`, leads to a machine with this result.
   pub record LeadsToResult (begun : List ProcNo) (r : R) (schedule : List ProcNo) : Type 0 where
     pub turns : List ProcNo
@@ -47,4 +62,4 @@ module _ {M R : Type 0} (Way : List ProcNo → M → Type 0) (result : M → Opt
   pub record IsResult (begun : List ProcNo) (kept : List M) (r : R) (schedule : List ProcNo) (states : ℕ) : Type 0 where
     pub sound : LeadsToResult begun r schedule
     pub least : IsLeastOf begun r schedule
-    pub count : states ≡ count_by (λ m. is_result r (result m)) kept
+    pub count : states ≡ count_by (λ m. is_result code r (result m)) kept

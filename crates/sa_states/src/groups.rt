@@ -1,6 +1,7 @@
 // The states that have an end, by their results.
 ghost use Rattle.std.specs.Prelude.{◌≡◌, ◌≤◌, ◌<◌, All, OnOk};
-ghost use Rattle.sa_states.specs.Groups.{groups_of, counted};
+ghost use Rattle.sa_explore_model.specs.Results.{Counts};
+ghost use Rattle.sa_states.specs.Groups.{groups_of, place_of};
 
 use crate::MAX_STATES;
 use std::alloc::AllocError;
@@ -20,8 +21,7 @@ pub struct Group {
 pub fn count_one(groups: &mut Vec<Group>, key: Vec<u8>, at: u32) -> Result<(), AllocError>
     requires few { All (λ g. g.states ≤ at) groups.old.items }
     requires within { at < MAX_STATES }
-    ensures { OnOk result (groups_of groups.new.items
-        ≡ counted key.items at (groups_of groups.old.items)) }
+    ensures { OnOk result (Counts key.items at (groups_of groups.old.items) (groups_of groups.new.items)) }
 {
     match place_of(groups.as_slice(), key.as_slice()) {
         Some(place) => {
@@ -41,7 +41,7 @@ pub fn count_one(groups: &mut Vec<Group>, key: Vec<u8>, at: u32) -> Result<(), A
 
 // The place of the group with this key.
 fn place_of(groups: &[Group], key: &[u8]) -> Option<usize>
-    ensures { result ≡ place_of key.now (groups_of groups.now) }
+    ensures { result ≡ place_of key.now groups.now }
 {
     groups.iter().position(|group| group.key.as_slice() == key)
 }
