@@ -5,7 +5,7 @@ use crate::runs::replay;
 use crate::search::{Scope, Search};
 use sa_base::End;
 use sa_explore_model::{Found, MAX_RESULTS};
-use sa_keys::{Keyed, Outcome, outcome, outcome_key};
+use sa_keys::{Keyed, Outcome, left_by, outcome_key};
 use sa_states::{Group, count_one, schedule};
 use std::alloc::{AllocError, Global};
 
@@ -38,7 +38,7 @@ impl Search {
         let states = self.store.states();
         let turns = schedule(alloc, scope.begun.as_slice(), states, at as usize)?;
         let core = replay::<U>(alloc, &scope.workload, turns.as_slice())?;
-        let left = outcome(alloc, &core, scope.tell, end);
+        let left = left_by(alloc, &core, scope.tell, end);
         core.discard();
         left
     }

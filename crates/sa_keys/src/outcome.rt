@@ -26,7 +26,7 @@ pub struct Outcome {
 }
 
 /// What this run left, which ended so. Fails only where memory runs out.
-pub fn outcome<U: Keyed>(
+pub fn left_by<U: Keyed>(
     alloc: Global,
     core: &Core<U>,
     tell: Telling,
