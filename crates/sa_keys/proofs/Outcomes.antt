@@ -1,5 +1,5 @@
 -- The bytes of an outcome say it.
-use Rattle.std.proofs.Common.{◌≡◌, ℕ, List, [], ◌++◌, refl, sym, ap, ◌∙◌}
+use Rattle.std.proofs.Common.{◌≡◌, ℕ, List, [], ◌++◌, refl, sym, ap, ◌∙◌, append_assoc}
 use Rattle.sa_base.specs.declared.record.End.{End}
 use Rattle.sa_base.specs.declared.record.End.TheVariants.{AllDone, Stuck, Budget}
 use Rattle.sa_outlook.specs.declared.put.Put.{Put}
@@ -40,7 +40,7 @@ end-code d e r s same =
 pub outcomes-tell : KeysTellOutcomes
 outcomes-tell x y same =
     let cells = list (list number) in
-    let one = end-code x.end y.end (cells x.cells ++ list put_key x.outs) (cells y.cells ++ list put_key y.outs) same in
+    let one = end-code x.end y.end (cells x.cells ++ list put_key x.outs) (cells y.cells ++ list put_key y.outs) (simp append_assoc at same) in
     let two = list-code (list number) (list-code number number-code) x.cells y.cells (list put_key x.outs) (list put_key y.outs) one.1 in
     let three = list-code put_key put-code x.outs y.outs [] [] (ap (λ (l : List ℕ). l ++ []) two.1) in
     joined x.end y.end x.cells y.cells x.outs y.outs one.0 two.0 three.0

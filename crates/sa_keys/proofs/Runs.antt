@@ -31,7 +31,7 @@ use Rattle.sa_package_keys.specs.Values.{TellsValues}
 use Rattle.sa_package_keys.proofs.Codes.{list-code}
 use Rattle.sa_keys.specs.Outs.{put_key, look_key}
 use Rattle.sa_keys.proofs.PutLemmas.{put-code}
-use Rattle.sa_keys.specs.Laws.{KeysTellLooks}
+use Rattle.sa_keys.specs.Laws.{KeysTellOutlooks, KeysTellLooks}
 use Rattle.sa_keys.proofs.Outlooks.{key-tells}
 
 abbrev look_with : {U D : Type 0} → Outlook U D → List Put → Look U D
@@ -119,3 +119,7 @@ module _ {U C D : Type 0} (f : Calls U C) (plain : Option SpaceView → C → D)
   pub keys-tell-looks : IgnoresNumbers f plain IsMade → Keeps f stands → KeysTellLooks f plain user ctx
   keys-tell-looks ignores keeps tell m n of_m of_n workload same =
       looks-tell tell m n (of-run f plain IsMade ignores stands keeps m of_m) (of-run f plain IsMade ignores stands keeps n of_n) workload same
+
+  pub keys-tell-outlooks : IgnoresNumbers f plain IsMade → Keeps f stands → KeysTellOutlooks f plain user ctx
+  keys-tell-outlooks ignores keeps m n of_m of_n workload same =
+      between-tells m n (of-run f plain IsMade ignores stands keeps m of_m) (of-run f plain IsMade ignores stands keeps n of_n) workload same
