@@ -15,7 +15,7 @@ use sa_abstract::UserLevel;
 use sa_base::ProcNo;
 use sa_core::Core;
 use sa_explore_model::State;
-use sa_keys::{Keyed, key};
+use sa_keys::{Keyed, look_key};
 use sa_outlook::Telling;
 use sa_spaces::Workload;
 use std::alloc::{AllocError, Global};
@@ -51,7 +51,7 @@ fn make_turn<U: Keyed>(
 {
     core.turn(p)?;
     Ok(Tried {
-        key: key(alloc, core, tell)?,
+        key: look_key(alloc, core, tell)?,
         state: State {
             before: at,
             proc: p,

@@ -15,7 +15,7 @@ use sa_base::ProcNo;
 use sa_core::Core;
 use sa_explore_model::State;
 use sa_keys::laws::keys_tell_looks;
-use sa_keys::{Keyed, key};
+use sa_keys::{Keyed, look_key};
 use sa_outlook::Telling;
 use sa_spaces::Workload;
 use sa_states::Store;
@@ -68,7 +68,7 @@ impl Search {
             proc: ProcNo(0),
             end: end_at(core),
         };
-        store.arrive(key(alloc, core, scope.tell)?, first, 1)?;
+        store.arrive(look_key(alloc, core, scope.tell)?, first, 1)?;
         Ok(Search {
             store,
             nexts: Vec::new(alloc),
