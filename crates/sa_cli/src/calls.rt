@@ -128,10 +128,9 @@ pub fn run_one<S: Source, K: Sink, P: Progress>(
                 states,
                 user_level,
                 give,
-                results,
             },
         ) => Outcome::nothing(explore_text(
-            alloc, states, user_level, give, results, source, sink, progress,
+            alloc, states, user_level, give, source, sink, progress,
         )),
         Some(Command::Kernel { schedule, budget }) => {
             run_by_replies(alloc, schedule, budget, source, sink)

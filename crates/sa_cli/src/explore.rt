@@ -14,13 +14,10 @@ use crate::outcome::{Finding, Status};
 use crate::reading::read_workload;
 use crate::writing::written;
 use sa_base::PackageName;
-use sa_command::{GiveWord, ResultsWord};
+use sa_command::GiveWord;
 use sa_explore::Progress;
 use sa_explore_model::{Explored, Extent, Found};
-use sa_explore_run::{
-    Answer, ResultsAnswer, explored_text, result_by, results_text, search, search_results, workload_text,
-};
-use sa_keys::Telling;
+use sa_explore_run::{Answer, explored_text, search, workload_text};
 use sa_io::{Sink, Source};
 use sa_package::FastThreads;
 use sa_package_runs::laws::left_threads_wait;
@@ -43,7 +40,6 @@ pub(crate) fn explore_text<S: Source, K: Sink, P: Progress>(
     states: u32,
     user_level: PackageName,
     give: Option<GiveWord>,
-    results: Option<ResultsWord>,
     source: &mut S,
     sink: &mut K,
     progress: &mut P,
@@ -56,7 +52,7 @@ pub(crate) fn explore_text<S: Source, K: Sink, P: Progress>(
         ExploreAnswers states user_level give (told (streams source.old sink.old))
         (told (streams source.new sink.new)) result }
 {
-    match gone_through(alloc, states, user_level, give, results, source, progress) {
+    match gone_through(alloc, states, user_level, give, source, progress) {
         Ok(told) => written(sink, &told.text, Status::Explored(told.finding)),
         Err(status) => status,
     }
@@ -68,7 +64,6 @@ fn gone_through<S: Source, P: Progress>(
     states: u32,
     user_level: PackageName,
     give: Option<GiveWord>,
-    results: Option<ResultsWord>,
     source: &mut S,
     progress: &mut P,
 ) -> Result<Told, Status>
@@ -82,69 +77,10 @@ fn gone_through<S: Source, P: Progress>(
     ensures counted { S.faults source.old ≤ S.faults source.new }
 {
     let workload = read_workload(alloc, source)?;
-    if let Some(word) = results {
-        let told = results_of(alloc, states, user_level, give, word, &workload, progress)?;
-        return Ok(told);
-    }
     let answer = search_by(alloc, states, user_level, &workload, progress)?;
     let text = told_text(alloc, give, &workload, &answer)?;
     let finding = finding_of(&answer.explored);
     Ok(Told { text, finding })
-}
-
-// What is told of the search of a workload, with its results.
-fn results_of<P: Progress>(
-    alloc: Global,
-    states: u32,
-    user_level: PackageName,
-    give: Option<GiveWord>,
-    word: ResultsWord,
-    workload: &Workload,
-    progress: &mut P,
-) -> Result<Told, AllocError> {
-    let answer = results_by(alloc, states, user_level, word, workload, progress)?;
-    let text = results_told(alloc, give, workload, &answer)?;
-    let finding = finding_of(&answer.explored);
-    Ok(Told { text, finding })
-}
-
-// The search of a workload with this user level, with the results that the word tells apart.
-fn results_by<P: Progress>(
-    alloc: Global,
-    states: u32,
-    user_level: PackageName,
-    word: ResultsWord,
-    workload: &Workload,
-    progress: &mut P,
-) -> Result<ResultsAnswer, AllocError> {
-    let tell = match word {
-        ResultsWord::Cells => Telling::Cells,
-        ResultsWord::Outs => Telling::Outs,
-    };
-    match user_level {
-        PackageName::FastThreads => {
-            search_results::<FastThreads, P>(alloc, workload, states, tell, progress)
-        }
-        PackageName::Priorities => {
-            search_results::<PrioThreads, P>(alloc, workload, states, tell, progress)
-        }
-    }
-}
-
-// What is written of a search with its results.
-fn results_told(
-    alloc: Global,
-    give: Option<GiveWord>,
-    workload: &Workload,
-    answer: &ResultsAnswer,
-) -> Result<Vec<u8>, AllocError> {
-    match give {
-        None => results_text(alloc, answer),
-        Some(GiveWord::Result(number)) => {
-            workload_text(alloc, workload, result_by(&answer.results, number))
-        }
-        Some(word) => workload_text(alloc, workload, found_by(word, &answer.explored)),
-    }
 }
 
 // The search of a workload with this user level.
@@ -198,7 +134,6 @@ fn found_by(word: GiveWord, explored: &Explored) -> Option<&Found>
         GiveWord::AllDone => explored.all_done.as_ref(),
         GiveWord::Stuck => explored.stuck.as_ref(),
         GiveWord::Endless => explored.endless.as_ref(),
-        GiveWord::Result(_) => None,
     }
 }
 

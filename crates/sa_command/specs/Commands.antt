@@ -1,13 +1,11 @@
 -- The command language: a command's name, its argument, and options of two words each, in any order and each at
 -- most once.
-use Rattle.std.specs.Prelude.{ℕ, ◌&&◌, Bool, true, false, List, [], ◌∷◌, codes, Option, Some, None, option_and_then, unwrap_or, is_none, if◌then◌else◌}
+use Rattle.std.specs.Prelude.{ℕ, ◌&&◌, true, List, [], ◌∷◌, codes, Option, Some, None, option_and_then, unwrap_or, is_none, if◌then◌else◌}
 use Rattle.std.specs.Option.{option_map}
 use Rattle.std.specs.Str.{bytes_eq}
 use Rattle.sa_base.specs.declared.limits.TheConstants.{MAX_BURST, MAX_EVENTS, DEFAULT_BUDGET, DEFAULT_BURST}
 use Rattle.sa_command.specs.declared.command.ScheduleWord.TheVariants.{RoundRobin}
 use Rattle.sa_base.specs.declared.package.PackageName.TheVariants.{FastThreads}
-use Rattle.sa_command.specs.declared.command.GiveWord.{GiveWord}
-use Rattle.sa_command.specs.declared.command.GiveWord.TheVariants.{Result}
 use Rattle.sa_command.specs.declared.command.Command.{Command}
 use Rattle.sa_command.specs.declared.command.Command.TheVariants.{Run, Threads, Load, Migrate, Check, Vp, Debug, Explore, Kernel}
 use Rattle.sa_command.specs.declared.options.Options.{Options}
@@ -18,7 +16,7 @@ use Rattle.sa_states.specs.declared.TheConstants.{MAX_STATES}
 use Rattle.sa_text.specs.Number.{number_of}
 use Rattle.sa_base.specs.declared.package.RulesName.TheVariants as rules
 use Rattle.sa_base.specs.Package.{package_of, rules_word}
-use Rattle.sa_command.specs.Values.{number_within, schedule_of, give_of, results_of}
+use Rattle.sa_command.specs.Values.{number_within, schedule_of, give_of}
 
 -- the options: a name, and what its value may be
 --   --schedule   an order of turns; `rr` where it is left out
@@ -27,7 +25,6 @@ use Rattle.sa_command.specs.Values.{number_within, schedule_of, give_of, results
 --   --package    a user level, and for `check` rules; `fast` if it is left out
 --   --states     1 to the greatest number of states; the default number where it is left out
 --   --give       a schedule that is asked for; none where it is left out
---   --results    what results are told apart by; no results where it is left out
 abbrev pub with_schedule : Options → Settings → List ℕ → Option Settings
 with_schedule taken s value =
     if taken.schedule && is_none s.schedule then option_map (λ x. record s { schedule = Some x }) (schedule_of value) else None
@@ -52,10 +49,6 @@ abbrev pub with_give : Options → Settings → List ℕ → Option Settings
 with_give taken s value =
     if taken.give && is_none s.give then option_map (λ x. record s { give = Some x }) (give_of value) else None
 
-abbrev pub with_results : Options → Settings → List ℕ → Option Settings
-with_results taken s value =
-    if taken.results && is_none s.results then option_map (λ x. record s { results = Some x }) (results_of value) else None
-
 abbrev pub with_option : Options → Settings → List ℕ → List ℕ → Option Settings
 with_option taken s name value =
     if bytes_eq name (codes "--schedule") then with_schedule taken s value
@@ -63,8 +56,7 @@ with_option taken s name value =
     else (if bytes_eq name (codes "--burst") then with_burst taken s value
     else (if bytes_eq name (codes "--package") then with_package taken s value
     else (if bytes_eq name (codes "--states") then with_states taken s value
-    else (if bytes_eq name (codes "--give") then with_give taken s value
-    else (if bytes_eq name (codes "--results") then with_results taken s value else None))))))
+    else (if bytes_eq name (codes "--give") then with_give taken s value else None)))))
 
 -- the settings after these words, which come in pairs
 abbrev pub settings_of : Options → Settings → List (List ℕ) → Option Settings
@@ -73,7 +65,7 @@ settings_of taken s (word ∷ []) = None
 settings_of taken s (name ∷ value ∷ words) = option_and_then (λ t. settings_of taken t words) (with_option taken s name value)
 
 abbrev pub nothing_set : Settings
-nothing_set = record { schedule = None; budget = None; burst = None; user_level = None; states = None; give = None; results = None }
+nothing_set = record { schedule = None; budget = None; burst = None; user_level = None; states = None; give = None }
 
 abbrev pub set_by : Options → List (List ℕ) → Option Settings
 set_by taken words = settings_of taken nothing_set words
@@ -86,7 +78,7 @@ set_by taken words = settings_of taken nothing_set words
 --   check                     --package
 --   vp                        --schedule, --budget
 --   debug                     --budget
---   explore                   --states, --package, --give, --results; the number of a result only with --results
+--   explore                   --states, --package, --give
 --   kernel                    --schedule, --budget
 abbrev pub run_options : Options
 run_options = record NO_OPTIONS { schedule = true; budget = true; user_level = true }
@@ -101,7 +93,7 @@ abbrev pub budget_option : Options
 budget_option = record NO_OPTIONS { budget = true }
 
 abbrev pub explore_options : Options
-explore_options = record NO_OPTIONS { states = true; user_level = true; give = true; results = true }
+explore_options = record NO_OPTIONS { states = true; user_level = true; give = true }
 
 abbrev pub run_of : List (List ℕ) → Option Command
 run_of words =
@@ -136,18 +128,9 @@ abbrev pub debug_of : List (List ℕ) → Option Command
 debug_of words =
     option_map (λ s. Debug (unwrap_or s.budget DEFAULT_BUDGET)) (set_by budget_option words)
 
--- the schedule to a result is asked for
-abbrev pub asks_result : Option GiveWord → Bool
-asks_result (Some (Result number)) = true
-asks_result _ = false
-
-abbrev pub explore_by : Settings → Option Command
-explore_by s =
-    if asks_result s.give && is_none s.results then None
-    else Some (Explore (unwrap_or s.states DEFAULT_STATES) (unwrap_or s.user_level FastThreads) s.give s.results)
-
 abbrev pub explore_of : List (List ℕ) → Option Command
-explore_of words = option_and_then explore_by (set_by explore_options words)
+explore_of words =
+    option_map (λ s. Explore (unwrap_or s.states DEFAULT_STATES) (unwrap_or s.user_level FastThreads) s.give) (set_by explore_options words)
 
 abbrev pub kernel_of : List (List ℕ) → Option Command
 kernel_of words =

@@ -7,10 +7,7 @@ use Rattle.sa_base.specs.declared.limits.TheConstants.{MAX_EVENTS, MAX_PROCESSOR
 use Rattle.sa_command.specs.declared.command.ScheduleWord.{ScheduleWord}
 use Rattle.sa_command.specs.declared.command.ScheduleWord.TheVariants.{RoundRobin, Seed, Given, Hold}
 use Rattle.sa_command.specs.declared.command.GiveWord.{GiveWord}
-use Rattle.sa_command.specs.declared.command.GiveWord.TheVariants.{AllDone, Stuck, Endless, Result}
-use Rattle.sa_command.specs.declared.command.ResultsWord.{ResultsWord}
-use Rattle.sa_command.specs.declared.command.ResultsWord.TheVariants.{Cells, Outs}
-use Rattle.sa_explore_model.specs.declared.TheConstants.{MAX_RESULTS}
+use Rattle.sa_command.specs.declared.command.GiveWord.TheVariants.{AllDone, Stuck, Endless}
 
 -- a number from the one to the other
 abbrev pub within : ℕ → ℕ → ℕ → Option ℕ
@@ -53,13 +50,8 @@ schedule_of word =
     if bytes_eq word (codes "rr") then Some RoundRobin
     else (if bytes_eq word (codes "given") then Some Given else seeded_or_held word (behind (codes "seed:") word))
 
--- a word of a schedule that is asked for: `alldone`, `stuck`, `endless`, or the number of a result
+-- a word of a schedule that is asked for: `alldone`, `stuck` or `endless`
 abbrev pub give_of : List ℕ → Option GiveWord
 give_of word =
     if bytes_eq word (codes "alldone") then Some AllDone
-    else (if bytes_eq word (codes "stuck") then Some Stuck else (if bytes_eq word (codes "endless") then Some Endless
-    else option_map Result (number_within 1 MAX_RESULTS word)))
-
--- a word of what results are told apart by
-abbrev pub results_of : List ℕ → Option ResultsWord
-results_of word = if bytes_eq word (codes "cells") then Some Cells else (if bytes_eq word (codes "outs") then Some Outs else None)
+    else (if bytes_eq word (codes "stuck") then Some Stuck else (if bytes_eq word (codes "endless") then Some Endless else None))

@@ -22,17 +22,6 @@ pub enum GiveWord {
     Stuck,
     /// `endless`: the one to a state from which no order of turns ever ends.
     Endless,
-    /// The one to the result with this number, 1 to 1,000.
-    Result(u16),
-}
-
-/// By what the results of an exploration are told apart, beside their end.
-#[derive(Clone, Copy)]
-pub enum ResultsWord {
-    /// `cells`: by the final cells.
-    Cells,
-    /// `outs`: also by what each thread put out.
-    Outs,
 }
 
 /// What the program is asked to do.
@@ -73,13 +62,11 @@ pub enum Command {
         budget: u64,
     },
     /// Goes through every order of turns of the workload of standard input with this user level, and keeps at most that many
-    /// states, 1 to 10,000,000. If results are asked for, it tells the runs that end apart. If a schedule is asked for, the answer is the
-    /// workload with that schedule as its turn lines; one to a result is asked for only with results.
+    /// states, 1 to 10,000,000. Where a schedule is asked for, the answer is the workload with that schedule as its turn lines.
     Explore {
         states: u32,
         user_level: PackageName,
         give: Option<GiveWord>,
-        results: Option<ResultsWord>,
     },
     /// Runs the workload of standard input, step by step as the replies that follow it say, for at most that many events, 1 to
     /// 1,000,000.

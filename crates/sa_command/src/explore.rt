@@ -1,8 +1,8 @@
 // The command `explore`.
 ghost use Rattle.std.specs.Prelude.{◌≡◌, map, string_bytes};
-ghost use Rattle.sa_command.specs.Commands.{asks_result, explore_of};
+ghost use Rattle.sa_command.specs.Commands.{explore_of};
 
-use crate::command::{Command, GiveWord};
+use crate::command::Command;
 use crate::options::{NO_OPTIONS, Options, read_options};
 use sa_base::PackageName;
 
@@ -16,26 +16,14 @@ pub(crate) fn read_explore(words: &[String]) -> Option<Command>
         states: true,
         user_level: true,
         give: true,
-        results: true,
         ..NO_OPTIONS
     };
     let settings = read_options(taken, words)?;
-    if asks_result(settings.give) && settings.results.is_none() {
-        return None;
-    }
     Some(Command::Explore {
         states: settings.states.unwrap_or(DEFAULT_STATES),
         user_level: settings.user_level.unwrap_or(PackageName::FastThreads),
         give: settings.give,
-        results: settings.results,
     })
-}
-
-// Whether the schedule to a result is asked for.
-fn asks_result(give: Option<GiveWord>) -> bool
-    ensures { result ≡ asks_result give }
-{
-    matches!(give, Some(GiveWord::Result(_)))
 }
 
 /// The number of states where none is given. It does nothing.

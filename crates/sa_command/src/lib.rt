@@ -13,6 +13,6 @@ mod threads;
 mod value;
 mod vp;
 
-pub use command::{Command, GiveWord, ResultsWord, ScheduleWord};
+pub use command::{Command, GiveWord, ScheduleWord};
 pub use explore::{DEFAULT_STATES, default_states_are_these};
 pub use read::read_words;

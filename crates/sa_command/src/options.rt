@@ -1,8 +1,8 @@
 ghost use Rattle.std.specs.Prelude.{◌≡◌, false, map, string_bytes};
-ghost use Rattle.sa_command.specs.Commands.{with_schedule, with_budget, with_burst, with_package, with_states, with_give, with_results, with_option, settings_of, set_by};
+ghost use Rattle.sa_command.specs.Commands.{with_schedule, with_budget, with_burst, with_package, with_states, with_give, with_option, settings_of, set_by};
 
-use crate::command::{GiveWord, ResultsWord, ScheduleWord};
-use crate::value::{read_give, read_results, read_schedule, read_within};
+use crate::command::{GiveWord, ScheduleWord};
+use crate::value::{read_give, read_schedule, read_within};
 use sa_base::{MAX_BURST, MAX_EVENTS, PackageName, read_package};
 use sa_states::MAX_STATES;
 
@@ -15,7 +15,6 @@ pub(crate) struct Options {
     pub(crate) user_level: bool,
     pub(crate) states: bool,
     pub(crate) give: bool,
-    pub(crate) results: bool,
 }
 
 /// No option: a command says which it takes beside it.
@@ -26,7 +25,6 @@ pub(crate) const NO_OPTIONS: Options = Options {
     user_level: false,
     states: false,
     give: false,
-    results: false,
 };
 
 /// A command takes no option that it does not name. It does nothing.
@@ -38,7 +36,6 @@ pub(crate) fn no_options_are_taken()
       user_level = false;
       states = false;
       give = false;
-      results = false;
     } }
 {}
 
@@ -51,7 +48,6 @@ pub(crate) struct Settings {
     pub(crate) user_level: Option<PackageName>,
     pub(crate) states: Option<u32>,
     pub(crate) give: Option<GiveWord>,
-    pub(crate) results: Option<ResultsWord>,
 }
 
 /// What these words set of the options that are taken, or none where they are no such options.
@@ -65,7 +61,6 @@ pub(crate) fn read_options(taken: Options, words: &[String]) -> Option<Settings>
         user_level: None,
         states: None,
         give: None,
-        results: None,
     };
     read_settings(taken, nothing, words)
 }
@@ -105,9 +100,6 @@ fn with_option(taken: Options, settings: Settings, name: &str, value: &[u8]) -> 
     }
     if name == "--give" {
         return with_give(taken, settings, value);
-    }
-    if name == "--results" {
-        return with_results(taken, settings, value);
     }
     None
 }
@@ -182,18 +174,4 @@ fn with_give(taken: Options, settings: Settings, value: &[u8]) -> Option<Setting
     }
     let give = Some(read_give(value)?);
     Some(Settings { give, ..settings })
-}
-
-// The option `--results`.
-fn with_results(taken: Options, settings: Settings, value: &[u8]) -> Option<Settings>
-    ensures { result ≡ with_results taken settings value.now }
-{
-    if !taken.results || settings.results.is_some() {
-        return None;
-    }
-    let results = Some(read_results(value)?);
-    Some(Settings {
-        results,
-        ..settings
-    })
 }

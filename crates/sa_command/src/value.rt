@@ -1,9 +1,8 @@
 ghost use Rattle.std.specs.Prelude.{◌≡◌, ◌<◌, ◌==◌, length, position, IfSome};
-ghost use Rattle.sa_command.specs.Values.{number_within, hold_by_parts, hold_of, schedule_of, give_of, results_of};
+ghost use Rattle.sa_command.specs.Values.{number_within, hold_by_parts, hold_of, schedule_of, give_of};
 
-use crate::command::{GiveWord, ResultsWord, ScheduleWord};
+use crate::command::{GiveWord, ScheduleWord};
 use sa_base::{MAX_EVENTS, MAX_PROCESSORS, ProcNo};
-use sa_explore_model::MAX_RESULTS;
 use sa_text::read_number;
 
 /// The number that the word spells, where it is from `low` to `high`.
@@ -69,20 +68,6 @@ pub(crate) fn read_give(word: &[u8]) -> Option<GiveWord>
     }
     if word == b"endless".as_slice() {
         return Some(GiveWord::Endless);
-    }
-    let number = read_within(1, u64::from(MAX_RESULTS), word)?;
-    Some(GiveWord::Result(number as u16))
-}
-
-/// What the word tells results apart by.
-pub(crate) fn read_results(word: &[u8]) -> Option<ResultsWord>
-    ensures { result ≡ results_of word.now }
-{
-    if word == b"cells".as_slice() {
-        return Some(ResultsWord::Cells);
-    }
-    if word == b"outs".as_slice() {
-        return Some(ResultsWord::Outs);
     }
     None
 }

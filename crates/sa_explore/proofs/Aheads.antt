@@ -9,6 +9,7 @@ use Rattle.sa_spaces.specs.Workload.{WorkloadView}
 use Rattle.sa_abstract.specs.Calls.{Calls}
 use Rattle.sa_core_model.specs.Machine.{Machine}
 use Rattle.sa_core.specs.View.{CoreView, machine}
+use Rattle.sa_outlook.specs.Outlook.{Outlook}
 use Rattle.sa_explore_model.specs.declared.answer.State.{State}
 use Rattle.sa_explore_model.specs.Search.{way_to, AreLinked}
 use Rattle.sa_explore_model.proofs.Orders.{same-proc}
@@ -24,15 +25,15 @@ use Rattle.sa_explore.specs.declared.search.Scope.{Scope}
 use Rattle.sa_explore.specs.declared.search.Search.{Search}
 
 -- the first one that was made ahead, where it is the turn of this processor from this state
-pub front-tried : {U C O : Type 0} (f : Calls U C) (look : Machine U C → O) (code : O → List ℕ) (w : WorkloadView)
-    (turns : List ProcNo) (at : ℕ) (p : ProcNo) (ahead : List Tried) (t : Tried) → AreFrom f look code w turns at ahead → slice_get ahead 0 ≡ Some t
-    → t.state.before ≡ at → t.state.proc.0 ≡ p.0 → IsTried f look code w turns p at t.key.items t.state
-front-tried f look code w turns at p ahead t all is before proc =
+pub front-tried : {U C D : Type 0} (f : Calls U C) (plain : Option SpaceView → C → D) (code : Outlook U D → List ℕ) (w : WorkloadView)
+    (turns : List ProcNo) (at : ℕ) (p : ProcNo) (ahead : List Tried) (t : Tried) → AreFrom f plain code w turns at ahead → slice_get ahead 0 ≡ Some t
+    → t.state.before ≡ at → t.state.proc.0 ≡ p.0 → IsTried f plain code w turns p at t.key.items t.state
+front-tried f plain code w turns at p ahead t all is before proc =
     let within : 0 < length ahead = slice_get_within ahead 0 t is in
     let same : get_or ahead 0 t ≡ t = same_Some (get_or ahead 0 t) t (sym (slice_get-get_or ahead 0 t within) ∙ is) in
-    let tries : IsTried f look code w turns t.state.proc at t.key.items t.state =
-    subst (λ (x : Tried). x.state.before ≡ at → IsTried f look code w turns x.state.proc at x.key.items x.state) same (all 0 t within) before in
-    subst (λ (q : ProcNo). IsTried f look code w turns q at t.key.items t.state) (same-proc t.state.proc p proc) tries
+    let tries : IsTried f plain code w turns t.state.proc at t.key.items t.state =
+    subst (λ (x : Tried). x.state.before ≡ at → IsTried f plain code w turns x.state.proc at x.key.items x.state) same (all 0 t within) before in
+    subst (λ (q : ProcNo). IsTried f plain code w turns q at t.key.items t.state) (same-proc t.state.proc p proc) tries
 
 -- the turns of the run that is at hand
 pub some-run : {U C : Type 0} (f : Calls U C) (w : WorkloadView) (run : Option (CoreView U C)) (turns : List ProcNo) → IfSome run (IsRun f w turns)
@@ -40,19 +41,19 @@ pub some-run : {U C : Type 0} (f : Calls U C) (w : WorkloadView) (run : Option (
 some-run f w None turns is = tt
 some-run f w (Some core) turns is = (turns, is)
 
-module _ {U C O : Type 0} (f : Calls U C) (look : Machine U C → O) (code : O → List ℕ) (scope : Scope) where
+module _ {U C D : Type 0} (f : Calls U C) (plain : Option SpaceView → C → D) (code : Outlook U D → List ℕ) (scope : Scope) where
   abbrev Is : List State → Tried → Type 0
-  Is states tried = IsAhead f look code scope states tried
+  Is states tried = IsAhead f plain code scope states tried
 
   abbrev Are : List State → List Tried → Type 0
   Are states ahead = All (Is states) ahead
 
   abbrev Tries : List ProcNo → ProcNo → ℕ → Tried → Type 0
-  Tries turns p at tried = IsTried f look code scope.workload turns p at tried.key.items tried.state
+  Tries turns p at tried = IsTried f plain code scope.workload turns p at tried.key.items tried.state
 
   -- those from one state are turns after the turns to it
-  pub ahead-from : (search : Search) (turns : List ProcNo) (at : ℕ) → turns ≡ turns_to scope search at → AreAhead f look code scope search
-      → AreFrom f look code scope.workload turns at search.ahead.items
+  pub ahead-from : (search : Search) (turns : List ProcNo) (at : ℕ) → turns ≡ turns_to scope search at → AreAhead f plain code scope search
+      → AreFrom f plain code scope.workload turns at search.ahead.items
   ahead-from search turns at are all = λ k d within here. (
       let t : Tried = get_or search.ahead.items k d in
       let is : Tries (turns_to scope search t.state.before) t.state.proc t.state.before t = (all k d within).is in
@@ -90,7 +91,7 @@ module _ {U C O : Type 0} (f : Calls U C) (look : Machine U C → O) (code : O �
 
   -- a turn that was made is made beside other turns that were made ahead
   made-beside : (old beside new : Search) (at next : ℕ) (made : Bool) → states_of beside ≡ states_of old
-      → IsMade f look code scope made beside new at next → IsMade f look code scope made old new at next
+      → IsMade f plain code scope made beside new at next → IsMade f plain code scope made old new at next
   made-beside old beside new at next true same is = record {
     done = is.done;
     within = is.within;
@@ -100,14 +101,14 @@ module _ {U C O : Type 0} (f : Calls U C) (look : Machine U C → O) (code : O �
   made-beside old beside new at next false same is = is
 
   pub kept-beside : {E : Type 0} (old beside new : Search) (at next : ℕ) (result : Result Bool E) → states_of beside ≡ states_of old
-      → IfOk result (λ made. IsMade f look code scope made beside new at next)
-      → IfOk result (λ made. IsMade f look code scope made old new at next)
+      → IfOk result (λ made. IsMade f plain code scope made beside new at next)
+      → IfOk result (λ made. IsMade f plain code scope made old new at next)
   kept-beside old beside new at next (Ok made) same is = made-beside old beside new at next made same is
   kept-beside old beside new at next (Err e) same is = is
 
   -- THE TURN AHEAD from a state that is new
   made-ahead : (states : List State) (from : Machine U C) (to : ℕ) (t : Tried) → to < length states
-      → LeadTo f scope.workload (scope.begun.items ++ way_to states to) from → IsMadeFrom f look code from to t → Is states t
+      → LeadTo f scope.workload (scope.begun.items ++ way_to states to) from → IsMadeFrom f plain code from to t → Is states t
   made-ahead states from to t within leads made =
       let p : ProcNo = made.proc in
       let before : t.state.before ≡ to = ap (λ (s : State). s.before) made.made.state_is in
@@ -127,7 +128,7 @@ module _ {U C O : Type 0} (f : Calls U C) (look : Machine U C → O) (code : O �
       }
 
   -- a number that the next state has is that of a new one
-  fresh-states : (old new : Search) (at next most to : ℕ) (bytes : List ℕ) (s : State) → HasDone f look code scope old at next
+  fresh-states : (old new : Search) (at next most to : ℕ) (bytes : List ℕ) (s : State) → HasDone f plain code scope old at next
       → (store_of new.store, Some to) ≡ arrived most bytes s (store_of old.store) → to ≡ length (states_of old)
       → states_of new ≡ states_of old ++ s ∷ []
   fresh-states old new at next most to bytes s done is new_one = go (arrival most bytes s (store_of old.store) (store_of new.store) (Some to) is)
@@ -143,8 +144,8 @@ module _ {U C O : Type 0} (f : Calls U C) (look : Machine U C → O) (code : O �
       go (inr (inl fresh)) = ap (λ (x : StoreView). x.states) fresh.store
       go (inr (inr full)) = absurd (let wrong = full.to_is in cc)
 
-  module _ (old new : Search) (at next : ℕ) (done : HasDone f look code scope old at next) (within : at < length (states_of old))
-      (made : HasMade f look code scope old new at next) (turns : List ProcNo) (are : turns ≡ turns_to scope old at) where
+  module _ (old new : Search) (at next : ℕ) (done : HasDone f plain code scope old at next) (within : at < length (states_of old))
+      (made : HasMade f plain code scope old new at next) (turns : List ProcNo) (are : turns ≡ turns_to scope old at) where
     -- the turns to it are those to the state before it, and one more
     turns-on : (p : ProcNo) (s : State) → s.before ≡ at → s.proc ≡ p → states_of new ≡ states_of old ++ s ∷ []
         → turns_to scope new (length (states_of old)) ≡ turns ++ p ∷ []
@@ -160,9 +161,9 @@ module _ {U C O : Type 0} (f : Calls U C) (look : Machine U C → O) (code : O �
 
     -- what is kept ahead after a turn
     pub kept-ahead : (most to : ℕ) (bytes : List ℕ) (p : ProcNo) (s : State) (run : Option (CoreView U C)) (is_new : Bool) (xs : List Tried)
-        → IsTried f look code scope.workload turns p at bytes s → (store_of new.store, Some to) ≡ arrived most bytes s (store_of old.store)
+        → IsTried f plain code scope.workload turns p at bytes s → (store_of new.store, Some to) ≡ arrived most bytes s (store_of old.store)
         → (is_new ≡ true → to ≡ length (states_of old)) → IfSome run (IsRun f scope.workload (turns ++ p ∷ []))
-        → Are (states_of new) xs → IsMore f look code run is_new to xs new.ahead.items → AreAhead f look code scope new
+        → Are (states_of new) xs → IsMore f plain code run is_new to xs new.ahead.items → AreAhead f plain code scope new
     kept-ahead most to bytes p s run is_new xs tried is newest runs all (inl same) = subst (Are (states_of new)) (sym same) all
     kept-ahead most to bytes p s run is_new xs tried is newest runs all (inr one) =
         let next_one : to ≡ length (states_of old) = newest one.now in

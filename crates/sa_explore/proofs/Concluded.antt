@@ -8,8 +8,7 @@ use Rattle.sa_spaces.specs.Workload.{WorkloadView, IsWorkload}
 use Rattle.sa_abstract.specs.Calls.{Calls}
 use Rattle.sa_abstract.specs.Keeps.{Standing, Keeps}
 use Rattle.sa_core_model.specs.Machine.{Machine}
-use Rattle.sa_outlook.specs.declared.put.Telling.{Telling}
-use Rattle.sa_outlook.specs.Look.{Look, look_by}
+use Rattle.sa_outlook.specs.Outlook.{Outlook, outlook}
 use Rattle.sa_outlook.specs.UserLevels.{IgnoresNumbers}
 use Rattle.sa_explore_model.specs.declared.answer.Extent.{Extent}
 use Rattle.sa_explore_model.specs.declared.answer.Extent.TheVariants.{All, Part}
@@ -33,10 +32,10 @@ abbrev pub with_endless : Explored → Option Found → Explored
 with_endless x found = record x { endless = found }
 
 module _ {U C D : Type 0} (f : Calls U C) (plain : Option SpaceView → C → D) (IsMade : Option SpaceView → U → Type 0) (laws : IgnoresNumbers f plain IsMade)
-    (stands : Standing U C) (keep : Keeps f stands) (by : Telling) (code : Look U D → List ℕ) (scope : Scope) (ok : IsWorkload scope.workload)
+    (stands : Standing U C) (keep : Keeps f stands) (code : Outlook U D → List ℕ) (scope : Scope) (ok : IsWorkload scope.workload)
     (search : Search) (begins : IsBegun f scope.workload scope.begun.items) where
   abbrev Done : ℕ → ℕ → Type 0
-  Done at next = HasDone f (look_by plain by) code scope search at next
+  Done at next = HasDone f plain code scope search at next
 
   -- whether all were looked at, or not
   pub record IsOver (extent : Extent) (at : ℕ) : Type 0 where
@@ -45,9 +44,9 @@ module _ {U C D : Type 0} (f : Calls U C) (plain : Option SpaceView → C → D)
     pub done : Done at next
     pub first : extent ≡ All → (next ≡ 0) × (at ≡ length (states_of search))
     pub spent : extent ≡ Part
-        → IsFull f (look_by plain by) code scope done ⊎ HasMostEvents f (look_by plain by) code scope search at
+        → IsFull f plain code scope done ⊎ HasMostEvents f plain code scope search at
 
-  pub over-of : (extent : Extent) (at : ℕ) → HasStopped f (look_by plain by) code scope extent search at → IsOver extent at
+  pub over-of : (extent : Extent) (at : ℕ) → HasStopped f plain code scope extent search at → IsOver extent at
   over-of All at stopped = record {
     next = 0;
     some = omega arith;
@@ -83,7 +82,7 @@ module _ {U C D : Type 0} (f : Calls U C) (plain : Option SpaceView → C → D)
     depth-part Part part so = so.1
 
     -- a state to which the most events lead
-    far-of : x.depth ≡ length (way_to (states_of search) at) → HasMostEvents f (look_by plain by) code scope search at → IsFar f (look_by plain by) w begun x.depth
+    far-of : x.depth ≡ length (way_to (states_of search) at) → HasMostEvents f plain code scope search at → IsFar f plain w begun x.depth
     far-of depth far =
         let s = far.goes in
         let within = slice_get_within (states_of search) at s.0 s.1 in
@@ -96,17 +95,17 @@ module _ {U C D : Type 0} (f : Calls U C) (plain : Option SpaceView → C → D)
           long = sym depth;
           goes = sym (over.done.searching.search.ends at m.0 s.0 m.1 s.1) ∙ s.2;
           least = λ qs n way looks. subst (λ (k : ℕ). k ≤ length qs) (sym depth)
-              (way-least (look_by plain by) (end f) (IsWay f w begun) (IsOpenTurn f) w.processors Of
-              (runs-are-searched f plain IsMade laws stands keep w ok begun by) (no-budget f) (states_of search) over.done.searching.kept search.nexts.items
+              (way-least (outlook plain) (end f) (IsWay f w begun) (IsOpenTurn f) w.processors Of
+              (runs-are-searched f plain IsMade laws stands keep w ok begun) (no-budget f) (states_of search) over.done.searching.kept search.nexts.items
               at over.next over.done.searching.search over.some begun (with_endless x found) stopped is.done is.stuck is.size at m.0 m.1 qs n way looks);
           most = ap (λ (k : ℕ). length begun + k) depth ∙ far.most;
         }
 
-    spent-of : x.extent ≡ Part → ((x.states ≡ scope.most) × IsBeyond f (look_by plain by) w begun over.done.searching.kept x.depth) ⊎ IsFar f (look_by plain by) w begun x.depth
+    spent-of : x.extent ≡ Part → ((x.states ≡ scope.most) × IsBeyond f plain w begun over.done.searching.kept x.depth) ⊎ IsFar f plain w begun x.depth
     spent-of part =
         let depth : x.depth ≡ length (way_to (states_of search) at) = depth-part x.extent part stopped in
         elim (over.spent (sym is.extent_is ∙ part)) [
-          | inl full ↦ inl (is.size ∙ full.room, subst (λ (n : ℕ). IsBeyond f (look_by plain by) w begun over.done.searching.kept n) (sym depth) full.beyond)
+          | inl full ↦ inl (is.size ∙ full.room, subst (λ (n : ℕ). IsBeyond f plain w begun over.done.searching.kept n) (sym depth) full.beyond)
           | inr far ↦ inr (far-of depth far)
         ]
 
@@ -114,48 +113,48 @@ module _ {U C D : Type 0} (f : Calls U C) (plain : Option SpaceView → C → D)
     marks-by All endless_in = endless_in.marks
     marks-by Part endless_in = []
 
-    last-of : extent ≡ All → IsSearch (look_by plain by) (end f) (IsWay f w begun) (IsOpenTurn f) w.processors (states_of search) over.done.searching.kept
+    last-of : extent ≡ All → IsSearch (outlook plain) (end f) (IsWay f w begun) (IsOpenTurn f) w.processors (states_of search) over.done.searching.kept
         search.nexts.items (length (states_of search)) 0
     last-of all =
-        subst (λ (n : ℕ). IsSearch (look_by plain by) (end f) (IsWay f w begun) (IsOpenTurn f) w.processors (states_of search) over.done.searching.kept
+        subst (λ (n : ℕ). IsSearch (outlook plain) (end f) (IsWay f w begun) (IsOpenTurn f) w.processors (states_of search) over.done.searching.kept
         search.nexts.items (length (states_of search)) n) (over.first all).0
-        (subst (λ (k : ℕ). IsSearch (look_by plain by) (end f) (IsWay f w begun) (IsOpenTurn f) w.processors (states_of search) over.done.searching.kept
+        (subst (λ (k : ℕ). IsSearch (outlook plain) (end f) (IsWay f w begun) (IsOpenTurn f) w.processors (states_of search) over.done.searching.kept
         search.nexts.items k over.next) (over.first all).1 over.done.searching.search)
 
     endless-by : (e : Extent) (by : IsEndlessBy e scope search found) → e ≡ All
-        → IsSearch (look_by plain by) (end f) (IsWay f w begun) (IsOpenTurn f) w.processors (states_of search) over.done.searching.kept
+        → IsSearch (outlook plain) (end f) (IsWay f w begun) (IsOpenTurn f) w.processors (states_of search) over.done.searching.kept
         search.nexts.items (length (states_of search)) 0
-        → AreEndless (look_by plain by) (end f) (IsWay f w begun) (IsOpenTurn f) begun over.done.searching.kept (marks-by e by) found
+        → AreEndless (outlook plain) (end f) (IsWay f w begun) (IsOpenTurn f) begun over.done.searching.kept (marks-by e by) found
     endless-by Part by all last = absurd cc
     endless-by All by all last =
-        endless-of (look_by plain by) (end f) (IsWay f w begun) (IsOpenTurn f) w.processors Of
-        (runs-are-searched f plain IsMade laws stands keep w ok begun by) (states_of search) over.done.searching.kept search.nexts.items last
+        endless-of (outlook plain) (end f) (IsWay f w begun) (IsOpenTurn f) w.processors Of
+        (runs-are-searched f plain IsMade laws stands keep w ok begun) (states_of search) over.done.searching.kept search.nexts.items last
         begun by.marks by.are found by.first
 
     unknown-by : (e : Extent) → IsEndlessBy e scope search found → e ≡ Part → found ≡ None
     unknown-by All by part = absurd cc
     unknown-by Part by part = by
 
-    pub explored-of : IsExplored f (look_by plain by) w scope.most (with_endless x found)
+    pub explored-of : IsExplored f plain w scope.most (with_endless x found)
     explored-of = record {
       begun = begun;
       begins = begins;
-      sound = sound-of (look_by plain by) (end f) (IsWay f w begun) (IsOpenTurn f) w.processors Of
-          (runs-are-searched f plain IsMade laws stands keep w ok begun by) (no-budget f) (states_of search) over.done.searching.kept search.nexts.items
+      sound = sound-of (outlook plain) (end f) (IsWay f w begun) (IsOpenTurn f) w.processors Of
+          (runs-are-searched f plain IsMade laws stands keep w ok begun) (no-budget f) (states_of search) over.done.searching.kept search.nexts.items
           at over.next over.done.searching.search over.some begun (with_endless x found) stopped is.done is.stuck is.size;
-      least = least-of (look_by plain by) (end f) (IsWay f w begun) (IsOpenTurn f) w.processors Of
-          (runs-are-searched f plain IsMade laws stands keep w ok begun by) (no-budget f) (states_of search) over.done.searching.kept search.nexts.items
+      least = least-of (outlook plain) (end f) (IsWay f w begun) (IsOpenTurn f) w.processors Of
+          (runs-are-searched f plain IsMade laws stands keep w ok begun) (no-budget f) (states_of search) over.done.searching.kept search.nexts.items
           at over.next over.done.searching.search over.some begun (with_endless x found) stopped is.done is.stuck is.size;
-      complete = complete-of (look_by plain by) (end f) (IsWay f w begun) (IsOpenTurn f) w.processors Of
-          (runs-are-searched f plain IsMade laws stands keep w ok begun by) (no-budget f) (states_of search) over.done.searching.kept search.nexts.items
+      complete = complete-of (outlook plain) (end f) (IsWay f w begun) (IsOpenTurn f) w.processors Of
+          (runs-are-searched f plain IsMade laws stands keep w ok begun) (no-budget f) (states_of search) over.done.searching.kept search.nexts.items
           at over.next over.done.searching.search over.some begun (with_endless x found) stopped is.done is.stuck is.size;
       kept = over.done.searching.kept;
-      counted = counted-of (look_by plain by) (end f) (IsWay f w begun) (IsOpenTurn f) w.processors Of
-          (runs-are-searched f plain IsMade laws stands keep w ok begun by) (no-budget f) (states_of search) over.done.searching.kept search.nexts.items
+      counted = counted-of (outlook plain) (end f) (IsWay f w begun) (IsOpenTurn f) w.processors Of
+          (runs-are-searched f plain IsMade laws stands keep w ok begun) (no-budget f) (states_of search) over.done.searching.kept search.nexts.items
           at over.next over.done.searching.search over.some begun (with_endless x found) stopped is.done is.stuck is.size;
       few = (let size = is.size in let room = over.done.room in omega arith);
-      depth = depth-of (look_by plain by) (end f) (IsWay f w begun) (IsOpenTurn f) w.processors Of
-          (runs-are-searched f plain IsMade laws stands keep w ok begun by) (no-budget f) (states_of search) over.done.searching.kept search.nexts.items
+      depth = depth-of (outlook plain) (end f) (IsWay f w begun) (IsOpenTurn f) w.processors Of
+          (runs-are-searched f plain IsMade laws stands keep w ok begun) (no-budget f) (states_of search) over.done.searching.kept search.nexts.items
           at over.next over.done.searching.search over.some begun (with_endless x found) stopped is.done is.stuck is.size;
       spent = spent-of;
       marks = marks-by extent endless;

@@ -2,8 +2,9 @@
 use Rattle.std.specs.Prelude.{◌≡◌, ℕ, ◌+◌, ◌<◌, ◌≤◌, ◌⊎◌, Bool, true, false, List, ◌++◌, length, Option, Some, None, slice_get}
 use Rattle.sa_base.specs.declared.number.ProcNo.{ProcNo}
 use Rattle.sa_base.specs.declared.limits.TheConstants.{MAX_EVENTS}
+use Rattle.sa_spaces.specs.Space.{SpaceView}
 use Rattle.sa_abstract.specs.Calls.{Calls}
-use Rattle.sa_core_model.specs.Machine.{Machine}
+use Rattle.sa_outlook.specs.Outlook.{Outlook}
 use Rattle.sa_explore_model.specs.declared.answer.Extent.{Extent}
 use Rattle.sa_explore_model.specs.declared.answer.Extent.TheVariants.{All, Part}
 use Rattle.sa_explore_model.specs.declared.answer.State.{State}
@@ -27,17 +28,17 @@ turns_to scope search at = scope.begun.items ++ way_to (states_of search) at
 abbrev pub RunsGoOn : Search → ℕ → Type 0
 RunsGoOn search at = (s : State) × (slice_get (states_of search) at ≡ Some s) × (s.end ≡ None)
 
--- states are told apart by `look`, and `code` is the key of what they are told apart by
-module _ {U C O : Type 0} (f : Calls U C) (look : Machine U C → O) (code : O → List ℕ) (scope : Scope) where
+-- `code` is the key of an outlook
+module _ {U C D : Type 0} (f : Calls U C) (plain : Option SpaceView → C → D) (code : Outlook U D → List ℕ) (scope : Scope) where
   -- the next turn is that of processor `next` from state `at`, and there is room for the states
   pub record HasDone (search : Search) (at next : ℕ) : Type 0 where
-    pub searching : IsSearching f look code scope.workload scope.begun.items (store_of search.store) search.nexts.items at next
+    pub searching : IsSearching f plain code scope.workload scope.begun.items (store_of search.store) search.nexts.items at next
     pub room : length (states_of search) ≤ scope.most
 
   -- there is no room for where the turns of a state lead to
   pub record IsFull {search : Search} {at next : ℕ} (done : HasDone search at next) : Type 0 where
     pub room : length (states_of search) ≡ scope.most
-    pub beyond : IsBeyond f look scope.workload scope.begun.items done.searching.kept (length (way_to (states_of search) at))
+    pub beyond : IsBeyond f plain scope.workload scope.begun.items done.searching.kept (length (way_to (states_of search) at))
 
   -- runs go on at a state to which the most events lead
   pub record HasMostEvents (search : Search) (at : ℕ) : Type 0 where

@@ -4,8 +4,7 @@ ghost use Rattle.sa_base.specs.declared.number.ProcNo.{ProcNo};
 ghost use Rattle.sa_base.specs.declared.limits.TheConstants.{MAX_EVENTS};
 ghost use Rattle.sa_core_model.specs.Run.{CanTurn};
 ghost use Rattle.sa_core.specs.View.{machine};
-ghost use Rattle.sa_outlook.specs.Look.{look_by};
-ghost use Rattle.sa_keys.specs.Outs.{look_key};
+ghost use Rattle.sa_keys.specs.Key.{key_of};
 ghost use Rattle.sa_explore_runs.specs.Runs.{end, CanLead, IsOpen};
 ghost use Rattle.sa_explore_runs.specs.Searching.{IsTried};
 ghost use Rattle.sa_explore.specs.Ahead.{IsRun, IsMadeBy, IsMadeFrom, AreFrom, IsLater, IsMore};
@@ -15,8 +14,7 @@ use sa_abstract::UserLevel;
 use sa_base::ProcNo;
 use sa_core::Core;
 use sa_explore_model::State;
-use sa_keys::{Keyed, look_key};
-use sa_outlook::Telling;
+use sa_keys::{Keyed, key};
 use sa_spaces::Workload;
 use std::alloc::{AllocError, Global};
 use std::collections::VecDeque;
@@ -38,20 +36,19 @@ pub(crate) struct Turned<U: UserLevel> {
 fn make_turn<U: Keyed>(
     alloc: Global,
     core: &mut Core<U>,
-    tell: Telling,
     at: u32,
     p: ProcNo,
 ) -> Result<Tried, AllocError>
     requires goes { end U.calls (machine core.old) ≡ None }
     requires can { CanTurn U.calls (machine core.old) p }
     requires budget { core.old.budget ≡ MAX_EVENTS }
-    ensures made { IfOk result (λ tried. IsMadeBy U.calls (look_by U.plain tell) (look_key U.value_key U.context_key tell)
+    ensures made { IfOk result (λ tried. IsMadeBy U.calls U.plain (key_of U.value_key U.context_key)
         (machine core.old) (machine core.new) p at tried) }
     ensures budget { core.new.budget ≡ MAX_EVENTS }
 {
     core.turn(p)?;
     Ok(Tried {
-        key: look_key(alloc, core, tell)?,
+        key: key(alloc, core)?,
         state: State {
             before: at,
             proc: p,
@@ -64,7 +61,6 @@ fn make_turn<U: Keyed>(
 fn try_turn<U: Keyed>(
     alloc: Global,
     workload: &Workload,
-    tell: Telling,
     turns: &[ProcNo],
     at: u32,
     p: ProcNo,
@@ -73,13 +69,13 @@ fn try_turn<U: Keyed>(
     requires goes { IsOpen U.calls workload.now turns.now }
     requires within { p.0 < workload.now.processors }
     requires few { length turns.now < MAX_EVENTS }
-    ensures tried { IfOk result (λ turned. IsTried U.calls (look_by U.plain tell) (look_key U.value_key U.context_key tell)
+    ensures tried { IfOk result (λ turned. IsTried U.calls U.plain (key_of U.value_key U.context_key)
         workload.now turns.now p at turned.tried.key.items turned.tried.state) }
     ensures run { IfOk result (λ turned. IfSome turned.run (IsRun U.calls workload.now (turns.now ++ p ∷ []))) }
 {
     workload.ranges();
     let mut core = replay::<U>(alloc, workload, turns)?;
-    match make_turn::<U>(alloc, &mut core, tell, at, p) {
+    match make_turn::<U>(alloc, &mut core, at, p) {
         Ok(tried) => Ok(Turned {
             tried,
             run: Some(core),
@@ -109,7 +105,6 @@ fn take_ahead(ahead: &mut VecDeque<Tried>, at: u32, p: ProcNo) -> Option<Tried>
 pub(crate) fn turn_from<U: Keyed>(
     alloc: Global,
     workload: &Workload,
-    tell: Telling,
     ahead: &mut VecDeque<Tried>,
     turns: &[ProcNo],
     at: u32,
@@ -119,16 +114,16 @@ pub(crate) fn turn_from<U: Keyed>(
     requires goes { IsOpen U.calls workload.now turns.now }
     requires within { p.0 < workload.now.processors }
     requires few { length turns.now < MAX_EVENTS }
-    requires ahead { AreFrom U.calls (look_by U.plain tell) (look_key U.value_key U.context_key tell) workload.now
+    requires ahead { AreFrom U.calls U.plain (key_of U.value_key U.context_key) workload.now
         turns.now at ahead.old.items }
-    ensures tried { IfOk result (λ turned. IsTried U.calls (look_by U.plain tell) (look_key U.value_key U.context_key tell)
+    ensures tried { IfOk result (λ turned. IsTried U.calls U.plain (key_of U.value_key U.context_key)
         workload.now turns.now p at turned.tried.key.items turned.tried.state) }
     ensures run { IfOk result (λ turned. IfSome turned.run (IsRun U.calls workload.now (turns.now ++ p ∷ []))) }
     ensures rest { IsLater ahead.old.items ahead.new.items }
 {
     match take_ahead(ahead, at, p) {
         Some(tried) => Ok(Turned { tried, run: None }),
-        None => try_turn::<U>(alloc, workload, tell, turns, at, p),
+        None => try_turn::<U>(alloc, workload, turns, at, p),
     }
 }
 
@@ -136,20 +131,19 @@ pub(crate) fn turn_from<U: Keyed>(
 fn look_ahead<U: Keyed>(
     alloc: Global,
     workload: &Workload,
-    tell: Telling,
     core: &mut Core<U>,
     at: u32,
 ) -> Result<Option<Tried>, AllocError>
     requires run { (turns : List ProcNo) × IsRun U.calls workload.now turns core.old }
-    ensures { IfOk result (λ ahead. IfSome ahead (IsMadeFrom U.calls (look_by U.plain tell)
-        (look_key U.value_key U.context_key tell) (machine core.old) at)) }
+    ensures { IfOk result (λ ahead. IfSome ahead (IsMadeFrom U.calls U.plain
+        (key_of U.value_key U.context_key) (machine core.old) at)) }
 {
     workload.ranges();
     if core.end().is_some() {
         return Ok(None);
     }
     let last = ProcNo(workload.processors() - 1);
-    let tried = make_turn::<U>(alloc, core, tell, at, last)?;
+    let tried = make_turn::<U>(alloc, core, at, last)?;
     Ok(Some(tried))
 }
 
@@ -158,14 +152,13 @@ fn look_ahead<U: Keyed>(
 pub(crate) fn keep_ahead<U: Keyed>(
     alloc: Global,
     workload: &Workload,
-    tell: Telling,
     ahead: &mut VecDeque<Tried>,
     run: &mut Option<Core<U>>,
     is_new: bool,
     to: u32,
 ) -> Result<(), AllocError>
     requires run { IfSome run.old (λ core. (turns : List ProcNo) × IsRun U.calls workload.now turns core) }
-    ensures { OnOk result (IsMore U.calls (look_by U.plain tell) (look_key U.value_key U.context_key tell)
+    ensures { OnOk result (IsMore U.calls U.plain (key_of U.value_key U.context_key)
         run.old is_new to ahead.old.items ahead.new.items) }
 {
     let Some(core) = run else {
@@ -174,7 +167,7 @@ pub(crate) fn keep_ahead<U: Keyed>(
     if !is_new {
         return Ok(());
     }
-    if let Some(tried) = look_ahead::<U>(alloc, workload, tell, core, to)? {
+    if let Some(tried) = look_ahead::<U>(alloc, workload, core, to)? {
         ahead.push_back(tried)?;
     }
     Ok(())

@@ -1,7 +1,6 @@
 // What a search that stopped answers.
 ghost use Rattle.std.specs.Prelude.{◌≤◌, IfOk};
-ghost use Rattle.sa_outlook.specs.Look.{look_by};
-ghost use Rattle.sa_keys.specs.Outs.{look_key};
+ghost use Rattle.sa_keys.specs.Key.{key_of};
 ghost use Rattle.sa_explore_runs.specs.Runs.{IsBegun};
 ghost use Rattle.sa_explore.specs.Doing.{HasStopped, IsEndlessBy};
 ghost use Rattle.sa_explore.specs.Explored.{IsExplored};
@@ -21,7 +20,7 @@ impl Search {
         scope: &Scope,
         stopped: &StoppedSearch,
     ) -> Result<Option<Found>, AllocError>
-        requires stopped { HasStopped U.calls (look_by U.plain scope.now.tell) (look_key U.value_key U.context_key scope.now.tell)
+        requires stopped { HasStopped U.calls U.plain (key_of U.value_key U.context_key)
             scope.now stopped.now.extent self.now stopped.now.at }
         requires few { scope.now.most ≤ MAX_STATES }
         ensures { IfOk result (IsEndlessBy stopped.now.extent scope.now self.now) }
@@ -46,10 +45,10 @@ impl Search {
         stopped: &StoppedSearch,
     ) -> Result<Explored, AllocError>
         requires begins { IsBegun U.calls scope.now.workload scope.now.begun.items }
-        requires stopped { HasStopped U.calls (look_by U.plain scope.now.tell) (look_key U.value_key U.context_key scope.now.tell)
+        requires stopped { HasStopped U.calls U.plain (key_of U.value_key U.context_key)
             scope.now stopped.now.extent self.now stopped.now.at }
         requires few { scope.now.most ≤ MAX_STATES }
-        ensures { IfOk result (IsExplored U.calls (look_by U.plain scope.now.tell) scope.now.workload scope.now.most) }
+        ensures { IfOk result (IsExplored U.calls U.plain scope.now.workload scope.now.most) }
     {
         scope.workload.ranges();
         let endless = self.endless::<U>(alloc, scope, stopped)?;

@@ -1,8 +1,7 @@
 // All turns from a state, and from state to state.
 ghost use Rattle.std.specs.Prelude.{◌≡◌, ◌<◌, ◌≤◌, true, length, slice_get, Some, IsSome, IfOk};
 ghost use Rattle.sa_base.specs.declared.limits.TheConstants.{MAX_EVENTS};
-ghost use Rattle.sa_outlook.specs.Look.{look_by};
-ghost use Rattle.sa_keys.specs.Outs.{look_key};
+ghost use Rattle.sa_keys.specs.Key.{key_of};
 ghost use Rattle.sa_explore_model.specs.declared.answer.State.{State};
 ghost use Rattle.sa_explore_model.specs.Search.{AreLinked};
 ghost use Rattle.sa_explore.specs.Ahead.{AreAhead};
@@ -29,12 +28,12 @@ pub(crate) struct StoppedSearch {
 impl Search {
     // Passes over a state that has an end. Fails only where memory runs out.
     fn pass_over<U: Keyed>(&mut self, scope: &Scope, at: u32) -> Result<(), AllocError>
-        requires done { HasDone U.calls (look_by U.plain scope.now.tell) (look_key U.value_key U.context_key scope.now.tell) scope.now self.old at 0 }
-        requires ahead { AreAhead U.calls (look_by U.plain scope.now.tell) (look_key U.value_key U.context_key scope.now.tell) scope.now self.old }
+        requires done { HasDone U.calls U.plain (key_of U.value_key U.context_key) scope.now self.old at 0 }
+        requires ahead { AreAhead U.calls U.plain (key_of U.value_key U.context_key) scope.now self.old }
         requires ends { (s : State) × (slice_get (states_of self.old) at ≡ Some s) × IsSome s.end }
-        ensures made { IfOk result (λ _. AreMade U.calls (look_by U.plain scope.now.tell) (look_key U.value_key U.context_key scope.now.tell)
+        ensures made { IfOk result (λ _. AreMade U.calls U.plain (key_of U.value_key U.context_key)
             scope.now true self.new at) }
-        ensures ahead { IfOk result (λ _. AreAhead U.calls (look_by U.plain scope.now.tell) (look_key U.value_key U.context_key scope.now.tell)
+        ensures ahead { IfOk result (λ _. AreAhead U.calls U.plain (key_of U.value_key U.context_key)
             scope.now self.new) }
     {
         scope.workload.ranges();
@@ -52,14 +51,14 @@ impl Search {
         turns: &[ProcNo],
         at: u32,
     ) -> Result<bool, AllocError>
-        requires done { HasDone U.calls (look_by U.plain scope.now.tell) (look_key U.value_key U.context_key scope.now.tell) scope.now self.old at 0 }
-        requires ahead { AreAhead U.calls (look_by U.plain scope.now.tell) (look_key U.value_key U.context_key scope.now.tell) scope.now self.old }
+        requires done { HasDone U.calls U.plain (key_of U.value_key U.context_key) scope.now self.old at 0 }
+        requires ahead { AreAhead U.calls U.plain (key_of U.value_key U.context_key) scope.now self.old }
         requires goes { RunsGoOn self.old at }
         requires turns { turns.now ≡ turns_to scope.now self.old at }
         requires few { length turns.now < MAX_EVENTS }
-        ensures made { IfOk result (λ all. AreMade U.calls (look_by U.plain scope.now.tell) (look_key U.value_key U.context_key scope.now.tell)
+        ensures made { IfOk result (λ all. AreMade U.calls U.plain (key_of U.value_key U.context_key)
             scope.now all self.new at) }
-        ensures ahead { IfOk result (λ _. AreAhead U.calls (look_by U.plain scope.now.tell) (look_key U.value_key U.context_key scope.now.tell)
+        ensures ahead { IfOk result (λ _. AreAhead U.calls U.plain (key_of U.value_key U.context_key)
             scope.now self.new) }
     {
         scope.workload.ranges();
@@ -78,12 +77,12 @@ impl Search {
         scope: &Scope,
         at: u32,
     ) -> Result<bool, AllocError>
-        requires done { HasDone U.calls (look_by U.plain scope.now.tell) (look_key U.value_key U.context_key scope.now.tell) scope.now self.old at 0 }
-        requires ahead { AreAhead U.calls (look_by U.plain scope.now.tell) (look_key U.value_key U.context_key scope.now.tell) scope.now self.old }
+        requires done { HasDone U.calls U.plain (key_of U.value_key U.context_key) scope.now self.old at 0 }
+        requires ahead { AreAhead U.calls U.plain (key_of U.value_key U.context_key) scope.now self.old }
         requires within { at < length (states_of self.old) }
-        ensures made { IfOk result (λ all. AreMade U.calls (look_by U.plain scope.now.tell) (look_key U.value_key U.context_key scope.now.tell)
+        ensures made { IfOk result (λ all. AreMade U.calls U.plain (key_of U.value_key U.context_key)
             scope.now all self.new at) }
-        ensures ahead { IfOk result (λ _. AreAhead U.calls (look_by U.plain scope.now.tell) (look_key U.value_key U.context_key scope.now.tell)
+        ensures ahead { IfOk result (λ _. AreAhead U.calls U.plain (key_of U.value_key U.context_key)
             scope.now self.new) }
     {
         scope.workload.ranges();
@@ -120,10 +119,10 @@ impl Search {
         scope: &Scope,
         progress: &mut P,
     ) -> Result<StoppedSearch, AllocError>
-        requires done { HasDone U.calls (look_by U.plain scope.now.tell) (look_key U.value_key U.context_key scope.now.tell) scope.now self.old 0 0 }
-        requires ahead { AreAhead U.calls (look_by U.plain scope.now.tell) (look_key U.value_key U.context_key scope.now.tell) scope.now self.old }
+        requires done { HasDone U.calls U.plain (key_of U.value_key U.context_key) scope.now self.old 0 0 }
+        requires ahead { AreAhead U.calls U.plain (key_of U.value_key U.context_key) scope.now self.old }
         requires few { scope.now.most ≤ MAX_STATES }
-        ensures { IfOk result (λ stopped. HasStopped U.calls (look_by U.plain scope.now.tell) (look_key U.value_key U.context_key scope.now.tell)
+        ensures { IfOk result (λ stopped. HasStopped U.calls U.plain (key_of U.value_key U.context_key)
             scope.now stopped.extent self.new stopped.at) }
     {
         let mut at = 0;

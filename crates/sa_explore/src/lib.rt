@@ -7,11 +7,9 @@ mod begin;
 mod expand;
 mod orders;
 mod progress;
-mod results;
 mod runs;
 mod search;
 
-pub use orders::{explore, explore_results};
+pub use orders::explore;
 pub use progress::{NoProgress, Progress};
-pub use results::{Results, Told};
 pub use runs::replay;

@@ -1,9 +1,7 @@
 // The search.
 ghost use Rattle.std.specs.Prelude.{◌≡◌, ◌≤◌, length, take, IfOk};
 ghost use Rattle.sa_core.specs.View.{machine};
-ghost use Rattle.sa_outlook.specs.declared.put.Telling.TheVariants.{Cells};
-ghost use Rattle.sa_outlook.specs.Look.{look_by};
-ghost use Rattle.sa_keys.specs.Outs.{look_key};
+ghost use Rattle.sa_keys.specs.Key.{key_of};
 ghost use Rattle.sa_explore_runs.specs.Runs.{IsBegun, LeadTo};
 ghost use Rattle.sa_explore.specs.Ahead.{AreAhead};
 ghost use Rattle.sa_explore.specs.Doing.{HasDone};
@@ -11,11 +9,9 @@ ghost use Rattle.sa_explore.specs.Explored.{IsExplored};
 
 use crate::begin::{Begun, begin};
 use crate::progress::Progress;
-use crate::results::Results;
 use crate::search::{Scope, Search};
 use sa_explore_model::Explored;
 use sa_keys::Keyed;
-use sa_outlook::Telling;
 use sa_spaces::Workload;
 use sa_states::MAX_STATES;
 use std::alloc::{AllocError, Global};
@@ -25,7 +21,6 @@ fn start_at<U: Keyed>(
     alloc: Global,
     workload: &Workload,
     most: u32,
-    tell: Telling,
     first: &Begun<U>,
 ) -> Result<(Scope, Search), AllocError>
     requires some { 1 ≤ most }
@@ -35,10 +30,9 @@ fn start_at<U: Keyed>(
     ensures workload { IfOk result (λ started. started.0.workload ≡ workload.now) }
     ensures begins { IfOk result (λ started. IsBegun U.calls workload.now started.0.begun.items) }
     ensures most { IfOk result (λ started. started.0.most ≡ most) }
-    ensures tell { IfOk result (λ started. started.0.tell ≡ tell) }
-    ensures done { IfOk result (λ started. HasDone U.calls (look_by U.plain started.0.tell) (look_key U.value_key U.context_key started.0.tell)
+    ensures done { IfOk result (λ started. HasDone U.calls U.plain (key_of U.value_key U.context_key)
         started.0 started.1 0 0) }
-    ensures ahead { IfOk result (λ started. AreAhead U.calls (look_by U.plain started.0.tell) (look_key U.value_key U.context_key started.0.tell)
+    ensures ahead { IfOk result (λ started. AreAhead U.calls U.plain (key_of U.value_key U.context_key)
         started.0 started.1) }
 {
     let begun = &workload.turns()[..first.turns];
@@ -46,7 +40,6 @@ fn start_at<U: Keyed>(
         workload: workload.copy(alloc)?,
         begun: Vec::from_slice(alloc, begun)?,
         most,
-        tell,
     };
     let search = Search::start::<U>(alloc, &scope, &first.core)?;
     Ok((scope, search))
@@ -57,20 +50,18 @@ fn start_search<U: Keyed>(
     alloc: Global,
     workload: &Workload,
     most: u32,
-    tell: Telling,
 ) -> Result<(Scope, Search), AllocError>
     requires some { 1 ≤ most }
     ensures workload { IfOk result (λ started. started.0.workload ≡ workload.now) }
     ensures begins { IfOk result (λ started. IsBegun U.calls workload.now started.0.begun.items) }
     ensures most { IfOk result (λ started. started.0.most ≡ most) }
-    ensures tell { IfOk result (λ started. started.0.tell ≡ tell) }
-    ensures done { IfOk result (λ started. HasDone U.calls (look_by U.plain started.0.tell) (look_key U.value_key U.context_key started.0.tell)
+    ensures done { IfOk result (λ started. HasDone U.calls U.plain (key_of U.value_key U.context_key)
         started.0 started.1 0 0) }
-    ensures ahead { IfOk result (λ started. AreAhead U.calls (look_by U.plain started.0.tell) (look_key U.value_key U.context_key started.0.tell)
+    ensures ahead { IfOk result (λ started. AreAhead U.calls U.plain (key_of U.value_key U.context_key)
         started.0 started.1) }
 {
     let first = begin::<U>(alloc, workload)?;
-    let started = start_at::<U>(alloc, workload, most, tell, &first);
+    let started = start_at::<U>(alloc, workload, most, &first);
     let Begun { core, turns: _ } = first;
     core.discard();
     started
@@ -86,27 +77,9 @@ pub fn explore<U: Keyed, P: Progress>(
 ) -> Result<Explored, AllocError>
     requires some { 1 ≤ most }
     requires few { most ≤ MAX_STATES }
-    ensures { IfOk result (IsExplored U.calls (look_by U.plain Cells) workload.now most) }
+    ensures { IfOk result (IsExplored U.calls U.plain workload.now most) }
 {
-    let (scope, mut search) = start_search::<U>(alloc, workload, most, Telling::Cells)?;
+    let (scope, mut search) = start_search::<U>(alloc, workload, most)?;
     let stopped = search.go_through::<U, P>(alloc, &scope, progress)?;
     search.answer::<U>(alloc, &scope, &stopped)
-}
-
-/// The same, with the results of the runs that end, which are told apart so.
-pub fn explore_results<U: Keyed, P: Progress>(
-    alloc: Global,
-    workload: &Workload,
-    most: u32,
-    tell: Telling,
-    progress: &mut P,
-) -> Result<(Explored, Results), AllocError>
-    requires some { 1 ≤ most }
-    requires few { most ≤ MAX_STATES }
-{
-    let (scope, mut search) = start_search::<U>(alloc, workload, most, tell)?;
-    let stopped = search.go_through::<U, P>(alloc, &scope, progress)?;
-    let explored = search.answer::<U>(alloc, &scope, &stopped)?;
-    let results = search.results::<U>(alloc, &scope)?;
-    Ok((explored, results))
 }

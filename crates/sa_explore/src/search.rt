@@ -2,8 +2,7 @@
 ghost use Rattle.std.specs.Prelude.{◌≡◌, ◌<◌, ◌≤◌, [], ◌∷◌, ◌++◌, length, IfOk, IfSome};
 ghost use Rattle.sa_base.specs.declared.limits.TheConstants.{MAX_EVENTS};
 ghost use Rattle.sa_core.specs.View.{machine};
-ghost use Rattle.sa_outlook.specs.Look.{look_by};
-ghost use Rattle.sa_keys.specs.Outs.{look_key};
+ghost use Rattle.sa_keys.specs.Key.{key_of};
 ghost use Rattle.sa_explore_runs.specs.Runs.{LeadTo};
 ghost use Rattle.sa_explore_runs.specs.Searching.{IsTried};
 ghost use Rattle.sa_explore.specs.Ahead.{IsRun, AreAhead};
@@ -14,9 +13,8 @@ use crate::runs::end_at;
 use sa_base::ProcNo;
 use sa_core::Core;
 use sa_explore_model::State;
-use sa_keys::laws::keys_tell_looks;
-use sa_keys::{Keyed, look_key};
-use sa_outlook::Telling;
+use sa_keys::laws::keys_tell_outlooks;
+use sa_keys::{Keyed, key};
 use sa_spaces::Workload;
 use sa_states::Store;
 use std::alloc::{AllocError, Global};
@@ -30,8 +28,6 @@ pub(crate) struct Scope {
     pub(crate) begun: Vec<ProcNo>,
     /// How many states are kept at most, 1 to 10,000,000.
     pub(crate) most: u32,
-    /// By what the runs that end are told apart.
-    pub(crate) tell: Telling,
 }
 
 /// What a search has come to.
@@ -55,12 +51,12 @@ impl Search {
     ) -> Result<Search, AllocError>
         requires some { 1 ≤ scope.now.most }
         requires leads { LeadTo U.calls scope.now.workload scope.now.begun.items (machine core.now) }
-        ensures done { IfOk result (λ search. HasDone U.calls (look_by U.plain scope.now.tell) (look_key U.value_key U.context_key scope.now.tell)
+        ensures done { IfOk result (λ search. HasDone U.calls U.plain (key_of U.value_key U.context_key)
             scope.now search 0 0) }
-        ensures ahead { IfOk result (λ search. AreAhead U.calls (look_by U.plain scope.now.tell) (look_key U.value_key U.context_key scope.now.tell)
+        ensures ahead { IfOk result (λ search. AreAhead U.calls U.plain (key_of U.value_key U.context_key)
             scope.now search) }
     {
-        keys_tell_looks::<U>();
+        keys_tell_outlooks::<U>();
         scope.workload.ranges();
         let mut store = Store::new(alloc);
         let first = State {
@@ -68,7 +64,7 @@ impl Search {
             proc: ProcNo(0),
             end: end_at(core),
         };
-        store.arrive(look_key(alloc, core, scope.tell)?, first, 1)?;
+        store.arrive(key(alloc, core)?, first, 1)?;
         Ok(Search {
             store,
             nexts: Vec::new(alloc),
@@ -88,20 +84,20 @@ impl Search {
         tried: Tried,
         run: &mut Option<Core<U>>,
     ) -> Result<bool, AllocError>
-        requires done { HasDone U.calls (look_by U.plain scope.now.tell) (look_key U.value_key U.context_key scope.now.tell) scope.now self.old at p.0 }
-        requires ahead { AreAhead U.calls (look_by U.plain scope.now.tell) (look_key U.value_key U.context_key scope.now.tell) scope.now self.old }
+        requires done { HasDone U.calls U.plain (key_of U.value_key U.context_key) scope.now self.old at p.0 }
+        requires ahead { AreAhead U.calls U.plain (key_of U.value_key U.context_key) scope.now self.old }
         requires within { p.0 < scope.now.workload.processors }
         requires goes { RunsGoOn self.old at }
         requires turns { turns.now ≡ turns_to scope.now self.old at }
-        requires tried { IsTried U.calls (look_by U.plain scope.now.tell) (look_key U.value_key U.context_key scope.now.tell)
+        requires tried { IsTried U.calls U.plain (key_of U.value_key U.context_key)
             scope.now.workload turns.now p at tried.key.items tried.state }
         requires run { IfSome run.old (IsRun U.calls scope.now.workload (turns.now ++ p ∷ [])) }
-        ensures made { IfOk result (λ made. IsMade U.calls (look_by U.plain scope.now.tell) (look_key U.value_key U.context_key scope.now.tell)
+        ensures made { IfOk result (λ made. IsMade U.calls U.plain (key_of U.value_key U.context_key)
             scope.now made self.old self.new at p.0) }
-        ensures ahead { IfOk result (λ _. AreAhead U.calls (look_by U.plain scope.now.tell) (look_key U.value_key U.context_key scope.now.tell)
+        ensures ahead { IfOk result (λ _. AreAhead U.calls U.plain (key_of U.value_key U.context_key)
             scope.now self.new) }
     {
-        keys_tell_looks::<U>();
+        keys_tell_outlooks::<U>();
         scope.workload.ranges();
         let states = self.store.states().len();
         let Some(to) = self.store.arrive(tried.key, tried.state, scope.most)? else {
@@ -109,7 +105,7 @@ impl Search {
         };
         self.nexts.push(to)?;
         let is_new = to as usize == states;
-        keep_ahead::<U>(alloc, &scope.workload, scope.tell, &mut self.ahead, run, is_new, to)?;
+        keep_ahead::<U>(alloc, &scope.workload, &mut self.ahead, run, is_new, to)?;
         Ok(true)
     }
 
@@ -123,15 +119,15 @@ impl Search {
         at: u32,
         p: ProcNo,
     ) -> Result<bool, AllocError>
-        requires done { HasDone U.calls (look_by U.plain scope.now.tell) (look_key U.value_key U.context_key scope.now.tell) scope.now self.old at p.0 }
-        requires ahead { AreAhead U.calls (look_by U.plain scope.now.tell) (look_key U.value_key U.context_key scope.now.tell) scope.now self.old }
+        requires done { HasDone U.calls U.plain (key_of U.value_key U.context_key) scope.now self.old at p.0 }
+        requires ahead { AreAhead U.calls U.plain (key_of U.value_key U.context_key) scope.now self.old }
         requires within { p.0 < scope.now.workload.processors }
         requires goes { RunsGoOn self.old at }
         requires turns { turns.now ≡ turns_to scope.now self.old at }
         requires few { length turns.now < MAX_EVENTS }
-        ensures made { IfOk result (λ made. IsMade U.calls (look_by U.plain scope.now.tell) (look_key U.value_key U.context_key scope.now.tell)
+        ensures made { IfOk result (λ made. IsMade U.calls U.plain (key_of U.value_key U.context_key)
             scope.now made self.old self.new at p.0) }
-        ensures ahead { IfOk result (λ _. AreAhead U.calls (look_by U.plain scope.now.tell) (look_key U.value_key U.context_key scope.now.tell)
+        ensures ahead { IfOk result (λ _. AreAhead U.calls U.plain (key_of U.value_key U.context_key)
             scope.now self.new) }
     {
         scope.workload.ranges();
@@ -139,7 +135,6 @@ impl Search {
         let Turned { tried, mut run } = turn_from::<U>(
             alloc,
             &scope.workload,
-            scope.tell,
             ahead,
             turns,
             at,

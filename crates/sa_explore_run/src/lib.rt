@@ -7,15 +7,11 @@ mod history;
 mod line;
 mod printing;
 mod replayed;
-mod results;
-mod results_text;
 mod run;
 mod waiting;
 mod workload;
 
 pub use printing::explored_text;
-pub use results::{ResultsAnswer, result_by, search_results};
-pub use results_text::results_text;
 pub use run::{Answer, search};
 pub use waiting::waits_behind;
 pub use workload::workload_text;

@@ -27,8 +27,8 @@ pub fn explored_text(
     Ok(out)
 }
 
-/// Appends the line that says how much was looked at.
-pub(crate) fn push_extent(out: &mut Vec<u8>, explored: &Explored) -> Result<(), AllocError>
+// Appends the line that says how much was looked at.
+fn push_extent(out: &mut Vec<u8>, explored: &Explored) -> Result<(), AllocError>
     ensures { OnOk result (out.new.items ≡ out.old.items ++ extent_line explored.now) }
 {
     let word: &[u8] = match explored.extent {
@@ -39,8 +39,8 @@ pub(crate) fn push_extent(out: &mut Vec<u8>, explored: &Explored) -> Result<(), 
     push_line(out, word, &numbers)
 }
 
-/// Appends the lines of what was found, if anything was.
-pub(crate) fn push_found(out: &mut Vec<u8>, word: &[u8], found: Option<&Found>) -> Result<(), AllocError>
+// Appends the lines of what was found, if anything was.
+fn push_found(out: &mut Vec<u8>, word: &[u8], found: Option<&Found>) -> Result<(), AllocError>
     ensures { OnOk result (out.new.items ≡ out.old.items ++ found_if word.now (option_copied found.entry)) }
 {
     match found {
@@ -58,8 +58,8 @@ fn push_one(out: &mut Vec<u8>, word: &[u8], found: &Found) -> Result<(), AllocEr
     push_given(out, &found.schedule)
 }
 
-/// Appends a line for each of these threads.
-pub(crate) fn push_waits(out: &mut Vec<u8>, waits: &[Wait]) -> Result<(), AllocError>
+// Appends a line for each of these threads.
+fn push_waits(out: &mut Vec<u8>, waits: &[Wait]) -> Result<(), AllocError>
     ensures { OnOk result (out.new.items ≡ out.old.items ++ flat_map wait_text waits.now) }
 {
     for wait in waits {

@@ -13,8 +13,7 @@ use Rattle.sa_abstract.specs.Calls.{Calls}
 use Rattle.sa_abstract.specs.Keeps.{Standing, Keeps}
 use Rattle.sa_core_model.specs.Machine.{Machine}
 use Rattle.sa_core_model.specs.Run.{opening}
-use Rattle.sa_outlook.specs.declared.put.Telling.{Telling}
-use Rattle.sa_outlook.specs.Look.{Look, look_by}
+use Rattle.sa_outlook.specs.Outlook.{Outlook, outlook}
 use Rattle.sa_outlook.specs.UserLevels.{IgnoresNumbers}
 use Rattle.sa_explore_model.specs.declared.answer.State.{State}
 use Rattle.sa_explore_model.specs.Search.{way_to, IsSearch}
@@ -23,7 +22,7 @@ use Rattle.sa_explore_model.proofs.Steps.{search-first, search-known, search-new
 use Rattle.sa_states.specs.Store.{StoreView, with_state, arrived_by, arrived}
 use Rattle.sa_explore_runs.specs.Runs.{end, IsOpenTurn, LeadTo, IsWay}
 use Rattle.sa_explore_runs.specs.Searching.{KeysTell, key_at, IsTried, IsSearching}
-use Rattle.sa_explore_runs.proofs.Turns.{turns-one, turns-join, run-of, of-lead, leads-look}
+use Rattle.sa_explore_runs.proofs.Turns.{turns-one, turns-join, run-of, of-lead, leads-alike}
 use Rattle.sa_explore_runs.proofs.Systems.{nil-end}
 
 -- WHAT AN ARRIVAL IS: of a state that is kept, of a new one, or of one for which there is no room.
@@ -94,13 +93,13 @@ cases_bytes bytes other = go (bytes_eq bytes other) refl
     go false apart = inr apart
 
 module _ {U C D : Type 0} (f : Calls U C) (plain : Option SpaceView → C → D) (IsMade : Option SpaceView → U → Type 0) (laws : IgnoresNumbers f plain IsMade)
-    (stands : Standing U C) (keep : Keeps f stands) (by : Telling) (code : Look U D → List ℕ) (tell : KeysTell f (look_by plain by) code)
+    (stands : Standing U C) (keep : Keeps f stands) (code : Outlook U D → List ℕ) (tell : KeysTell f plain code)
     (w : WorkloadView) (ok : IsWorkload w) (begun : List ProcNo) where
   abbrev Searching : StoreView → List ℕ → ℕ → ℕ → Type 0
-  Searching store nexts at next = IsSearching f (look_by plain by) code w begun store nexts at next
+  Searching store nexts at next = IsSearching f plain code w begun store nexts at next
 
   abbrev key : Machine U C → List ℕ
-  key m = key_at f (look_by plain by) code w m
+  key m = key_at f plain code w m
 
   -- THE FIRST STATE
   pub searching-first : (m : Machine U C) (s : State) (store empty : StoreView) (bytes : List ℕ) (to : Option ℕ) → LeadTo f w begun m → s.end ≡ end f m
@@ -130,8 +129,8 @@ module _ {U C D : Type 0} (f : Calls U C) (plain : Option SpaceView → C → D)
           let number : x.number ≡ (with_state bytes s empty).number = ap (λ (z : StoreView). z.number) same in (
             record {
               kept = m ∷ [];
-              search = subst (λ (xs : List State). IsSearch (look_by plain by) (end f) (IsWay f w begun) (IsOpenTurn f) w.processors xs (m ∷ []) [] 0 0) (sym states)
-                  (search-first (look_by plain by) (end f) (IsWay f w begun) (IsOpenTurn f) w.processors s m
+              search = subst (λ (xs : List State). IsSearch (outlook plain) (end f) (IsWay f w begun) (IsOpenTurn f) w.processors xs (m ∷ []) [] 0 0) (sym states)
+                  (search-first (outlook plain) (end f) (IsWay f w begun) (IsOpenTurn f) w.processors s m
                   (subst (λ (ps : List ProcNo). LeadTo f w ps m) (sym (nil-end begun)) lead) ends);
               numbered = λ k n is_n. ap (λ (g : List ℕ → Option ℕ). g (key n)) number ∙ only-one k n is_n;
               only = λ b n there. one-only b n (sym (ap (λ (g : List ℕ → Option ℕ). g b) number) ∙ there);
@@ -154,16 +153,16 @@ module _ {U C D : Type 0} (f : Calls U C) (plain : Option SpaceView → C → D)
 
   module _ (old new : StoreView) (nexts : List ℕ) (at next most : ℕ) (was : Searching old nexts at next) (few : next < w.processors)
       (within : at < length old.states) (room : length old.states ≤ most) (turns : List ProcNo) (turns_are : turns ≡ begun ++ way_to old.states at)
-      (bytes : List ℕ) (s : State) (tried : IsTried f (look_by plain by) code w turns (record { 0 = next }) at bytes s) where
+      (bytes : List ℕ) (s : State) (tried : IsTried f plain code w turns (record { 0 = next }) at bytes s) where
     here : (m : Machine U C) × (slice_get was.kept at ≡ Some m)
     here = let size = was.search.size in read-at was.kept at (omega arith)
 
     from-way : IsWay f w begun (way_to old.states at) tried.from
     from-way = subst (λ (ps : List ProcNo). LeadTo f w ps tried.from) turns_are tried.leads
 
-    from-here : look_by plain by tried.from ≡ look_by plain by here.0
+    from-here : outlook plain tried.from ≡ outlook plain here.0
     from-here =
-        leads-look f plain IsMade laws stands keep w ok by (begun ++ way_to old.states at) tried.from here.0 from-way (was.search.reached at here.0 here.1)
+        leads-alike f plain IsMade laws stands keep w ok (begun ++ way_to old.states at) tried.from here.0 from-way (was.search.reached at here.0 here.1)
 
     after-way : LeadTo f w ((begun ++ way_to old.states at) ++ record { 0 = next } ∷ []) tried.after
     after-way = turns-join f (begun ++ way_to old.states at) (record { 0 = next } ∷ []) (opening f w) tried.from tried.after from-way
@@ -173,20 +172,20 @@ module _ {U C D : Type 0} (f : Calls U C) (plain : Option SpaceView → C → D)
     workload-of ps m lead = (of-lead f plain IsMade laws stands keep w ok ps m lead).workload
 
     -- machines of one key have one outlook
-    same-key : (ps qs : List ProcNo) (m n : Machine U C) → LeadTo f w ps m → LeadTo f w qs n → key m ≡ key n → look_by plain by m ≡ look_by plain by n
+    same-key : (ps qs : List ProcNo) (m n : Machine U C) → LeadTo f w ps m → LeadTo f w qs n → key m ≡ key n → outlook plain m ≡ outlook plain n
     same-key ps qs m n first second same =
         tell m n (run-of f w ok ps m first) (run-of f w ok qs n second) (workload-of ps m first ∙ sym (workload-of qs n second)) same
 
     pub stepped-known : (to : ℕ) → old.number bytes ≡ Some to → new ≡ old → IsStepped old new (nexts ++ to ∷ []) most at next
     stepped-known to there same =
         let target = was.only bytes to there in
-        let looks : look_by plain by target.0 ≡ look_by plain by tried.after =
+        let looks : outlook plain target.0 ≡ outlook plain tried.after =
         same-key (begun ++ way_to old.states to) ((begun ++ way_to old.states at) ++ record { 0 = next } ∷ []) target.0 tried.after
         (was.search.reached to target.0 target.1) after-way (target.2 ∙ tried.key_is) in
         subst (λ (x : StoreView). IsStepped old x (nexts ++ to ∷ []) most at next) (sym same) (record {
           searching = record {
             kept = was.kept;
-            search = search-known (look_by plain by) (end f) (IsWay f w begun) (IsOpenTurn f) w.processors old.states was.kept nexts at next was.search
+            search = search-known (outlook plain) (end f) (IsWay f w begun) (IsOpenTurn f) w.processors old.states was.kept nexts at next was.search
                 tried.from tried.after target.0 here.0 to few here.1 from-way from-here tried.turn target.1 looks;
             numbered = was.numbered;
             only = was.only;
@@ -204,7 +203,7 @@ module _ {U C D : Type 0} (f : Calls U C) (plain : Option SpaceView → C → D)
         subst (λ (x : StoreView). IsStepped old x (nexts ++ length old.states ∷ []) most at next) (sym same) (record {
           searching = record {
             kept = was.kept ++ tried.after ∷ [];
-            search = search-new (look_by plain by) (end f) (IsWay f w begun) (IsOpenTurn f) w.processors old.states was.kept nexts at next was.search
+            search = search-new (outlook plain) (end f) (IsWay f w begun) (IsOpenTurn f) w.processors old.states was.kept nexts at next was.search
                 tried.from tried.after here.0 s few here.1 from-way from-here tried.turn
                 (subst (λ (ps : List ProcNo). LeadTo f w ps tried.after) (append_assoc begun (way_to old.states at) (record { 0 = next } ∷ [])) after-way)
                 (ap (λ (t : State). t.before) tried.state_is) (ap (λ (t : State). t.proc.0) tried.state_is) (ap (λ (t : State). t.end) tried.state_is) new-look;
@@ -217,7 +216,7 @@ module _ {U C D : Type 0} (f : Calls U C) (plain : Option SpaceView → C → D)
           state = slice_get-append_left old.states (s ∷ []) at within;
         })
       where
-        new-look : (k : ℕ) (m : Machine U C) → slice_get was.kept k ≡ Some m → look_by plain by m ≡ look_by plain by tried.after → ⊥
+        new-look : (k : ℕ) (m : Machine U C) → slice_get was.kept k ≡ Some m → outlook plain m ≡ outlook plain tried.after → ⊥
         new-look k m is looks =
             let same_code : key m ≡ bytes = ap code looks ∙ sym tried.key_is in
             let found : None ≡ Some k = sym absent ∙ ap old.number (sym same_code) ∙ was.numbered k m is in

@@ -11,26 +11,18 @@ use Rattle.sa_core_model.specs.Machine.{Machine}
 use Rattle.sa_core_model.specs.End.{all_done, is_stuck}
 use Rattle.sa_core_model.specs.Run.{opening, CanTurn, IsTurn}
 use Rattle.sa_core_model.proofs.Turns.{rests-turned}
-use Rattle.sa_outlook.specs.declared.put.Put.{Put}
-use Rattle.sa_outlook.specs.declared.put.Telling.{Telling}
-use Rattle.sa_outlook.specs.declared.put.Telling.TheVariants.{Cells, Outs}
-use Rattle.sa_outlook.specs.Outlook.{Outlook, outlook}
-use Rattle.sa_outlook.specs.Outs.{outs_of}
-use Rattle.sa_outlook.specs.Look.{Look, look_by}
+use Rattle.sa_outlook.specs.Outlook.{outlook}
 use Rattle.sa_outlook.specs.UserLevels.{IgnoresNumbers}
 use Rattle.sa_outlook.specs.Laws.{AreTurns, IsOfRun}
 use Rattle.sa_outlook.specs.Search.{is_over, AreOpenTurns}
 use Rattle.sa_outlook.proofs.Invariant.{Invariant}
-use Rattle.sa_outlook.proofs.outlooks.Runs.{turns-same, outs-same, ends-same, of-turn, of-run}
+use Rattle.sa_outlook.proofs.outlooks.Runs.{turns-same, ends-same, of-turn, of-run}
 use Rattle.sa_explore_runs.specs.Runs.{end, IsOpenTurn, LeadTo}
 
 abbrev pub end_by : Bool → Bool → Option End
 end_by true b = Some AllDone
 end_by false true = Some Stuck
 end_by false false = None
-
-abbrev look_with : {U D : Type 0} → Outlook U D → List Put → Look U D
-look_with o outs = record { outlook = o; outs = outs }
 
 module _ {U C : Type 0} (f : Calls U C) where
   end-by : (m : Machine U C) → end f m ≡ end_by (all_done f m) (is_stuck f m)
@@ -138,24 +130,3 @@ module _ {U C D : Type 0} (f : Calls U C) (plain : Option SpaceView → C → D)
   pub leads-alike : (ps : List ProcNo) (m n : Machine U C) → LeadTo f w ps m → LeadTo f w ps n → outlook plain m ≡ outlook plain n
   leads-alike ps m n first second =
       turns-alike 0 0 (opening f w) (opening f w) m n ps of-opening of-opening refl first second
-
-  -- WHAT STATES ARE TOLD APART BY
-
-  -- machines that look the same end alike
-  pub looks-end : (by : Telling) (d e : ℕ) (m n : Machine U C) → IsOf d m → IsOf e n → look_by plain by m ≡ look_by plain by n → end f m ≡ end f n
-  looks-end by d e m n of_m of_n same = ends-alike d e m n of_m of_n (ap (λ (l : Look U D). l.outlook) same)
-
-  -- and the same turns lead to machines that look the same
-  pub looks-turn : (by : Telling) (d e : ℕ) (m n after later : Machine U C) (ps : List ProcNo) → IsOf d m → IsOf e n
-      → look_by plain by m ≡ look_by plain by n → AreOpenTurns f ps m after → AreOpenTurns f ps n later → look_by plain by after ≡ look_by plain by later
-  looks-turn Cells d e m n after later ps of_m of_n same first second =
-      ap (λ (o : Outlook U D). look_with o []) (turns-alike d e m n after later ps of_m of_n (ap (λ (l : Look U D). l.outlook) same) first second)
-  looks-turn Outs d e m n after later ps of_m of_n same first second =
-      let outlooks = ap (λ (l : Look U D). l.outlook) same in
-      ap (λ (o : Outlook U D). look_with o (outs_of after.items)) (turns-alike d e m n after later ps of_m of_n outlooks first second)
-      ∙ ap (look_with (outlook plain later))
-      (outs-same f plain IsMade laws stands keep m n after later ps of_m.stays of_n.stays outlooks (ap (λ (l : Look U D). l.outs) same)
-      (turns-all f ps m after first) (turns-all f ps n later second))
-
-  pub leads-look : (by : Telling) (ps : List ProcNo) (m n : Machine U C) → LeadTo f w ps m → LeadTo f w ps n → look_by plain by m ≡ look_by plain by n
-  leads-look by ps m n first second = looks-turn by 0 0 (opening f w) (opening f w) m n ps of-opening of-opening refl first second

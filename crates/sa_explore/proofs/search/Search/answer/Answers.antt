@@ -1,7 +1,6 @@
 use Rattle.std.proofs.Common.{List, subst}
 use Rattle.sa_base.specs.declared.number.ProcNo.{ProcNo}
-use Rattle.sa_outlook.specs.Look.{look_by}
-use Rattle.sa_keys.specs.Outs.{look_key}
+use Rattle.sa_keys.specs.Key.{key_of}
 use Rattle.sa_explore_model.specs.declared.answer.State.{State}
 use Rattle.sa_states.specs.Answers.{Answers}
 use Rattle.sa_explore.specs.Doing.{states_of}
@@ -19,6 +18,6 @@ returns g c =
     let is : Answers scope.begun.items (states_of search) stopped.extent stopped.at x =
     subst (λ (ps : List ProcNo). Answers ps (states_of search) stopped.extent stopped.at x) c.as_slice.ensures.value
     (subst (λ (xs : List State). Answers c.as_slice.result.now xs stopped.extent stopped.at x) c.states-states.ensures c.in_ok-explored.ensures) in
-    explored-of g.U.UserLevel.calls g.U.Keyed.plain g.U.Keyed.is_made keyed.ignores_numbers g.U.UserLevel.stands level.keeps c.args.scope.now.tell (look_key g.U.Keyed.value_key g.U.Keyed.context_key c.args.scope.now.tell) scope c.ranges-2.ensures search c.requires.begins stopped.extent stopped.at
-    (over-of g.U.UserLevel.calls g.U.Keyed.plain g.U.Keyed.is_made keyed.ignores_numbers g.U.UserLevel.stands level.keeps c.args.scope.now.tell (look_key g.U.Keyed.value_key g.U.Keyed.context_key c.args.scope.now.tell) scope c.ranges-2.ensures search c.requires.begins stopped.extent stopped.at c.requires.stopped)
+    explored-of g.U.UserLevel.calls g.U.Keyed.plain g.U.Keyed.is_made keyed.ignores_numbers g.U.UserLevel.stands level.keeps (key_of g.U.Keyed.value_key g.U.Keyed.context_key) scope c.ranges-2.ensures search c.requires.begins stopped.extent stopped.at
+    (over-of g.U.UserLevel.calls g.U.Keyed.plain g.U.Keyed.is_made keyed.ignores_numbers g.U.UserLevel.stands level.keeps (key_of g.U.Keyed.value_key g.U.Keyed.context_key) scope c.ranges-2.ensures search c.requires.begins stopped.extent stopped.at c.requires.stopped)
     x is c.in_ok-endless.endless c.in_ok-endless.ensures

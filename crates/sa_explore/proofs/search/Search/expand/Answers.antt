@@ -3,8 +3,7 @@ use Rattle.std.proofs.lemmas.Option.{slice_get-get_or}
 use Rattle.std.specs.Option.{is_some}
 use Rattle.sa_base.specs.declared.number.ProcNo.{ProcNo}
 use Rattle.sa_base.specs.declared.limits.TheConstants.{MAX_EVENTS}
-use Rattle.sa_outlook.specs.Look.{look_by}
-use Rattle.sa_keys.specs.Outs.{look_key}
+use Rattle.sa_keys.specs.Key.{key_of}
 use Rattle.sa_explore_model.specs.declared.answer.State.{State}
 use Rattle.sa_explore_model.specs.Search.{way_to}
 use Rattle.sa_states.specs.Store.{store_of}
@@ -64,7 +63,7 @@ turn_each-requires-clause-few g c =
     ∙ ap (λ (ps : List ProcNo). ps ++ way_to c.states-states.result.now c.args.at) c.as_slice.ensures.value
     ∙ ap (λ (xs : List State). scope.begun.items ++ way_to xs c.args.at) c.states-states.ensures in
     let few : length (turns_to scope c.args.self.now c.args.at) ≤ MAX_EVENTS =
-    way-few g.U.UserLevel.calls g.U.Keyed.plain g.U.Keyed.is_made keyed.ignores_numbers g.U.UserLevel.stands level.keeps c.args.scope.now.tell (look_key g.U.Keyed.value_key g.U.Keyed.context_key c.args.scope.now.tell) scope.workload c.ranges-2.ensures scope.begun.items (store_of c.args.self.now.store) c.args.self.now.nexts.items c.args.at 0
+    way-few g.U.UserLevel.calls g.U.Keyed.plain g.U.Keyed.is_made keyed.ignores_numbers g.U.UserLevel.stands level.keeps (key_of g.U.Keyed.value_key g.U.Keyed.context_key) scope.workload c.ranges-2.ensures scope.begun.items (store_of c.args.self.now.store) c.args.self.now.nexts.items c.args.at 0
     c.requires.done.searching c.args.at c.requires.within in
     let same : c.as_slice-2.result.now ≡ turns_to scope c.args.self.now c.args.at = c.as_slice-2.ensures.value ∙ is in
     let size = ap length same in

@@ -1,7 +1,6 @@
 use Rattle.std.proofs.Common.{◌≡◌, Some, slice_get, refl, ap, ◌∙◌, arith}
 use Rattle.std.proofs.lemmas.Option.{slice_get_within}
-use Rattle.sa_outlook.specs.Look.{look_by}
-use Rattle.sa_keys.specs.Outs.{look_key}
+use Rattle.sa_keys.specs.Key.{key_of}
 use Rattle.sa_states.specs.declared.store.Store.{Store}
 use Rattle.sa_states.specs.Store.{store_of}
 use Rattle.sa_explore.specs.Doing.{states_of}
@@ -16,7 +15,7 @@ loop-p-preserved g c =
     let is : slice_get (states_of c.loop-p.self) c.args.at ≡ Some ends.0 =
     ap (λ (store : Store). slice_get (store_of store).states c.args.at) c.loop-p.invariant.store ∙ ends.1 in
     record {
-      done = passed-again g.U.UserLevel.calls g.U.Keyed.plain g.U.Keyed.is_made keyed.ignores_numbers g.U.UserLevel.stands level.keeps c.args.scope.now.tell (look_key g.U.Keyed.value_key g.U.Keyed.context_key c.args.scope.now.tell) c.args.scope.now c.ranges-2.ensures
+      done = passed-again g.U.UserLevel.calls g.U.Keyed.plain g.U.Keyed.is_made keyed.ignores_numbers g.U.UserLevel.stands level.keeps (key_of g.U.Keyed.value_key g.U.Keyed.context_key) c.args.scope.now c.ranges-2.ensures
           c.loop-p.self (record { store = c.loop-p.self.store; nexts = c.push.new.self; ahead = c.loop-p.self.ahead }) c.args.at c.loop-p._p ends.0 c.loop-p.invariant.done is ends.2
           (let below = c.loop-p-test.true in let same = c.processors-p-end.ensures.value in omega (arith, below, same))
           refl c.in_ok-push.ensures.items;
@@ -33,6 +32,6 @@ returns-clause-made g c =
     ap (λ (store : Store). slice_get (store_of store).states c.args.at) c.loop-p.invariant.store ∙ ends.1 in
     let all : c.loop-p._p ≡ c.args.scope.now.workload.processors =
     (let above = c.loop-p-test.false in let below = c.loop-p.auto._p-end in let same = c.processors-p-end.ensures.value in omega (arith, above, below, same)) in (
-      all-made g.U.UserLevel.calls g.U.Keyed.plain g.U.Keyed.is_made keyed.ignores_numbers g.U.UserLevel.stands level.keeps c.args.scope.now.tell (look_key g.U.Keyed.value_key g.U.Keyed.context_key c.args.scope.now.tell) c.args.scope.now c.ranges-2.ensures c.loop-p.self c.args.at c.loop-p._p c.loop-p.invariant.done all,
+      all-made g.U.UserLevel.calls g.U.Keyed.plain g.U.Keyed.is_made keyed.ignores_numbers g.U.UserLevel.stands level.keeps (key_of g.U.Keyed.value_key g.U.Keyed.context_key) c.args.scope.now c.ranges-2.ensures c.loop-p.self c.args.at c.loop-p._p c.loop-p.invariant.done all,
       slice_get_within (states_of c.loop-p.self) c.args.at ends.0 is,
     )

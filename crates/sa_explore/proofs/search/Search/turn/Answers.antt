@@ -1,8 +1,7 @@
 use Rattle.std.proofs.Common.{List, refl, sym, subst}
 use Rattle.std.proofs.lemmas.Option.{slice_get_within}
 use Rattle.sa_base.specs.declared.number.ProcNo.{ProcNo}
-use Rattle.sa_outlook.specs.Look.{look_by}
-use Rattle.sa_keys.specs.Outs.{look_key}
+use Rattle.sa_keys.specs.Key.{key_of}
 use Rattle.sa_states.specs.Store.{store_of}
 use Rattle.sa_explore_runs.specs.Runs.{CanLead}
 use Rattle.sa_explore_runs.specs.Runs.{IsOpen}
@@ -19,7 +18,7 @@ turn_from-requires-clause-leads g c =
     let scope = c.args.scope.now in
     let goes = c.requires.goes in
     subst (λ (ps : List ProcNo). CanLead g.U.UserLevel.calls scope.workload ps) (sym c.requires.turns)
-    (way-leads g.U.UserLevel.calls g.U.Keyed.plain g.U.Keyed.is_made keyed.ignores_numbers g.U.UserLevel.stands level.keeps c.args.scope.now.tell (look_key g.U.Keyed.value_key g.U.Keyed.context_key c.args.scope.now.tell) scope.workload c.ranges-2.ensures scope.begun.items (store_of old.store) old.nexts.items c.args.at c.args.p.0
+    (way-leads g.U.UserLevel.calls g.U.Keyed.plain g.U.Keyed.is_made keyed.ignores_numbers g.U.UserLevel.stands level.keeps (key_of g.U.Keyed.value_key g.U.Keyed.context_key) scope.workload c.ranges-2.ensures scope.begun.items (store_of old.store) old.nexts.items c.args.at c.args.p.0
     c.requires.done.searching c.args.at (slice_get_within (states_of old) c.args.at goes.0 goes.1))
 
 pub turn_from-requires-clause-goes : goal.turn_from-requires-clause-goes
@@ -30,12 +29,12 @@ turn_from-requires-clause-goes g c =
     let scope = c.args.scope.now in
     let goes = c.requires.goes in
     subst (λ (ps : List ProcNo). IsOpen g.U.UserLevel.calls scope.workload ps) (sym c.requires.turns)
-    (way-open g.U.UserLevel.calls g.U.Keyed.plain g.U.Keyed.is_made keyed.ignores_numbers g.U.UserLevel.stands level.keeps c.args.scope.now.tell (look_key g.U.Keyed.value_key g.U.Keyed.context_key c.args.scope.now.tell) scope.workload c.ranges-2.ensures scope.begun.items (store_of old.store) old.nexts.items c.args.at c.args.p.0
+    (way-open g.U.UserLevel.calls g.U.Keyed.plain g.U.Keyed.is_made keyed.ignores_numbers g.U.UserLevel.stands level.keeps (key_of g.U.Keyed.value_key g.U.Keyed.context_key) scope.workload c.ranges-2.ensures scope.begun.items (store_of old.store) old.nexts.items c.args.at c.args.p.0
     c.requires.done.searching c.args.at goes.0 goes.1 goes.2)
 
 pub turn_from-requires-clause-ahead : goal.turn_from-requires-clause-ahead
 turn_from-requires-clause-ahead g c =
-    λ lt lives. ahead-from g.U.UserLevel.calls (look_by g.U.Keyed.plain c.args.scope.now.tell) (look_key g.U.Keyed.value_key g.U.Keyed.context_key c.args.scope.now.tell) c.args.scope.now c.args.self.now c.args.turns.now c.args.at c.requires.turns c.requires.ahead
+    λ lt lives. ahead-from g.U.UserLevel.calls g.U.Keyed.plain (key_of g.U.Keyed.value_key g.U.Keyed.context_key) c.args.scope.now c.args.self.now c.args.turns.now c.args.at c.requires.turns c.requires.ahead
 
 -- what was done is done beside other turns that were made ahead
 pub keep-made-requires-clause-done : goal.keep-made-requires-clause-done
@@ -43,11 +42,11 @@ keep-made-requires-clause-done g c = λ lt lives. record { searching = c.require
 
 pub keep-made-requires-clause-ahead : goal.keep-made-requires-clause-ahead
 keep-made-requires-clause-ahead g c =
-    λ lt lives. taken-on g.U.UserLevel.calls (look_by g.U.Keyed.plain c.args.scope.now.tell) (look_key g.U.Keyed.value_key g.U.Keyed.context_key c.args.scope.now.tell) c.args.scope.now (states_of c.args.self.now)
+    λ lt lives. taken-on g.U.UserLevel.calls g.U.Keyed.plain (key_of g.U.Keyed.value_key g.U.Keyed.context_key) c.args.scope.now (states_of c.args.self.now)
     c.args.self.now.ahead.items c.turn_from.new.ahead.items c.in_ok-tried.ensures.rest c.requires.ahead
 
 pub returns-clause-made : goal.returns-clause-made
 returns-clause-made g c =
     let old = c.args.self.now in
-    kept-beside g.U.UserLevel.calls (look_by g.U.Keyed.plain c.args.scope.now.tell) (look_key g.U.Keyed.value_key g.U.Keyed.context_key c.args.scope.now.tell) c.args.scope.now old
+    kept-beside g.U.UserLevel.calls g.U.Keyed.plain (key_of g.U.Keyed.value_key g.U.Keyed.context_key) c.args.scope.now old
     (record { store = old.store; nexts = old.nexts; ahead = c.turn_from.new.ahead }) c.keep-made.new.self c.args.at c.args.p.0 c.keep-made.result refl c.keep-made.ensures.made
