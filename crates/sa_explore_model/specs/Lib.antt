@@ -1,3 +1,4 @@
 pub mod Order
 pub mod Answer
 pub mod Search
+pub mod Results

@@ -5,3 +5,6 @@
 mod answer;
 
 pub use answer::{Explored, Extent, Found, State};
+
+/// The most results that are told.
+pub const MAX_RESULTS: u16 = 1_000;

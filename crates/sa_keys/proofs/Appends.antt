@@ -1,6 +1,7 @@
 -- Bytes that are added one after another.
-use Rattle.std.proofs.Common.{◌≡◌, ℕ, ◌+◌, ◌≤◌, List, ◌++◌, length, map, take, take_all, Some, Result, OnOk, slice_get, sym, ap, subst, ◌∙◌, append_assoc}
-use Rattle.std.proofs.lemmas.List.{length-map}
+use Rattle.std.proofs.Common.{◌≡◌, ℕ, ◌+◌, ◌≤◌, List, [], ◌∷◌, ◌++◌, length, map, take, take_all, Some, Result, OnOk, slice_get, sym, ap, subst, ◌∙◌, append_assoc}
+use Rattle.std.proofs.lemmas.List.{length-map, map-append, take_more}
+use Rattle.std.proofs.lemmas.Option.{slice_get_within, get_or_from_slice_get}
 use Rattle.std.specs.List.{flat_map, range_with_len}
 use Rattle.sa_lemmas.proofs.Texts.{appended_twice}
 use Rattle.sa_package_keys.specs.Codes.{number, list}
@@ -32,3 +33,14 @@ list-map f g xs = ap (λ n. number n ++ flat_map f (map g xs)) (length-map xs g)
 -- equal bytes were added, where any were
 pub same-added : {E : Type 0} (r : Result (Unit {0}) E) (old now a b : List ℕ) → a ≡ b → OnOk r (now ≡ old ++ a) → OnOk r (now ≡ old ++ b)
 same-added r old now a b is added = subst (λ (z : List ℕ). OnOk r (now ≡ old ++ z)) is added
+
+-- of the first i of a list, and of the next one, each as it is seen in another list
+pub map-step : {A B C : Type 0} (g : B → C) (f : A → C) (xs : List A) (old new : List B) (y : B) (i : ℕ) (x : A) → slice_get xs i ≡ Some x
+    → map g old ≡ map f (take i xs) → new ≡ old ++ y ∷ [] → g y ≡ f x → map g new ≡ map f (take (i + 1) xs)
+map-step {C = C} g f xs old new y i x at so_far then same =
+    ap (map g) then ∙ map-append g old (y ∷ [])
+    ∙ ap (λ (l : List C). l ++ g y ∷ []) so_far
+    ∙ ap (λ (z : C). map f (take i xs) ++ z ∷ []) same
+    ∙ sym (map-append f (take i xs) (x ∷ []))
+    ∙ ap (λ z. map f (take i xs ++ z ∷ [])) (sym (get_or_from_slice_get xs i x x at))
+    ∙ ap (map f) (sym (take_more xs i x (slice_get_within xs i x at)))

@@ -4,3 +4,5 @@ pub mod Appends
 pub mod DueOrderLemmas
 pub mod EvictionsToCome
 pub mod Standings
+pub mod PutLemmas
+pub mod Outcomes

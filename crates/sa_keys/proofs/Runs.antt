@@ -1,4 +1,4 @@
--- Of two machines of runs of one workload: equal keys have equal outlooks.
+-- Of two machines of runs of one workload: equal keys have equal looks. And the bytes of an outcome say it.
 use Rattle.std.proofs.Common.{◌≡◌, ℕ, ◌<◌, ◌≤◌, ◌++◌, false, List, [], length, get_or, Option, Some, None, slice_get, is_some, sym, ap, ◌∙◌, subst, inl, inr, arith}
 use Rattle.std.proofs.lemmas.Bool.{cases_lt}
 use Rattle.std.proofs.lemmas.Option.{slice_get_cases, slice_get_within}
@@ -16,15 +16,26 @@ use Rattle.sa_core_model.specs.Run.{setting}
 use Rattle.sa_core_model.specs.Standing.{contexts_of}
 use Rattle.sa_outlook.specs.UserLevels.{IgnoresNumbers}
 use Rattle.sa_outlook.specs.Nameless.{nameless_notes}
-use Rattle.sa_outlook.specs.Outlook.{outlook, look_in, untold_notes, nameless_ios, see, see_at, held_by}
+use Rattle.sa_outlook.specs.declared.put.Put.{Put}
+use Rattle.sa_outlook.specs.declared.put.Telling.{Telling}
+use Rattle.sa_outlook.specs.declared.put.Telling.TheVariants.{Cells, Outs}
+use Rattle.sa_outlook.specs.Outs.{outs_of}
+use Rattle.sa_outlook.specs.Look.{Look, look_by}
+use Rattle.sa_outlook.specs.Outlook.{Outlook, outlook, look_in, untold_notes, nameless_ios, see, see_at, held_by}
 use Rattle.sa_outlook.proofs.Invariant.{Invariant}
 use Rattle.sa_outlook.proofs.outlooks.AlikeOutlooks.{outlook-of-key}
 use Rattle.sa_outlook.proofs.outlooks.Runs.{of-run}
 use Rattle.sa_package_keys.specs.Codes.{IsPrefixCode}
 use Rattle.sa_keys.specs.Key.{key_of}
 use Rattle.sa_package_keys.specs.Values.{TellsValues}
-use Rattle.sa_keys.specs.Laws.{KeysTellOutlooks}
+use Rattle.sa_package_keys.proofs.Codes.{list-code}
+use Rattle.sa_keys.specs.Outs.{put_key, look_key}
+use Rattle.sa_keys.proofs.PutLemmas.{put-code}
+use Rattle.sa_keys.specs.Laws.{KeysTellOutlooks, KeysTellLooks}
 use Rattle.sa_keys.proofs.Outlooks.{key-tells}
+
+abbrev look_with : {U D : Type 0} → Outlook U D → List Put → Look U D
+look_with o outs = record { outlook = o; outs = outs }
 
 module _ {U C D : Type 0} (f : Calls U C) (plain : Option SpaceView → C → D) (stands : Standing U C) (user : U → List ℕ) (ctx : D → List ℕ)
     (ctx-code : IsPrefixCode ctx) (IsMade : Option SpaceView → U → Type 0) (tells : TellsValues stands IsMade user) where
@@ -96,6 +107,18 @@ module _ {U C D : Type 0} (f : Calls U C) (plain : Option SpaceView → C → D)
         beat = told.beat;
         until = told.until;
       })
+
+  looks-tell : (tell : Telling) (m n : Machine U C) → Invariant stands IsMade m → Invariant stands IsMade n → m.workload ≡ n.workload
+      → look_key user ctx tell (look_by plain tell m) ≡ look_key user ctx tell (look_by plain tell n) → look_by plain tell m ≡ look_by plain tell n
+  looks-tell Cells m n om on workload same = ap (λ (o : Outlook U D). look_with o []) (between-tells m n om on workload same)
+  looks-tell Outs m n om on workload same =
+      let both = list-code put_key put-code (outs_of m.items) (outs_of n.items) (key_of user ctx (outlook plain m)) (key_of user ctx (outlook plain n)) same in
+      ap (λ (o : Outlook U D). look_with o (outs_of m.items)) (between-tells m n om on workload both.1)
+      ∙ ap (look_with (outlook plain n)) both.0
+
+  pub keys-tell-looks : IgnoresNumbers f plain IsMade → Keeps f stands → KeysTellLooks f plain user ctx
+  keys-tell-looks ignores keeps tell m n of_m of_n workload same =
+      looks-tell tell m n (of-run f plain IsMade ignores stands keeps m of_m) (of-run f plain IsMade ignores stands keeps n of_n) workload same
 
   pub keys-tell-outlooks : IgnoresNumbers f plain IsMade → Keeps f stands → KeysTellOutlooks f plain user ctx
   keys-tell-outlooks ignores keeps m n of_m of_n workload same =

@@ -2,3 +2,5 @@ pub mod Key
 pub mod Parts
 pub mod Places
 pub mod Laws
+pub mod Outs
+pub mod Outcome

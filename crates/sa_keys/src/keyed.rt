@@ -23,6 +23,13 @@ pub trait Keyed: UserLevel {
 
     ghost context_key: { Self.Ctx → List ℕ };
 
+    /// The cells of the value's space.
+    ghost cells_of: { Self → List ℕ };
+
+    /// The cells of the value's space, in order.
+    fn cells(&self) -> &[u64]
+        ensures { result.now ≡ cells_of self.now };
+
     /// Adds the bytes of the value. Fails only where memory runs out.
     fn put_value(&self, alloc: Global, key: &mut Vec<u8>) -> Result<(), AllocError>
         requires { IsStood Self.stands self.now }

@@ -9,11 +9,16 @@ mod ios;
 mod keyed;
 pub mod laws;
 mod machine_key;
+mod outcome;
 mod prio;
 mod processors;
+mod put_out;
 mod spaces;
 mod time;
 mod users;
 
 pub use keyed::Keyed;
-pub use machine_key::key;
+pub use machine_key::{key, look_key};
+pub use outcome::{Outcome, left_by, outcome_key};
+pub use put_out::told_outs;
+pub use sa_outlook::{Put, Telling};

@@ -3,3 +3,4 @@ pub mod Parts
 pub mod Closings
 pub mod Entries
 pub mod Upcalls
+pub mod Quiet

@@ -4,3 +4,4 @@ pub mod EventBegins
 pub mod OneTurn
 pub mod Ends
 pub mod Regular
+pub mod Puts

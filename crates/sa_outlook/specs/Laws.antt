@@ -9,6 +9,7 @@ use Rattle.sa_core_model.specs.Machine.{Machine}
 use Rattle.sa_core_model.specs.End.{all_done, is_stuck}
 use Rattle.sa_core_model.specs.Run.{opening, CanTurn, IsTurn}
 use Rattle.sa_outlook.specs.Outlook.{outlook}
+use Rattle.sa_outlook.specs.Outs.{outs_of}
 
 module _ {U C : Type 0} (f : Calls U C) where
   -- turns of these processors lead from m to `after`
@@ -39,6 +40,12 @@ module _ {U C D : Type 0} (f : Calls U C) (plain : Option SpaceView → C → D)
   TurnsKeepOutlooks =
       (m n after later : Machine U C) (ps : List ProcNo) → IsOfRun f m → IsOfRun f n → outlook plain m ≡ outlook plain n
       → AreTurns f ps m after → AreTurns f ps n later → outlook plain after ≡ outlook plain later
+
+  -- from equal outlooks the same turns put out the same
+  abbrev pub TurnsPutOutAlike : Type 0
+  TurnsPutOutAlike =
+      (m n after later : Machine U C) (ps : List ProcNo) → IsOfRun f m → IsOfRun f n → outlook plain m ≡ outlook plain n
+      → outs_of m.items ≡ outs_of n.items → AreTurns f ps m after → AreTurns f ps n later → outs_of after.items ≡ outs_of later.items
 
   -- the ends depend on the outlook alone
   abbrev pub EndsFollowOutlooks : Type 0

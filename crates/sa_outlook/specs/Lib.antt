@@ -5,3 +5,5 @@ pub mod Outlook
 pub mod Laws
 pub mod Key
 pub mod Search
+pub mod Outs
+pub mod Look

@@ -27,10 +27,11 @@ module _ {U C D : Type 0} (plain : Option SpaceView → C → D) (IsMade : Optio
     pub ctx : plain def x.1 ≡ plain def y.1
     pub made : IsMade def x.0
 
-  -- two outcomes of a step: so, and the same answer to the kernel
+  -- two outcomes of a step: so, the same records, and the same answer to the kernel
   pub record SameStep (def : Option SpaceView) (x y : Stepped U C) : Type 0 where
     pub user : x.user ≡ y.user
     pub ctx : plain def x.ctx ≡ plain def y.ctx
+    pub says : x.says ≡ y.says
     pub answer : x.answer ≡ y.answer
     pub made : IsMade def x.user
 

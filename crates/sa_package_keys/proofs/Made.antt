@@ -42,7 +42,7 @@ module _ {U C D : Type 0} (f : Calls U C) (plain : Option SpaceView → C → D)
         let x = laws.answered def u seen e c d made.0 same in record { user = x.user; ctx = x.ctx; made = (x.made, answered u seen c made.1) };
     stepped = λ def u seen e c d made same.
         let x = laws.stepped def u seen e c d made.0 same in
-        record { user = x.user; ctx = x.ctx; answer = x.answer; made = (x.made, stepped u seen c made.1) };
+        record { user = x.user; ctx = x.ctx; says = x.says; answer = x.answer; made = (x.made, stepped u seen c made.1) };
     thread = λ def u c d made same. laws.thread def u c d made.0 same;
     idle = λ def u c d made same. laws.idle def u c d made.0 same;
     owes = λ def u c d made same. laws.owes def u c d made.0 same;

@@ -119,3 +119,10 @@ IsFast def u = IsMade def u × (length u.shared.state.lists.ranks ≡ 0)
 
 abbrev pub IsPrio : Option SpaceView → Prio → Type 0
 IsPrio def v = IsMadeFor def v × (length v.base.shared.state.lists.ranks ≡ MAX_THREADS)
+
+-- THE CELLS of a space
+abbrev pub fast_cells : Package → List ℕ
+fast_cells u = u.shared.sync.cells
+
+abbrev pub prio_cells : Prio → List ℕ
+prio_cells v = fast_cells v.base

@@ -213,17 +213,17 @@ module _ (def : Option SpaceView) (u : Package) (seen : Seen) (c : Context) (i j
 
   popping-same : (m : Micro) (done : MicroDone) → IsMade def u → min i (patience_of def) ≡ min j (patience_of def)
       → Same (popping_by u (looking c i) m done) (popping_by u (looking c j) m done)
-  popping-same m micros.Did made same = record { user = refl; ctx = refl; answer = refl; made = made }
-  popping-same m _ made same = record { user = refl; ctx = plain-look same; answer = refl; made = made }
+  popping-same m micros.Did made same = record { user = refl; ctx = refl; says = refl; answer = refl; made = made }
+  popping-same m _ made same = record { user = refl; ctx = plain-look same; says = refl; answer = refl; made = made }
 
   looked-same : (idle : Bool) (l : Option ℕ) → IsMade def u → min i (patience_of def) ≡ min j (patience_of def)
       → Same (looked_by u seen (looking c i) i idle l) (looked_by u seen (looking c j) j idle l)
   looked-same idle (Some l) made same = let m = micro u.shared.state (pop_of seen.proc l) seen.pages in popping-same m m.done made same
-  looked-same true None made same = record { user = refl; ctx = plain-look same; answer = refl; made = made }
+  looked-same true None made same = record { user = refl; ctx = plain-look same; says = refl; answer = refl; made = made }
   looked-same false None made same =
       let n : ℕ = patience_of def in
       let more : min (min (i + 1) MAX_PATIENCE) n ≡ min (min (j + 1) MAX_PATIENCE) n = later n same in
-      record { user = refl; ctx = ap (λ (k : ℕ). looking c k) more; answer = refl; made = made }
+      record { user = refl; ctx = ap (λ (k : ℕ). looking c k) more; says = refl; answer = refl; made = made }
     where
       later : (n : ℕ) → min i n ≡ min j n → min (min (i + 1) 1000) n ≡ min (min (j + 1) 1000) n
       later n h = omega arith
@@ -250,6 +250,7 @@ stepped-same def u seen e c d made same = elim (same-or-look def c d same) [
   | inl h ↦ record {
     user = ap (λ (x : Context). (stepped u seen x).user) h;
     ctx = ap (λ (x : Context). plain def (stepped u seen x).ctx) h;
+    says = ap (λ (x : Context). (stepped u seen x).says) h;
     answer = ap (λ (x : Context). (stepped u seen x).answer) h;
     made = made-still def u (stepped u seen c).user (stepped-def u seen c) made;
   }

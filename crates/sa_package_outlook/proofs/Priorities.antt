@@ -140,6 +140,7 @@ module _ (def : Option SpaceView) (v : Prio) (seen : Seen) (made : IsMadeFor def
             ∙ ap (λ (b : Bool). b && has_pair (with_on (with_base v s.user) seen.proc (left_on s.answer s.ctx.state)) seen) came
             ∙ ap (λ (w : Prio). came_out (Look 0) t.ctx.state && has_pair w seen) user
             ∙ sym (outs j t.ctx.state (with_on (with_base v t.user) seen.proc (left_on t.answer t.ctx.state))));
+        says = r.says;
         answer = r.answer;
         made = r.made;
       }
@@ -161,11 +162,12 @@ module _ (def : Option SpaceView) (v : Prio) (seen : Seen) (made : IsMadeFor def
       outs n (Look m) w = refl
 
   urged-same : (own : Option ℕ) (other : Option Outranked) → Same (urged_by v seen (looking c i) own other) (urged_by v seen (looking c j) own other)
-  urged-same (Some own) other = record { user = refl; ctx = refl; answer = refl; made = made }
-  urged-same None (Some other) = record { user = refl; ctx = rejoined def (looking c i) (looking c j) true true look-plain refl; answer = refl; made = made }
+  urged-same (Some own) other = record { user = refl; ctx = refl; says = refl; answer = refl; made = made }
+  urged-same None (Some other) = record { user = refl; ctx = rejoined def (looking c i) (looking c j) true true look-plain refl; says = refl; answer = refl; made = made }
   urged-same None None = record {
     user = refl;
     ctx = refl;
+    says = refl;
     answer = refl;
     made = made ∙ ap (λ (d : SpaceView). Some d) (sym (stepped-def v.base seen (settled v.base seen c None)));
   }
@@ -184,6 +186,7 @@ stepped-same def v seen e c d made same = elim (same-or-look def c.base d.base (
       record {
         user = ap (λ (x : PrioContext). (stepped v seen x).user) whole;
         ctx = ap (λ (x : PrioContext). plain_prio def (stepped v seen x).ctx) whole;
+        says = ap (λ (x : PrioContext). (stepped v seen x).says) whole;
         answer = ap (λ (x : PrioContext). (stepped v seen x).answer) whole;
         made = made ∙ ap (λ (x : SpaceView). Some x) (sym (prio-def v seen c));
       }

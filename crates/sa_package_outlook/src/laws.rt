@@ -1,6 +1,6 @@
 //! The laws of outlooks, of both packages. No function here does anything.
-ghost use Rattle.sa_package_outlook.specs.Laws.{FastIgnoresNumbers, FastTurnsKeepOutlooks, FastEndsFollowOutlooks, FastEndsIgnoreNumbers};
-ghost use Rattle.sa_package_outlook.specs.Laws.{PrioIgnoresNumbers, PrioTurnsKeepOutlooks, PrioEndsFollowOutlooks, PrioEndsIgnoreNumbers};
+ghost use Rattle.sa_package_outlook.specs.Laws.{FastIgnoresNumbers, FastTurnsKeepOutlooks, FastTurnsPutOutAlike, FastEndsFollowOutlooks, FastEndsIgnoreNumbers};
+ghost use Rattle.sa_package_outlook.specs.Laws.{PrioIgnoresNumbers, PrioTurnsKeepOutlooks, PrioTurnsPutOutAlike, PrioEndsFollowOutlooks, PrioEndsIgnoreNumbers};
 
 /// A package looks at no number of an activation or an event: on the same value, and with contexts that differ in their numbers or in
 /// an idle count above the patience alone, each call gives the same value, the same answer, and contexts that differ in no more.
@@ -14,6 +14,13 @@ pub fn packages_ignore_numbers()
 pub fn turns_keep_outlooks()
     ensures fast { FastTurnsKeepOutlooks }
     ensures priorities { PrioTurnsKeepOutlooks }
+{}
+
+/// If two machines of runs have equal outlooks and each thread has put out the same in both, so it has after turns of the same
+/// processors, whichever numbers these turns take.
+pub fn turns_put_out_alike()
+    ensures fast { FastTurnsPutOutAlike }
+    ensures priorities { PrioTurnsPutOutAlike }
 {}
 
 /// Of two machines of runs with equal outlooks both have ended, in the same way, or neither has.

@@ -3,6 +3,7 @@
 #![tactic(auto)]
 
 mod first;
+mod groups;
 mod limits;
 mod links;
 mod marks;
@@ -11,6 +12,7 @@ mod unmarked;
 mod whole;
 
 pub use first::found;
+pub use groups::{Group, count_one};
 pub use limits::state_limits_are_these;
 pub use links::schedule;
 pub use store::Store;

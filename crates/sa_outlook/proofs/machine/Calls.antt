@@ -81,7 +81,7 @@ module _ {U C D : Type 0} (f : Calls U C) (plain : Option SpaceView → C → D)
   ]
 
   -- of two contexts on a processor of this owner: both are none, or plainly the same
-  some-seen : (m n : Machine U C) (p : ProcNo) (s : SpaceNo) → owner_of m.kernel p ≡ Some s → AlikeMachines plain m n
+  pub some-seen : (m n : Machine U C) (p : ProcNo) (s : SpaceNo) → owner_of m.kernel p ≡ Some s → AlikeMachines plain m n
       → see plain m.workload (Some s) (context_on m p) ≡ see plain m.workload (Some s) (context_on n p)
   some-seen m n p s owner was =
       let own : owner_of n.kernel p ≡ Some s = ap (λ (os : List (Option SpaceNo)). get_or os p.0 None) (sym was.kernel.owners) ∙ owner in

@@ -115,7 +115,7 @@ module _ {C : Type 0} where
 -- WHICH I/O IS DUE
 module _ {C D : Type 0} (look : ℕ → C → D) where
   -- the first in order of both
-  record Firsts (k l : KernelState C) : Type 0 where
+  pub record Firsts (k l : KernelState C) : Type 0 where
     pub a : Io
     pub b : Io
     pub rest : List Io
@@ -124,12 +124,12 @@ module _ {C D : Type 0} (look : ℕ → C → D) where
     pub is_l : in_order l.under_way ≡ b ∷ others
 
   -- both have none that is due, or the first in order is
-  abbrev DueAlike : ℕ → ℕ → KernelState C → KernelState C → Type 0
+  abbrev pub DueAlike : ℕ → ℕ → KernelState C → KernelState C → Type 0
   DueAlike e g k l =
       ((due_of e k.under_way ≡ None) × (due_of g l.under_way ≡ None))
       ⊎ ((h : Firsts k l) × (due_of e k.under_way ≡ Some h.a) × (due_of g l.under_way ≡ Some h.b))
 
-  due-both : (e g : ℕ) (k l : KernelState C) → IsNumbered k → IsNumbered l → AlikeKernels look e g k l → DueAlike e g k l
+  pub due-both : (e g : ℕ) (k l : KernelState C) → IsNumbered k → IsNumbered l → AlikeKernels look e g k l → DueAlike e g k l
   due-both e g k l num_k num_l was = go (in_order k.under_way) (in_order l.under_way) refl refl was.ios
     where
       due_k : due_of e k.under_way ≡ first_due e (in_order k.under_way)
