@@ -22,7 +22,7 @@ use Rattle.sa_session.specs.declared.exchange.NoTalk.TheVariants as stopped
 use Rattle.sa_session.specs.declared.conversation.Close.{Close}
 use Rattle.sa_session.specs.declared.conversation.Close.TheVariants.{Ended, Refused}
 use Rattle.sa_session.specs.declared.conversation.Over.{Over}
-use Rattle.sa_session.specs.Exchange.{Hears, FailsFor}
+use Rattle.sa_session.specs.Exchange.{Hears, FailsFor, WrittenFor}
 use Rattle.sa_session.specs.Laws.{SessionsAreLegal, SessionsEndAsDefined, WholeSessionsAreRight}
 use Rattle.sa_session.specs.Moments.{Moment, Reaches}
 use Rattle.sa_session.specs.Over.{said_at, Closes, IsOver, CameSoFar}
@@ -52,8 +52,8 @@ module _ (most : ℕ) (first at last : Option (List ℕ)) (lost : LosesAtMost mo
   pub over-loses : (over : Over) → IsOver w order budget kept at last old new over → LosesSome first last
   over-loses over is = closes-loses is.closed.moment over.close is.closed.closes
 
-  pub came-loses : CameSoFar w order budget kept at last old new → LosesSome first last
-  came-loses came = loses-more most first at last kept came.later came.moment.replies lost came.hears
+  pub came-loses : (why : NoTalk) → CameSoFar w order budget kept at last old new why → LosesSome first last
+  came-loses why came = loses-more most first at last kept came.later came.moment.replies lost came.hears
 
 -- what holds if the source told once the front was read holds if it told before
 told-before : {A : Type 0} (before at : Option (List ℕ)) (bytes : List ℕ) → Consumes before at bytes → (IsSome at → A) → IsSome before → A
@@ -88,22 +88,23 @@ module _ (schedule : ScheduleWord) (budget : ℕ) (old new : World) where
     }
 
     -- it could not go on
-    stops : CameSoFar w (order_by schedule w) budget kept at new.left old.taken new.taken → StopsSo schedule budget old new
-    stops came = record { talked = talked came.moment came.later came.reached came.hears; went = came.taken }
+    stops : (why : NoTalk) → CameSoFar w (order_by schedule w) budget kept at new.left old.taken new.taken why
+        → StopsSo schedule budget old new (WrittenFor why old.taken new.taken)
+    stops why came = record { talked = talked came.moment came.later came.reached came.hears; went = came.taken }
 
-    stopped-by : (why : NoTalk) → CameSoFar w (order_by schedule w) budget kept at new.left old.taken new.taken → (reads : ℕ) → old.reads ≤ reads
+    stopped-by : (why : NoTalk) → CameSoFar w (order_by schedule w) budget kept at new.left old.taken new.taken why → (reads : ℕ) → old.reads ≤ reads
         → FailsFor why reads new.reads old.writes new.writes → AnswersKernel schedule budget old new [] (status_of_no_talk why)
-    stopped-by stopped.Read came reads more fails = (omega (arith, more, fails), refl, inr (stops came))
-    stopped-by stopped.Write came reads more fails = (fails, inl (refl, stops came))
-    stopped-by stopped.OutOfMemory came reads more fails = (refl, inr (stops came))
+    stopped-by stopped.Read came reads more fails = (omega (arith, more, fails), refl, inr (stops stopped.Read came))
+    stopped-by stopped.Write came reads more fails = (fails, inl (refl, stops stopped.Write came))
+    stopped-by stopped.OutOfMemory came reads more fails = (refl, inr (stops stopped.OutOfMemory came))
 
     pub stopped-answers : (order : Order) (ran : Ran) (why : NoTalk) (status : Status) (reads : ℕ) → order ≡ order_by schedule w → ran ≡ Nothing
-        → status ≡ status_of_no_talk why → old.reads ≤ reads → CameSoFar w order budget kept at new.left old.taken new.taken
+        → status ≡ status_of_no_talk why → old.reads ≤ reads → CameSoFar w order budget kept at new.left old.taken new.taken why
         → FailsFor why reads new.reads old.writes new.writes → AnswersKernel schedule budget old new (history ran) status
     stopped-answers order ran why status reads same none is more came fails =
         subst (λ (r : Ran). AnswersKernel schedule budget old new (history r) status) (sym none)
         (subst (λ (s : Status). AnswersKernel schedule budget old new [] s) (sym is)
-        (stopped-by why (subst (λ (o : Order). CameSoFar w o budget kept at new.left old.taken new.taken) same came) reads more fails))
+        (stopped-by why (subst (λ (o : Order). CameSoFar w o budget kept at new.left old.taken new.taken why) same came) reads more fails))
 
     -- IT IS OVER: it ended, or a reply is refused
     module _ (mid : Option (List ℕ)) (right : WholeSessionsAreRight) where

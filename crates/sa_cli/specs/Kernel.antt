@@ -137,15 +137,15 @@ module _ (schedule : ScheduleWord) (budget : ℕ) (old new : World) where
     pub is_bad : bad ≡ bad_reply (length talked.moment.replies + 1) wrong
     pub went : goes (said_so_far talked ++ last_line_of items end.Budget talked.moment.machine.event)
 
-  -- a session could not go on, and a part of what was said went to the sink
-  pub record StopsSo : Type 0 where
+  -- a session could not go on, and what was said went to the sink in this way
+  pub record StopsSo (goes : List ℕ → Type 0) : Type 0 where
     pub talked : Talked
-    pub went : TookSome old new (said_so_far talked)
+    pub went : goes (said_so_far talked)
 
   -- a write failed: in the session, or at its last line
   abbrev pub IsCut : List Item → Type 0
   IsCut items =
-      ((items ≡ []) × StopsSo)
+      ((items ≡ []) × StopsSo (TookSome old new))
       ⊎ (((e : End) × EndsSo (TookSome old new) items e) ⊎ ((bad : Bad) × RefusesSo (TookSome old new) items bad))
 
 abbrev pub AnswersKernel : ScheduleWord → ℕ → World → World → List Item → Status → Type 0
@@ -155,7 +155,7 @@ AnswersKernel schedule budget old new items Stuck = EndsSo schedule budget old n
 AnswersKernel schedule budget old new items Budget = EndsSo schedule budget old new (TookAll old new) items end.Budget
 AnswersKernel schedule budget old new items (BadReply bad) = RefusesSo schedule budget old new (TookAll old new) items bad
 AnswersKernel schedule budget old new items ReadFault =
-    HasRisen old.reads new.reads × (items ≡ []) × (IsSilent old new ⊎ StopsSo schedule budget old new)
+    HasRisen old.reads new.reads × (items ≡ []) × (IsSilent old new ⊎ StopsSo schedule budget old new (TookAll old new))
 AnswersKernel schedule budget old new items WriteFault = HasRisen old.writes new.writes × IsCut schedule budget old new items
-AnswersKernel schedule budget old new items OutOfMemory = (items ≡ []) × (IsSilent old new ⊎ StopsSo schedule budget old new)
+AnswersKernel schedule budget old new items OutOfMemory = (items ≡ []) × (IsSilent old new ⊎ StopsSo schedule budget old new (TookSome old new))
 AnswersKernel schedule budget old new items other = ⊥

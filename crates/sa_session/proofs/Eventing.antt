@@ -3,7 +3,6 @@ use Rattle.std.proofs.Common.{◌≡◌, ℕ, ◌+◌, ◌<◌, List, [], ◌∷
 use Rattle.std.proofs.KnownBytes.{Appends-nil}
 use Rattle.sa_base.specs.declared.limits.TheConstants.{MAX_EVENTS}
 use Rattle.sa_base.specs.declared.number.ProcNo.{ProcNo}
-use Rattle.sa_io.specs.Faults.{AppendsPrefix}
 use Rattle.sa_io.specs.Pieces.{GoesOut}
 use Rattle.sa_io.proofs.PieceLemmas.{prefix-behind}
 use Rattle.sa_lines_in.specs.Reading.{ReadsLine}
@@ -11,8 +10,10 @@ use Rattle.sa_core_model.specs.Run.{IsTurn}
 use Rattle.sa_asked.specs.declared.question.Question.{Question}
 use Rattle.sa_asked.specs.Questions.{question}
 use Rattle.sa_driven_model.specs.Step.{driven_calls}
-use Rattle.sa_session.specs.Machines.{DrivenMachine}
-use Rattle.sa_session.specs.Exchange.{ExchangeView, Hears}
+use Rattle.sa_session.specs.declared.exchange.NoTalk.{NoTalk}
+use Rattle.sa_session.specs.declared.exchange.NoTalk.TheVariants.{OutOfMemory}
+use Rattle.sa_driven_runs.specs.Sessions.{DrivenMachine}
+use Rattle.sa_session.specs.Exchange.{ExchangeView, Hears, WrittenFor}
 use Rattle.sa_session.specs.Text.{ask_text}
 use Rattle.sa_session.specs.Answer.{Puts}
 use Rattle.sa_session.specs.Events.{Makes, IsLost}
@@ -21,7 +22,7 @@ use Rattle.sa_session.proofs.Puts.{put-workload, put-event}
 
 module _ (m : DrivenMachine) (p : ProcNo) (x : ExchangeView) (at now : Option (List ℕ)) where
   -- memory ran out before anything was written or read
-  pub lost-before : IsLost m p x at at now now
+  pub lost-before : IsLost m p x at at now now OutOfMemory
   lost-before = record { later = x.kept; hears = hears-none x.kept at; taken = (0, Appends-nil now) }
 
   -- what was said is not written
@@ -42,11 +43,12 @@ module _ (m : DrivenMachine) (p : ProcNo) (x : ExchangeView) (at now : Option (L
 
   module _ (said : List ℕ) (is_said : said ≡ x.said ++ ask_text m p) (after new : Option (List ℕ)) where
     -- no reply was read
-    pub lost-hearing : (kept : List ℕ) → Hears x.kept kept at after [] → AppendsPrefix now new said → IsLost m p x at after now new
-    lost-hearing kept hears cut = record {
+    pub lost-hearing : (why : NoTalk) (kept : List ℕ) → Hears x.kept kept at after [] → WrittenFor why now new said
+        → IsLost m p x at after now new why
+    lost-hearing why kept hears written = record {
       later = kept;
       hears = hears;
-      taken = subst (λ bs. AppendsPrefix now new bs) is_said cut;
+      taken = subst (λ bs. WrittenFor why now new bs) is_said written;
     }
 
     -- it was said before the reply was read
@@ -58,7 +60,7 @@ module _ (m : DrivenMachine) (p : ProcNo) (x : ExchangeView) (at now : Option (L
       all = x.kept ++ reads.got
 
       -- memory ran out after its reply was put
-      pub lost-turning : IsLost m p x at after now new
+      pub lost-turning : IsLost m p x at after now new OutOfMemory
       lost-turning = record {
         later = all;
         hears = hears-got x.kept reads.got all at after reads.taken refl;

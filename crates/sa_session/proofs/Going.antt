@@ -2,7 +2,7 @@
 use Rattle.std.proofs.Common.{◌≡◌, ℕ, suc, ◌+◌, ◌≤◌, List, [], ◌∷◌, ◌++◌, length, take, Option, Some, None, refl, sym, ap, ◌∙◌, subst, append_assoc, append-nil, add-one, arith}
 use Rattle.std.proofs.lemmas.List.{drop_all}
 use Rattle.std.proofs.lemmas.List.{length-append}
-use Rattle.std.proofs.KnownBytes.{Appends-nil}
+use Rattle.std.proofs.KnownBytes.{Appends-nil, Appends-trans}
 use Rattle.std.specs.Io.KnownBytes.{Appends}
 use Rattle.sa_base.specs.declared.number.ProcNo.{ProcNo}
 use Rattle.sa_base.specs.declared.record.Item.{Item}
@@ -25,8 +25,9 @@ use Rattle.sa_driven_model.specs.declared.context.DrivenContext.{DrivenContext}
 use Rattle.sa_driven_model.specs.declared.space.DrivenSpace.{DrivenSpace}
 use Rattle.sa_driven_model.specs.Step.{driven_calls}
 use Rattle.sa_replies.specs.Telling.{opened, told_through, items_text}
-use Rattle.sa_session.specs.Machines.{DrivenMachine, proc_after}
-use Rattle.sa_session.specs.Exchange.{ExchangeView, Hears}
+use Rattle.sa_driven_runs.specs.Sessions.{DrivenMachine}
+use Rattle.sa_session.specs.Machines.{proc_after}
+use Rattle.sa_session.specs.Exchange.{ExchangeView, Hears, WrittenFor}
 use Rattle.sa_session.specs.Text.{ask_text, text_from}
 use Rattle.sa_session.specs.Moments.{Moment, first_moment, lines_of, IsEvent, GoesOn, Reaches}
 use Rattle.sa_session.specs.Answer.{answer_in}
@@ -34,6 +35,8 @@ use Rattle.sa_asked.specs.Questions.{question}
 use Rattle.sa_session.specs.Views.{SessionView, Follows, HasToldAll}
 use Rattle.sa_session.specs.Events.{Makes, Refuses, IsLost}
 use Rattle.sa_session.specs.declared.conversation.Close.TheVariants.{Ended, Refused}
+use Rattle.sa_session.specs.declared.exchange.NoTalk.{NoTalk}
+use Rattle.sa_session.specs.declared.exchange.NoTalk.TheVariants.{Read, Write, OutOfMemory}
 use Rattle.sa_session.specs.declared.wrong.Wrong.{Wrong}
 use Rattle.sa_session.specs.Over.{said_at, IsClosed, CameSoFar}
 use Rattle.sa_session.proofs.Lines.{hears-on, hears-none}
@@ -62,6 +65,16 @@ follows-on s t more all teller told workload items =
           (sym (ap (λ n. take n (machine t.core).items) count ∙ ap (λ (is : List Item). take (length (machine s.core).items) is) items
           ∙ take-same (machine s.core).items more));
     }
+
+-- What was written of a text, after a part of it that was written before.
+written-behind : (why : NoTalk) (before at after : Option (List ℕ)) (text written piece : List ℕ) → text ≡ written ++ piece
+    → Appends before at written → WrittenFor why at after piece → WrittenFor why before after text
+written-behind Read before at after text written piece whole taken more =
+    subst (λ v. Appends before after v) (sym whole) (Appends-trans before at after written piece taken more)
+written-behind Write before at after text written piece whole taken cut =
+    prefix-behind before at after text written piece [] (whole ∙ ap (λ v. written ++ v) (sym (append-nil piece))) taken cut
+written-behind OutOfMemory before at after text written piece whole taken cut =
+    prefix-behind before at after text written piece [] (whole ∙ ap (λ v. written ++ v) (sym (append-nil piece))) taken cut
 
 -- WHERE A SESSION IS: at a moment, whose text is what was said, with the lines of the items that are still to be told
 pub record IsAt (w : WorkloadView) (order : Order) (budget : ℕ) (kept : List ℕ) (before at old now : Option (List ℕ)) (m : DrivenMachine) (told : ℕ)
@@ -93,7 +106,7 @@ module _ (w : WorkloadView) (order : Order) (budget : ℕ) (kept : List ℕ) (be
   }
 
   -- MEMORY RAN OUT at the opening.
-  pub lost-start : CameSoFar w order budget kept before before old old
+  pub lost-start : CameSoFar w order budget kept before before old old OutOfMemory
   lost-start =
       record { moment = first_moment w; reached = refl; later = kept; hears = hears-none kept before; taken = (0, Appends-nil old) }
 
@@ -137,9 +150,9 @@ module _ (w : WorkloadView) (order : Order) (budget : ℕ) (kept : List ℕ) (be
           ∙ ap (λ bs. a.out.sent ++ bs)
           (append_assoc x.said (text_from told m.workload m.items) (ask_text a.moment.machine (proc_after w order a.moment.machine.event)))
 
-      came : (later : List ℕ) (after new : Option (List ℕ)) → Hears x.kept later at after [] → AppendsPrefix old new (said_at w order a.moment)
-          → CameSoFar w order budget kept before after old new
-      came later after new hears taken = record {
+      came : (why : NoTalk) (later : List ℕ) (after new : Option (List ℕ)) → Hears x.kept later at after []
+          → WrittenFor why old new (said_at w order a.moment) → CameSoFar w order budget kept before after old new why
+      came why later after new hears taken = record {
         moment = a.moment;
         reached = subst (λ (z : DrivenMachine). Reaches w order budget z.event a.moment) (sym a.is) a.reached;
         later = later;
@@ -149,17 +162,17 @@ module _ (w : WorkloadView) (order : Order) (budget : ℕ) (kept : List ℕ) (be
       }
 
       -- MEMORY RAN OUT as the items were told.
-      pub lost-here : CameSoFar w order budget kept before at old now
+      pub lost-here : CameSoFar w order budget kept before at old now OutOfMemory
       lost-here =
-          came x.kept at now (hears-none x.kept at)
+          came OutOfMemory x.kept at now (hears-none x.kept at)
           (prefix-behind old now now (said_at w order a.moment) a.out.sent []
           (x.said ++ (text_from told m.workload m.items ++ ask_text a.moment.machine (proc_after w order a.moment.machine.event))) whole-said a.out.taken
           (0, Appends-nil now))
 
       -- THE LAST WRITE failed.
-      pub lost-writing : (new : Option (List ℕ)) → AppendsPrefix now new x.said → CameSoFar w order budget kept before at old new
+      pub lost-writing : (new : Option (List ℕ)) → AppendsPrefix now new x.said → CameSoFar w order budget kept before at old new Write
       lost-writing new cut =
-          came x.kept at new (hears-none x.kept at)
+          came Write x.kept at new (hears-none x.kept at)
           (prefix-behind old now new (said_at w order a.moment) a.out.sent x.said
           (text_from told m.workload m.items ++ ask_text a.moment.machine (proc_after w order a.moment.machine.event)) whole-said a.out.taken cut)
 
@@ -255,19 +268,18 @@ module _ (w : WorkloadView) (order : Order) (budget : ℕ) (kept : List ℕ) (be
           -- THAT WRITE failed.
           pub lost-refusing : (wrong : Wrong) (y : ExchangeView) (after between new : Option (List ℕ)) (made : DrivenMachine)
               → Refuses m p x at after now between wrong y made
-              → AppendsPrefix between new y.said → CameSoFar w order budget kept before after old new
+              → AppendsPrefix between new y.said → CameSoFar w order budget kept before after old new Write
           lost-refusing wrong y after between new made refusal cut =
-              came refusal.later after new refusal.hears (subst (λ bs. AppendsPrefix old new bs) (sym is-said)
+              came Write refusal.later after new refusal.hears (subst (λ bs. AppendsPrefix old new bs) (sym is-said)
               (out-end_cut old between new (a.moment.text ++ ask_text m p) y.said (out-asked y between refusal.out) cut))
 
           -- THE EVENT could not be made.
-          pub lost-event : (after new : Option (List ℕ)) → IsLost m p x at after now new → CameSoFar w order budget kept before after old new
-          lost-event after new lost =
-              came lost.later after new lost.hears (subst (λ bs. AppendsPrefix old new bs) (sym is-said)
-              (prefix-behind old now new (a.moment.text ++ ask_text m p) a.out.sent (x.said ++ ask_text m p) []
-              (ap (λ bs. bs ++ ask_text m p) (sym is-text ∙ a.out.whole)
-              ∙ append_assoc a.out.sent x.said (ask_text m p)
-              ∙ ap (λ bs. a.out.sent ++ bs) (sym (append-nil (x.said ++ ask_text m p)))) a.out.taken lost.taken))
+          pub lost-event : (why : NoTalk) (after new : Option (List ℕ)) → IsLost m p x at after now new why
+              → CameSoFar w order budget kept before after old new why
+          lost-event why after new lost =
+              came why lost.later after new lost.hears (subst (λ bs. WrittenFor why old new bs) (sym is-said)
+              (written-behind why old now new (a.moment.text ++ ask_text m p) a.out.sent (x.said ++ ask_text m p)
+              (ap (λ bs. bs ++ ask_text m p) (sym is-text ∙ a.out.whole) ∙ append_assoc a.out.sent x.said (ask_text m p)) a.out.taken lost.taken))
 
   -- THE ITEMS were told.
   pub at-all : (at now : Option (List ℕ)) (replies : ℕ) (s t : SessionView) (x view : ExchangeView) (said : List ℕ) → view ≡ x → t.core ≡ s.core

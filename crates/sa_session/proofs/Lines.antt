@@ -5,11 +5,11 @@ use Rattle.std.proofs.lemmas.Grind.{flat_map-append}
 use Rattle.std.proofs.KnownBytes.{Consumes-nil, Consumes-trans}
 use Rattle.std.specs.Prelude.{◌==◌, ◌&&◌, nat_le, Ok, Err, if◌then◌else◌}
 use Rattle.std.specs.Io.KnownBytes.{Consumes}
-use Rattle.sa_base.specs.declared.refusal.Cause.TheVariants.{NotAscii, TooMany}
+use Rattle.sa_base.specs.declared.refusal.Cause.TheVariants.{Missing, NotAscii, TooMany}
 use Rattle.sa_lemmas.proofs.Results.{same-ok}
 use Rattle.sa_lines_in.specs.declared.line.TheConstants.{LINE_LIMIT}
 use Rattle.sa_lines_in.specs.Line.{line_len, len_from}
-use Rattle.sa_lines_in.specs.Reading.{ReadsLine}
+use Rattle.sa_lines_in.specs.Reading.{ReadsLine, is_decided}
 use Rattle.sa_session.specs.Exchange.{lines_text, Hears}
 
 -- some bytes begin with a line of this length, of which this many came before
@@ -38,6 +38,25 @@ begins-from : (seen len : ℕ) (bytes : List ℕ) → len_from seen bytes ≡ Ok
 begins-from seen len [] is = absurd cc
 begins-from seen len (b ∷ bs) is =
     begins-by (b == 10) (seen == LINE_LIMIT) (nat_le 32 b && nat_le b 126) seen len b bs refl (λ more. begins-from (seen + 1) len bs more) is
+
+-- some bytes are open if they are open with more after them: the first byte, by its tests
+open-by : (feed long good : Bool) (seen : ℕ) (bs more : List ℕ)
+    → (len_from (seen + 1) (bs ++ more) ≡ Err Missing → is_decided (len_from (seen + 1) bs) ≡ false)
+    → (if feed then Ok seen else (if long then Err TooMany else (if good then len_from (seen + 1) (bs ++ more) else Err NotAscii))) ≡ Err Missing
+    → is_decided (if feed then Ok seen else (if long then Err TooMany else (if good then len_from (seen + 1) bs else Err NotAscii))) ≡ false
+open-by true long good seen bs more rest is = absurd cc
+open-by false true good seen bs more rest is = absurd cc
+open-by false false true seen bs more rest is = rest is
+open-by false false false seen bs more rest is = absurd cc
+
+open-from : (seen : ℕ) (bytes more : List ℕ) → len_from seen (bytes ++ more) ≡ Err Missing → is_decided (len_from seen bytes) ≡ false
+open-from seen [] more is = refl
+open-from seen (b ∷ bs) more is =
+    open-by (b == 10) (seen == LINE_LIMIT) (nat_le 32 b && nat_le b 126) seen bs more (λ rest. open-from (seen + 1) bs more rest) is
+
+-- BYTES that are not decided with more after them are not decided alone.
+pub open-before : (bytes more : List ℕ) → line_len (bytes ++ more) ≡ Err Missing → is_decided (line_len bytes) ≡ false
+open-before bytes more is = open-from 0 bytes more is
 
 take-front : (front rest : List ℕ) → take (length front) (front ++ rest) ≡ front
 take-front [] rest = refl

@@ -19,7 +19,7 @@ use Rattle.sa_driven_model.specs.declared.context.DrivenContext.{DrivenContext}
 use Rattle.sa_driven_model.specs.declared.reply.Reply.{Reply}
 use Rattle.sa_driven_model.specs.declared.space.DrivenSpace.{DrivenSpace}
 use Rattle.sa_driven_model.specs.Step.{driven_calls}
-use Rattle.sa_session.specs.Machines.{DrivenMachine}
+use Rattle.sa_driven_runs.specs.Sessions.{DrivenMachine}
 
 -- a test of all values, if one is changed that passes it as before
 all-set : (test : DrivenSpace → Bool) (us : List DrivenSpace) (n : ℕ) (u v : DrivenSpace) → slice_get us n ≡ Some u → test v ≡ test u

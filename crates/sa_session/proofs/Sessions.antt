@@ -41,7 +41,8 @@ use Rattle.sa_package_runs.specs.Whole.{IsTurnByTurn, IsEnded}
 use Rattle.sa_package_runs.proofs.Leading.{turns_by, are-turns, many-processors, processor-at}
 use Rattle.sa_package_runs.proofs.Playable.{events-play}
 use Rattle.sa_package_runs.proofs.Reaching.{turn-goes}
-use Rattle.sa_session.specs.Machines.{DrivenMachine, proc_after}
+use Rattle.sa_driven_runs.specs.Sessions.{DrivenMachine}
+use Rattle.sa_session.specs.Machines.{proc_after}
 use Rattle.sa_session.specs.Moments.{Moment, IsAnswered, IsEvent, GoesOn, Reaches}
 use Rattle.sa_session.proofs.Puts.{put-end}
 

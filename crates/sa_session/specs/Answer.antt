@@ -16,7 +16,7 @@ use Rattle.sa_replies.specs.Reply.{reply_in}
 use Rattle.sa_replies.specs.Telling.{opened, told_through}
 use Rattle.sa_session.specs.declared.wrong.Wrong.{Wrong}
 use Rattle.sa_session.specs.declared.wrong.Wrong.TheVariants.{Bad, NoStep}
-use Rattle.sa_session.specs.Machines.{DrivenMachine}
+use Rattle.sa_driven_runs.specs.Sessions.{DrivenMachine}
 
 abbrev pub wrong_number : Wrong → ℕ
 wrong_number (Bad cause) = cause_number cause

@@ -3,7 +3,6 @@ use Rattle.std.specs.Prelude.{◌≡◌, ℕ, ◌+◌, List, [], ◌++◌, Optio
 use Rattle.std.specs.Io.KnownBytes.{IsAtEnd}
 use Rattle.sa_base.specs.declared.number.ProcNo.{ProcNo}
 use Rattle.sa_base.specs.declared.refusal.Cause.TheVariants.{Missing}
-use Rattle.sa_io.specs.Faults.{AppendsPrefix}
 use Rattle.sa_io.specs.Pieces.{GoesOut}
 use Rattle.sa_lines_in.specs.Line.{line_len}
 use Rattle.sa_asked.specs.declared.question.Question.{Question}
@@ -11,9 +10,10 @@ use Rattle.sa_asked.specs.Questions.{question}
 use Rattle.sa_driven_model.specs.Step.{driven_calls}
 use Rattle.sa_session.specs.declared.conversation.Went.{Went}
 use Rattle.sa_session.specs.declared.conversation.Went.TheVariants.{Alone, Answered, Refused}
+use Rattle.sa_session.specs.declared.exchange.NoTalk.{NoTalk}
 use Rattle.sa_session.specs.declared.wrong.Wrong.{Wrong}
-use Rattle.sa_session.specs.Machines.{DrivenMachine}
-use Rattle.sa_session.specs.Exchange.{ExchangeView, Hears}
+use Rattle.sa_driven_runs.specs.Sessions.{DrivenMachine}
+use Rattle.sa_session.specs.Exchange.{ExchangeView, Hears, WrittenFor}
 use Rattle.sa_session.specs.Text.{ask_text}
 use Rattle.sa_session.specs.Answer.{answer_in}
 use Rattle.sa_session.specs.Moments.{IsEvent, lines_of}
@@ -43,8 +43,8 @@ module _ (m : DrivenMachine) (p : ProcNo) (x : ExchangeView) (before after old n
   Goes Answered y made = (line : List ℕ) × Makes (Some line) y made
   Goes (Refused wrong) y made = Refuses wrong y made
 
-  -- it could not be made: a prefix of what was said was written, and all that was read is left
-  pub record IsLost : Type 0 where
+  -- it could not be made for this: so much of what was said was written, and all that was read is left
+  pub record IsLost (why : NoTalk) : Type 0 where
     pub later : List ℕ
     pub hears : Hears x.kept later before after []
-    pub taken : AppendsPrefix old new (x.said ++ ask_text m p)
+    pub taken : WrittenFor why old new (x.said ++ ask_text m p)

@@ -1,8 +1,8 @@
 -- What is read and what is written in a session.
 use Rattle.std.specs.Prelude.{◌≡◌, ℕ, List, [], ◌∷◌, ◌++◌, Option}
 use Rattle.std.specs.List.{flat_map}
-use Rattle.std.specs.Io.KnownBytes.{Consumes}
-use Rattle.sa_io.specs.Faults.{HasRisen}
+use Rattle.std.specs.Io.KnownBytes.{Appends, Consumes}
+use Rattle.sa_io.specs.Faults.{AppendsPrefix, HasRisen}
 use Rattle.sa_lines_in.specs.Reading.{ReadsLine, LacksLine}
 use Rattle.sa_session.specs.declared.exchange.Heard.{Heard}
 use Rattle.sa_session.specs.declared.exchange.Heard.TheVariants.{Line, Bad}
@@ -34,3 +34,9 @@ abbrev pub FailsFor : NoTalk → (reads reads_now writes writes_now : ℕ) → T
 FailsFor Read reads reads_now writes writes_now = HasRisen reads reads_now
 FailsFor Write reads reads_now writes writes_now = HasRisen writes writes_now
 FailsFor OutOfMemory reads reads_now writes writes_now = Unit {0}
+
+-- what the sink took of what was said before a session could not go on: all of it if a read failed, else a prefix
+abbrev pub WrittenFor : NoTalk → (old new : Option (List ℕ)) → List ℕ → Type 0
+WrittenFor Read old new said = Appends old new said
+WrittenFor Write old new said = AppendsPrefix old new said
+WrittenFor OutOfMemory old new said = AppendsPrefix old new said

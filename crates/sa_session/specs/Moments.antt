@@ -9,7 +9,8 @@ use Rattle.sa_core_model.specs.Run.Move.{turn}
 use Rattle.sa_asked.specs.declared.question.Question.{Question}
 use Rattle.sa_asked.specs.Questions.{question}
 use Rattle.sa_driven_model.specs.Step.{driven_calls}
-use Rattle.sa_session.specs.Machines.{DrivenMachine, proc_after}
+use Rattle.sa_driven_runs.specs.Sessions.{DrivenMachine}
+use Rattle.sa_session.specs.Machines.{proc_after}
 use Rattle.sa_session.specs.Text.{ask_text, text_from}
 use Rattle.sa_session.specs.Answer.{Puts}
 

@@ -4,7 +4,6 @@ use Rattle.std.specs.Io.KnownBytes.{Appends, IsAtEnd}
 use Rattle.sa_base.specs.declared.record.End.{End}
 use Rattle.sa_base.specs.declared.refusal.Cause.TheVariants.{Missing}
 use Rattle.sa_spaces.specs.Workload.{WorkloadView}
-use Rattle.sa_io.specs.Faults.{AppendsPrefix}
 use Rattle.sa_sched.specs.Order.{Order}
 use Rattle.sa_core_model.specs.End.{end_of}
 use Rattle.sa_lines_in.specs.Line.{line_len}
@@ -14,12 +13,14 @@ use Rattle.sa_driven_model.specs.Step.{driven_calls}
 use Rattle.sa_session.specs.declared.conversation.Close.{Close}
 use Rattle.sa_session.specs.declared.conversation.Close.TheVariants.{Ended, Refused}
 use Rattle.sa_session.specs.declared.conversation.Over.{Over}
+use Rattle.sa_session.specs.declared.exchange.NoTalk.{NoTalk}
 use Rattle.sa_session.specs.declared.wrong.Wrong.{Wrong}
-use Rattle.sa_session.specs.Machines.{DrivenMachine, proc_after}
+use Rattle.sa_driven_runs.specs.Sessions.{DrivenMachine}
+use Rattle.sa_session.specs.Machines.{proc_after}
 use Rattle.sa_session.specs.Text.{ask_text}
 use Rattle.sa_session.specs.Answer.{answer_in}
 use Rattle.sa_session.specs.Moments.{Moment, Reaches}
-use Rattle.sa_session.specs.Exchange.{Hears}
+use Rattle.sa_session.specs.Exchange.{Hears, WrittenFor}
 
 -- what was said at a moment, with the question that is open, if the next event is a step
 abbrev pub said_at : WorkloadView → Order → Moment → List ℕ
@@ -64,10 +65,10 @@ module _ (w : WorkloadView) (order : Order) (budget : ℕ) (kept : List ℕ) (be
     pub items : over.trace.items ≡ machine.items
     pub events : over.events ≡ machine.event
 
-  -- A session could not go on: it came so far, and a prefix of what was said was written.
-  pub record CameSoFar : Type 0 where
+  -- A session could not go on for this: it came so far, and so much of what was said was written.
+  pub record CameSoFar (why : NoTalk) : Type 0 where
     pub moment : Moment
     pub reached : Reaches w order budget moment.machine.event moment
     pub later : List ℕ
     pub hears : Hears kept later before after moment.replies
-    pub taken : AppendsPrefix old new (said_at w order moment)
+    pub taken : WrittenFor why old new (said_at w order moment)

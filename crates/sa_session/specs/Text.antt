@@ -8,7 +8,7 @@ use Rattle.sa_asked.specs.Questions.{question}
 use Rattle.sa_driven_model.specs.Step.{driven_calls}
 use Rattle.sa_replies.specs.Telling.{opened, told_through, items_text}
 use Rattle.sa_replies.specs.Texts.{question_text}
-use Rattle.sa_session.specs.Machines.{DrivenMachine}
+use Rattle.sa_driven_runs.specs.Sessions.{DrivenMachine}
 
 -- the line of the question that the turn of a processor asks, if it is a step
 abbrev pub asked_text : DrivenMachine → ProcNo → Option Question → List ℕ

@@ -1,5 +1,5 @@
 // The conversation of a session: each event, and what is said and heard between events.
-ghost use Rattle.std.specs.Prelude.{◌≡◌, ◌≤◌, ◌<◌, None, [], IfOk, IfErr, OnErr};
+ghost use Rattle.std.specs.Prelude.{◌≡◌, ◌≤◌, ◌<◌, None, [], IfOk, IfErr};
 ghost use Rattle.sa_base.specs.declared.limits.TheConstants.{MAX_EVENTS};
 ghost use Rattle.sa_core.specs.View.{machine};
 ghost use Rattle.sa_core_model.specs.End.{end_of};
@@ -75,7 +75,7 @@ pub fn talk<S: Source, K: Sink>(
     requires among { AreAmong workload.processors (order_of kind) }
     ensures ok { IfOk result (λ over. IsOver workload (order_of kind) budget lines (S.left source.old) (S.left source.new)
         (K.taken sink.old) (K.taken sink.new) over) }
-    ensures err { OnErr result (CameSoFar workload (order_of kind) budget lines (S.left source.old) (S.left source.new)
+    ensures err { IfErr result (CameSoFar workload (order_of kind) budget lines (S.left source.old) (S.left source.new)
         (K.taken sink.old) (K.taken sink.new)) }
     ensures why { IfErr result (λ why. FailsFor why (S.faults source.old) (S.faults source.new) (K.faults sink.old) (K.faults sink.new)) }
     ensures reads { S.faults source.old ≤ S.faults source.new }
@@ -119,7 +119,7 @@ impl Session {
         requires said { exchange.old.said ≡ [] }
         ensures ok { IfOk result (λ close. IsClosed (machine self.old.core).workload (order_of kind) self.old.core.budget
             exchange.old.kept (S.left source.old) (S.left source.new) (K.taken sink.old) (K.taken sink.new) (machine self.new.core) close) }
-        ensures err { OnErr result (CameSoFar (machine self.old.core).workload (order_of kind) self.old.core.budget
+        ensures err { IfErr result (CameSoFar (machine self.old.core).workload (order_of kind) self.old.core.budget
             exchange.old.kept (S.left source.old) (S.left source.new) (K.taken sink.old) (K.taken sink.new)) }
         ensures why { IfErr result (λ why. FailsFor why (S.faults source.old) (S.faults source.new) (K.faults sink.old) (K.faults sink.new)) }
         ensures reads { S.faults source.old ≤ S.faults source.new }
@@ -160,7 +160,7 @@ impl Session {
         requires told { HasToldAll self.old }
         ensures ok { IfOk result (λ went. Goes (machine self.old.core) p exchange.old (S.left source.old) (S.left source.new)
             (K.taken sink.old) (K.taken sink.new) went exchange.new (machine self.new.core)) }
-        ensures err { OnErr result (IsLost (machine self.old.core) p exchange.old (S.left source.old) (S.left source.new)
+        ensures err { IfErr result (IsLost (machine self.old.core) p exchange.old (S.left source.old) (S.left source.new)
             (K.taken sink.old) (K.taken sink.new)) }
         ensures why { IfErr result (λ why. FailsFor why (S.faults source.old) (S.faults source.new) (K.faults sink.old) (K.faults sink.new)) }
         ensures reads { S.faults source.old ≤ S.faults source.new }

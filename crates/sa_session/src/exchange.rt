@@ -1,12 +1,12 @@
 // What was said and is not written yet, and the reader of replies.
-ghost use Rattle.std.specs.Prelude.{◌≡◌, ◌⊎◌, ◌≤◌, [], true, IfOk, IfErr, OnOk, OnErr};
+ghost use Rattle.std.specs.Prelude.{◌≡◌, ◌⊎◌, ◌≤◌, [], true, false, IfOk, IfErr, OnOk, OnErr};
 ghost use Rattle.std.specs.Io.KnownBytes.{Appends};
 ghost use Rattle.sa_io.specs.Faults.{AppendsPrefix, HasRisen};
 ghost use Rattle.sa_io.specs.Pieces.{GoesOut};
 ghost use Rattle.sa_lines_in.specs.Line.{line_len};
 ghost use Rattle.sa_lines_in.specs.Reading.{is_decided};
 ghost use Rattle.sa_session.specs.declared.exchange.NoTalk.TheVariants.{OutOfMemory};
-ghost use Rattle.sa_session.specs.Exchange.{Hears, IsHeard, FailsFor};
+ghost use Rattle.sa_session.specs.Exchange.{Hears, IsHeard, FailsFor, WrittenFor};
 
 use sa_base::Cause;
 use sa_io::{Failed, Sink, Source};
@@ -95,7 +95,7 @@ impl Exchange {
     ) -> Result<Heard, NoTalk>
         ensures ok { IfOk result (IsHeard self.old.kept self.new.kept (S.left source.old) (S.left source.new)) }
         ensures out { OnOk result (GoesOut (K.taken sink.old) (K.taken sink.new) self.old.said [] self.new.said) }
-        ensures err { OnErr result (AppendsPrefix (K.taken sink.old) (K.taken sink.new) self.old.said) }
+        ensures err { IfErr result (λ why. WrittenFor why (K.taken sink.old) (K.taken sink.new) self.old.said) }
         ensures lost { OnErr result (Hears self.old.kept self.new.kept (S.left source.old) (S.left source.new) []) }
         ensures why { IfErr result (λ why. FailsFor why (S.faults source.old) (S.faults source.new) (K.faults sink.old) (K.faults sink.new)) }
         ensures reads { S.faults source.old ≤ S.faults source.new }
@@ -112,6 +112,7 @@ impl Exchange {
         requires written { (self.old.said ≡ []) ⊎ (is_decided (line_len self.old.kept) ≡ true) }
         ensures ok { IfOk result (IsHeard self.old.kept self.new.kept (S.left source.old) (S.left source.new)) }
         ensures lost { OnErr result (Hears self.old.kept self.new.kept (S.left source.old) (S.left source.new) []) }
+        ensures needed { OnErr result (is_decided (line_len self.old.kept) ≡ false) }
         ensures why { IfErr result (λ why. (why ≡ NoTalk.Read) × HasRisen (S.faults source.old) (S.faults source.new)) }
         ensures counted { S.faults source.old ≤ S.faults source.new }
         ensures said { self.new.said ≡ self.old.said }

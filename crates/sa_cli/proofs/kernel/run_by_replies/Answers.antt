@@ -25,7 +25,7 @@ pub returns-in-Err-talk-clause-lost : goal.returns-in-Err-talk-clause-lost
 returns-in-Err-talk-clause-lost g c =
     came-loses (WORKLOAD_LIMIT + 1) (g.S.Source.left c.args.source.now) (g.S.Source.left c.read_workload_in_front.new.source)
     (g.S.Source.left c.talk.new.source) c.read_workload_in_front.ensures.lost c.in-Ok.front.0 _ c.args.budget c.in-Ok.front.1
-    (g.K.Sink.taken c.args.sink.now) (g.K.Sink.taken c.talk.new.sink) c.in-Err-talk.ensures.err
+    (g.K.Sink.taken c.args.sink.now) (g.K.Sink.taken c.talk.new.sink) c.in-Err-talk.why c.in-Err-talk.ensures.err
 
 pub returns-in-Err-talk-clause-answers : goal.returns-in-Err-talk-clause-answers
 returns-in-Err-talk-clause-answers g c =

@@ -1,5 +1,5 @@
 use Rattle.std.proofs.Common.{rules, arith, ◌≡◌, ℕ, ◌+◌, Some, None, take, refl, sym, ap, ◌∙◌, subst}
-use Rattle.sa_lemmas.proofs.Results.{on_err}
+use Rattle.sa_lemmas.proofs.Results.{err_along}
 use Rattle.sa_sched.specs.Kind.{order_of}
 use Rattle.sa_sched.specs.Turns.{Turns, start, turned_often}
 use Rattle.sa_core.specs.View.{CoreView, machine}
@@ -9,10 +9,13 @@ use Rattle.sa_driven_model.specs.declared.context.DrivenContext.{DrivenContext}
 use Rattle.sa_driven_model.specs.declared.space.DrivenSpace.{DrivenSpace}
 use Rattle.sa_driven_model.specs.Step.{driven_calls}
 use Rattle.sa_replies.specs.Telling.{opened, told_through}
+use Rattle.sa_session.specs.declared.exchange.NoTalk.TheVariants.{Write, OutOfMemory}
 use Rattle.sa_session.specs.declared.conversation.Went.{Went}
-use Rattle.sa_session.specs.Machines.{DrivenMachine, proc_after}
+use Rattle.sa_driven_runs.specs.Sessions.{DrivenMachine}
+use Rattle.sa_session.specs.Machines.{proc_after}
 use Rattle.sa_session.specs.Exchange.{ExchangeView}
 use Rattle.sa_session.specs.Events.{Makes, Refuses, Goes}
+use Rattle.sa_session.specs.Over.{CameSoFar}
 use Rattle.sa_session.proofs.Going.{IsAt, at-opening, at-plays, at-all, at-end, at-event, at-refusal, lost-here, lost-writing, lost-event, lost-refusing, turn-is, schedule-on, follows-event}
 use Rattle.sa_session.proofs.session.Session.converse.Goals as goal
 
@@ -65,9 +68,10 @@ returns-in_err-tell-clause-err g c =
     let old = g.K.Sink.taken c.args.sink.now in
     let at = g.S.Source.left c.loop-schedule.source in
     let now = g.K.Sink.taken c.loop-schedule.sink in
-    on_err c.from_residual.result
+    err_along (CameSoFar w order budget kept before at old now) OutOfMemory c.from_residual.result
     (lost-here w order budget kept before old (machine c.loop-schedule.self.core) c.loop-schedule.exchange at now c.loop-schedule.self.told
     c.loop-schedule.replies c.loop-schedule.invariant.at)
+    c.from_residual.ensures.1
 
 pub returns-in_err-write-clause-err : goal.returns-in_err-write-clause-err
 returns-in_err-write-clause-err g c =
@@ -83,9 +87,12 @@ returns-in_err-write-clause-err g c =
     let here =
     at-all w order budget kept before old at now c.loop-schedule.replies c.loop-schedule.self c.tell.new.self c.loop-schedule.exchange _
     c.tell.new.said.items c.exchange.view_is c.tell.ensures.core c.in_ok-tell.ensures.told c.in_ok-tell.ensures.text c.loop-schedule.invariant.at in
-    on_err c.from_residual-in_err-write.result
+    let cause = CameSoFar w order budget kept before at old (g.K.Sink.taken c.write.new.sink) in
+    err_along cause c.in_err-write.field-0.0 c.from_residual-in_err-write.result
+    (subst cause (sym c.in_err-write.ensures.why.0)
     (lost-writing w order budget kept before old (machine c.tell.new.self.core) said at now c.tell.new.self.told c.loop-schedule.replies here
-    (g.K.Sink.taken c.write.new.sink) c.in_err-write.ensures.err)
+    (g.K.Sink.taken c.write.new.sink) c.in_err-write.ensures.err))
+    c.from_residual-in_err-write.ensures.1
 
 pub returns-in-Some-clause-ok : goal.returns-in-Some-clause-ok
 returns-in-Some-clause-ok g c =
@@ -128,9 +135,12 @@ returns-in_err-event-clause-err g c =
     turn-is w order (machine c.loop-schedule.self.core).event c.loop-schedule.schedule c.next.result c.turns_are_in_order.ensures
     c.requires.workload.some_processor c.loop-schedule.invariant.schedule c.next.ensures.processor
     ∙ ap (proc_after w order) (sym same) in
-    on_err c.from_residual-in_err-event.result
+    err_along (CameSoFar w order budget kept before (g.S.Source.left c.event.new.source) old (g.K.Sink.taken c.event.new.sink))
+    c.in_err-event.field-0.0 c.from_residual-in_err-event.result
     (lost-event w order budget kept before old (machine c.tell.new.self.core) said at now c.tell.new.self.told c.loop-schedule.replies here
-    c.in_ok-tell.ensures.told.all c.next.result turn (g.S.Source.left c.event.new.source) (g.K.Sink.taken c.event.new.sink) c.in_err-event.ensures.err)
+    c.in_ok-tell.ensures.told.all c.next.result turn c.in_err-event.field-0.0 (g.S.Source.left c.event.new.source) (g.K.Sink.taken c.event.new.sink)
+    c.in_err-event.ensures.err)
+    c.from_residual-in_err-event.ensures.1
 
 pub loop-schedule-preserved-in-Alone : goal.loop-schedule-preserved-in-Alone
 loop-schedule-preserved-in-Alone g c =
@@ -288,10 +298,13 @@ returns-in_err-write-in-Refused-clause-err g c =
     c.in-Refused.wrong c.event.new.exchange (machine c.event.new.self.core) =
     subst (λ (e : Went). Goes (machine c.tell.new.self.core) c.next.result said at (g.S.Source.left c.event.new.source) now (g.K.Sink.taken c.event.new.sink)
     e c.event.new.exchange (machine c.event.new.self.core)) c.in-Refused.is c.in_ok-event.ensures.ok in
-    on_err c.from_residual-in_err-write-in-Refused.result
+    let cause = CameSoFar w order budget kept before (g.S.Source.left c.event.new.source) old (g.K.Sink.taken c.write-in-Refused.new.sink) in
+    err_along cause c.in_err-write-in-Refused.field-0.0 c.from_residual-in_err-write-in-Refused.result
+    (subst cause (sym c.in_err-write-in-Refused.ensures.why.0)
     (lost-refusing w order budget kept before old (machine c.tell.new.self.core) said at now c.tell.new.self.told c.loop-schedule.replies here
     c.in_ok-tell.ensures.told.all c.next.result turn c.in-Refused.wrong c.event.new.exchange (g.S.Source.left c.event.new.source)
-    (g.K.Sink.taken c.event.new.sink) (g.K.Sink.taken c.write-in-Refused.new.sink) (machine c.event.new.self.core) refusal c.in_err-write-in-Refused.ensures.err)
+    (g.K.Sink.taken c.event.new.sink) (g.K.Sink.taken c.write-in-Refused.new.sink) (machine c.event.new.self.core) refusal c.in_err-write-in-Refused.ensures.err))
+    c.from_residual-in_err-write-in-Refused.ensures.1
 
 pub returns-in-Refused-clause-ok : goal.returns-in-Refused-clause-ok
 returns-in-Refused-clause-ok g c =
