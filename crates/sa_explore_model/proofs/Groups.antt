@@ -1,5 +1,5 @@
 -- The states with an end, counted one after another, are grouped by their bytes.
-use Rattle.std.proofs.Common.{◌≡◌, ◌≢◌, ℕ, zero, suc, ◌+◌, ◌<◌, ◌≤◌, ◌⊎◌, inl, inr, Bool, true, false, if◌then◌else◌, Option, Some, None, List, [], ◌∷◌, ◌++◌, length, take, get_or, slice_get, slice_set, count_by, refl, sym, ap, subst, ◌∙◌, arith}
+use Rattle.std.proofs.Common.{◌≡◌, ◌≢◌, ℕ, zero, suc, ◌+◌, ◌<◌, ◌⊎◌, inl, inr, Bool, true, false, if◌then◌else◌, Option, Some, None, List, [], ◌∷◌, ◌++◌, length, take, get_or, slice_get, slice_set, count_by, refl, sym, ap, subst, ◌∙◌, arith}
 use Rattle.std.proofs.lemmas.Bool.{cases_lt}
 use Rattle.std.proofs.lemmas.Option.{same_Some, slice_get_within, get_or_from_slice_get}
 use Rattle.std.proofs.lemmas.List.{take_more}
@@ -89,8 +89,8 @@ module _ (keys : List (Option (List ℕ))) (n : ℕ) (groups : List Grouped) (wa
     every = λ k key below is. elim (cases_lt k n) [
       | inl less ↦ was.every k key less is
       | inr past ↦ absurd (
-        let same : k ≡ n = omega arith in
-        let wrong : Some None ≡ Some (Some key) = sym here ∙ ap (slice_get keys) (sym same) ∙ is in cc)
+          let same : k ≡ n = omega arith in
+          let wrong : Some None ≡ Some (Some key) = sym here ∙ ap (slice_get keys) (sym same) ∙ is in cc)
     ];
     different = was.different;
     rise = was.rise;

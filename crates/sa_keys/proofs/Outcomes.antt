@@ -6,7 +6,7 @@ use Rattle.sa_outlook.specs.declared.put.Put.{Put}
 use Rattle.sa_package_keys.specs.Codes.{IsPrefixCode, number, list}
 use Rattle.sa_package_keys.proofs.Codes.{number-code, list-code}
 use Rattle.sa_keys.specs.Outs.{put_key}
-use Rattle.sa_keys.specs.Outcome.{OutcomeView, end_key, outcome_key}
+use Rattle.sa_keys.specs.Outcome.{OutcomeView, end_key}
 use Rattle.sa_keys.specs.Laws.{KeysTellOutcomes}
 use Rattle.sa_keys.proofs.PutLemmas.{put-code}
 

@@ -1,6 +1,5 @@
 -- What a run that ended left.
-use Rattle.std.specs.Prelude.{ℕ, List, ◌++◌, map, Option}
-use Rattle.std.specs.Option.{option_map}
+use Rattle.std.specs.Prelude.{ℕ, List, ◌++◌, map}
 use Rattle.sa_base.specs.declared.record.End.{End}
 use Rattle.sa_base.specs.declared.record.End.TheVariants.{AllDone, Stuck, Budget}
 use Rattle.sa_core_model.specs.Machine.{Machine}

@@ -1,12 +1,12 @@
 -- The group with some bytes among those counted so far.
-use Rattle.std.proofs.Common.{◌≡◌, ℕ, zero, suc, true, Option, Some, None, List, [], ◌∷◌, map, option_map, get_or, slice_get, refl, sym, ap, ◌∙◌}
-use Rattle.std.proofs.lemmas.Option.{same_Some, slice_get-map}
+use Rattle.std.proofs.Common.{◌≡◌, ℕ, zero, suc, Some, None, List, [], ◌∷◌, slice_get, refl, ap, ◌∙◌}
+use Rattle.std.proofs.lemmas.Option.{same_Some}
 use Rattle.std.specs.Str.{bytes_eq}
 use Rattle.std.specs.Cmp.Lexicographic.{bytes_decides}
 use Rattle.sa_explore_model.specs.Results.{Grouped}
 use Rattle.sa_states.specs.declared.groups.Group.{Group}
 use Rattle.sa_states.specs.Groups.{group_of, groups_of, place_of}
-use Rattle.sa_states.proofs.Firsts.{first-at, none-passes}
+use Rattle.sa_states.proofs.Firsts.{none-passes}
 
 -- a group as it is kept
 pub kept-group : (groups : List Group) (i : ℕ) (g : Grouped) → slice_get (groups_of groups) i ≡ Some g

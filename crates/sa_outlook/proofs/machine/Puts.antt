@@ -1,5 +1,5 @@
 -- What a turn puts out: what the step says, if the turn comes to a step. From machines that are alike it is the same.
-use Rattle.std.proofs.Common.{◌≡◌, ℕ, ◌++◌, Bool, true, false, Option, Some, None, option_map, is_some, List, [], ◌∷◌, get_or, slice_get, refl, sym, ap, subst, ◌∙◌, inl, inr}
+use Rattle.std.proofs.Common.{◌≡◌, ℕ, ◌++◌, Bool, true, false, Option, Some, None, option_map, is_some, List, [], ◌∷◌, slice_get, refl, sym, ap, ◌∙◌, inl, inr}
 use Rattle.std.proofs.lemmas.List.{append-nil}
 use Rattle.std.proofs.lemmas.Option.{same_Some}
 use Rattle.sa_base.specs.declared.number.ProcNo.{ProcNo}
@@ -12,26 +12,25 @@ use Rattle.sa_base.specs.declared.record.Note.{Note}
 use Rattle.sa_base.specs.declared.record.Item.{Item}
 use Rattle.sa_base.specs.Items.{items_at}
 use Rattle.sa_spaces.specs.Space.{SpaceView}
-use Rattle.sa_spaces.specs.Workload.{WorkloadView}
-use Rattle.sa_abstract.specs.Calls.{Calls, Stepped}
+use Rattle.sa_abstract.specs.Calls.{Calls}
 use Rattle.sa_abstract.specs.declared.answer.Step.{Step}
 use Rattle.sa_abstract.specs.declared.answer.Step.TheVariants.{Did, Block, More, Idle, GiveBack, InterruptOwn}
 use Rattle.sa_devices.specs.Ios.{Io, io_no, due_of}
 use Rattle.sa_kernel_model.specs.declared.entry.Entry.{Entry}
 use Rattle.sa_kernel_model.specs.declared.entry.Entry.TheVariants.{Interrupt, Block as BlockEntry, Complete, More as MoreEntry, Idle as IdleEntry, GiveBack as GiveBackEntry, InterruptOwn as InterruptOwnEntry}
-use Rattle.sa_kernel_model.specs.State.{KernelState, Scene, owner_of, line_of}
+use Rattle.sa_kernel_model.specs.State.{owner_of, line_of}
 use Rattle.sa_kernel_model.specs.Entering.{upcalls}
-use Rattle.sa_core_model.specs.Machine.{Machine, user_of, context_on, seen_on, scene_of, without_context, called_by, context_begun_by, context_begun, answered, told, stopped_in, step_to, stepped_by, stepped}
-use Rattle.sa_core_model.specs.Turn.{next_event, ticked, ends_slice, sliced_if, sliced, kernel_entered, told_one, told_all, welcomed_in, welcomed_if, entered_on, answered_in, hinted, blocked_by, blocked, interrupted, asked, turned_owned, turned_due, turned_raised, turned}
+use Rattle.sa_core_model.specs.Machine.{Machine, user_of, context_on, seen_on, scene_of, without_context, called_by, context_begun_by, context_begun, answered, stopped_in, stepped_by, stepped}
+use Rattle.sa_core_model.specs.Turn.{next_event, ticked, ends_slice, sliced_if, kernel_entered, told_one, told_all, welcomed_in, welcomed_if, entered_on, answered_in, hinted, blocked_by, asked, turned_owned, turned_due, turned_raised, turned}
 use Rattle.sa_outlook.specs.declared.put.Put.{Put}
 use Rattle.sa_outlook.specs.Outs.{said_by, puts_of, with_put, with_puts, outs_of}
 use Rattle.sa_outlook.specs.Outlook.{see}
 use Rattle.sa_outlook.specs.UserLevels.{at_event, IgnoresNumbers}
 use Rattle.sa_outlook.proofs.Invariant.{IsNumbered}
-use Rattle.sa_outlook.proofs.kernel.Quiet.{puts-append, items-said, append-none, quiet-closed, quiet-entered, quiet-more}
-use Rattle.sa_outlook.proofs.machine.Calls.{BothAlike, seen-alike, some-seen}
+use Rattle.sa_outlook.proofs.kernel.Quiet.{puts-append, items-said, quiet-closed, quiet-entered, quiet-more}
+use Rattle.sa_outlook.proofs.machine.Calls.{seen-alike, some-seen}
 use Rattle.sa_outlook.proofs.machine.Phases.{Both, look_of, owners-both}
-use Rattle.sa_outlook.proofs.machine.OneTurn.{Firsts, due-both}
+use Rattle.sa_outlook.proofs.machine.OneTurn.{due-both}
 
 -- what was put out before, and then this
 pub puts-behind : (outs xs ys : List Put) → with_puts outs (xs ++ ys) ≡ with_puts (with_puts outs xs) ys

@@ -1,4 +1,4 @@
-use Rattle.std.proofs.Common.{◌≡◌, ℕ, List, Vec, Global, length, ap, ◌∙◌}
+use Rattle.std.proofs.Common.{ℕ, Vec, Global, ◌∙◌}
 use Rattle.sa_core.specs.View.{machine}
 use Rattle.sa_keys.proofs.Appends.{map-step}
 use Rattle.sa_keys.proofs.outcome.all_cells.Goals as goal

@@ -1,11 +1,10 @@
-use Rattle.std.proofs.Common.{◌≡◌, ℕ, ◌+◌, true, Bool, List, ◌++◌, ◌∷◌, [], map, Option, Some, None, option_map, get_or, slice_get, slice_set, position, inl, inr, refl, sym, ap, ◌∙◌}
+use Rattle.std.proofs.Common.{◌≡◌, ℕ, ◌+◌, List, map, Some, None, option_map, get_or, slice_get, inl, inr, sym, ap, ◌∙◌}
 use Rattle.std.proofs.lemmas.List.{map-set, map-append}
-use Rattle.std.proofs.lemmas.Option.{same_Some, slice_get-map}
+use Rattle.std.proofs.lemmas.Option.{slice_get-map}
 use Rattle.std.specs.Str.{bytes_eq}
 use Rattle.std.specs.Cmp.Lexicographic.{bytes_decides}
-use Rattle.sa_explore_model.specs.Results.{Grouped}
 use Rattle.sa_states.specs.declared.groups.Group.{Group}
-use Rattle.sa_states.specs.Groups.{group_of, groups_of, place_of}
+use Rattle.sa_states.specs.Groups.{group_of, place_of}
 use Rattle.sa_states.proofs.Firsts.{first-at}
 use Rattle.sa_states.proofs.Counted.{none-there}
 use Rattle.sa_states.proofs.groups.count_one.Goals as goal
