@@ -1,5 +1,5 @@
 -- A thread that no record of an event reaches stays.
-use Rattle.std.proofs.Common.{◌≡◌, ◌≢◌, ℕ, ◌-◌, ◌==◌, Bool, true, false, not, ◌&&◌, ◌||◌, if◌then◌else◌, List, [], ◌∷◌, length, nat_lt, slice_index_or, codes, Option, Some, None, refl, sym, ◌∙◌, ap, true≢false, get_or-set_other, length-set}
+use Rattle.std.proofs.Common.{◌≡◌, ◌≢◌, ℕ, ◌-◌, ◌==◌, Bool, true, false, not, ◌&&◌, if◌then◌else◌, List, [], ◌∷◌, length, nat_lt, slice_index_or, codes, Option, Some, None, refl, sym, ◌∙◌, ap, true≢false, get_or-set_other, length-set}
 use Rattle.std.proofs.lemmas.Bool.{or_parts, and_parts, eqb-false, false≢true}
 use Rattle.std.specs.List.{list_any}
 use Rattle.sa_base.specs.declared.number.ProcNo.{ProcNo}
@@ -20,11 +20,11 @@ use Rattle.sa_laws.specs.Machine.{next_effect}
 use Rattle.sa_laws.specs.Event.{Event}
 use Rattle.sa_laws.specs.Readings.{Readings}
 use Rattle.sa_laws.specs.Record.{after_record, is_thread}
-use Rattle.sa_laws.specs.History.{Test, event_begun, after_records, after_event}
+use Rattle.sa_laws.specs.History.{event_begun, after_records, after_event}
 use Rattle.sa_laws.proofs.Spaces.{space-elsewhere}
 use Rattle.sa_check_moment.specs.Seen.{Seen}
 use Rattle.sa_cells.specs.Thread.{waiting_text, standing_text, thread_text}
-use Rattle.sa_cells.specs.Stays.{IsAfter, is_ins, is_instr, is_calm, is_calm_instr, are_calm, if_of, named, reaches}
+use Rattle.sa_cells.specs.Stays.{IsAfter, is_ins, is_calm, is_calm_instr, are_calm, if_of, reaches}
 use Rattle.sa_cells.proofs.Kept.{apart, set-like, kept, spaces-stay}
 
 -- what the text of a thread is made of, in its space
@@ -51,17 +51,17 @@ text-by : (w : WorkloadView) (a : State) (s : SpaceNo) (t : ThreadNo) → thread
 text-by w a s t = refl
 
 -- a thread of the space is another one, and nothing else changes
-other-thread : (x : SpaceState) (t v : ThreadNo) (y : Thread) → v.0 ≢ t.0 → standing_in t (with_thread x v y) ≡ standing_in t x
+other-thread : (x : SpaceState) (t v : ThreadNo) (y : Thread) → t.0 ≢ v.0 → standing_in t (with_thread x v y) ≡ standing_in t x
 other-thread x t v y un =
     ap (λ (z : Thread). record { thread = z; made = length (with_thread x v y).threads; sync = x.sync }) (get_or-set_other x.threads v.0 t.0 y _ un)
     ∙ ap (λ (n : ℕ). record { thread = thread_in x t; made = n; sync = x.sync }) (length-set x.threads v.0 y)
 
-unlike : (t v : ThreadNo) → is_thread t (Some v) ≡ false → v.0 ≢ t.0
-unlike t v un same = eqb-false t.0 v.0 un (sym same)
+unlike : (t v : ThreadNo) → is_thread t (Some v) ≡ false → t.0 ≢ v.0
+unlike t v un = eqb-false t.0 v.0 un
 
 -- a record of another thread, or of another space
 by-space : (a : State) (s u : SpaceNo) (t v : ThreadNo) (x : SpaceState) (b : Bool) → (u.0 == s.0) ≡ b → is_thread t (if b then Some v else None) ≡ false
-    → (v.0 ≢ t.0 → standing_in t x ≡ standing_in t (space_at a u)) → standing_in t (space_at (with_space a u x) s) ≡ standing_in t (space_at a s)
+    → (t.0 ≢ v.0 → standing_in t x ≡ standing_in t (space_at a u)) → standing_in t (space_at (with_space a u x) s) ≡ standing_in t (space_at a s)
 by-space a s u t v x true is un same = set-like (standing_in t) a.spaces u.0 s.0 x no_threads (same (unlike t v un))
 by-space a s u t v x false is un same = ap (standing_in t) (space-elsewhere a u s x (apart u.0 s.0 is))
 
@@ -109,7 +109,7 @@ standing-stays s t w e p r (the.Spin l) un = refl
 standing-stays s t w e p r the.Tick un = refl
 
 -- a calm instruction changes its own thread alone
-calm-effect : (x : SpaceState) (t v : ThreadNo) (thread : Thread) (i : Instr) → is_calm_instr i ≡ true → v.0 ≢ t.0
+calm-effect : (x : SpaceState) (t v : ThreadNo) (thread : Thread) (i : Instr) → is_calm_instr i ≡ true → t.0 ≢ v.0
     → standing_in t (effect_of x v thread i).space ≡ standing_in t x
 calm-effect x t v thread instr.Compute calm un = other-thread x t v _ un
 calm-effect x t v thread (instr.Set k n) calm un = other-thread x t v _ un

@@ -15,7 +15,6 @@ use Rattle.sa_base.specs.declared.record.Note.TheVariants.{Preempted, Blocked, U
 use Rattle.sa_base.specs.declared.record.Record.{Record}
 use Rattle.sa_base.specs.declared.record.Record.TheVariants as the
 use Rattle.sa_spaces.specs.Workload.{WorkloadView}
-use Rattle.sa_lemmas.specs.Function.{put}
 use Rattle.sa_devices.specs.Ios.{Io}
 use Rattle.sa_laws.specs.Event.{Event}
 use Rattle.sa_laws.specs.Machine.{next_effect}
@@ -25,7 +24,7 @@ use Rattle.sa_laws.specs.Record.{after_record, with_life, back_with, same_note, 
 use Rattle.sa_laws.specs.declared.place.Place.TheVariants.{Running, Carried}
 use Rattle.sa_laws.specs.State.{space_def}
 use Rattle.sa_laws.proofs.Spaces.{placed-owners}
-use Rattle.sa_laws.specs.History.{Test, is_step, is_up, stepped, arisen, with_step, with_up, event_begun, after_records, after_event, behind_all}
+use Rattle.sa_laws.specs.History.{Test, is_step, is_up, stepped, arisen, with_step, with_up, event_begun, after_event, behind_all}
 use Rattle.sa_check_moment.specs.Seen.{Seen}
 use Rattle.sa_cells.specs.declared.cell.Cell.{Cell}
 use Rattle.sa_cells.specs.declared.cell.Cell.TheVariants.{Owner, Aim, Line, Activation, Runs, Demand, Untold, Holder, Listed, Mutex, Semaphore, Shared, Where, Locks, Hand}
@@ -219,7 +218,7 @@ place_by x a (Some life) =
     ++ (if is_on_by x a life then numbered (codes "on processor ") life.proc.0 else off_by x a life ++ and_thread life.thread)
 
 place-is : (r : Readings) (a : ActNo) (o : Option Life) → of_life (place_text r a) o ≡ place_by (owning r) a (option_map locked o)
-unfolding place_text, resting_text
+unfolding place_text resting_text
 place-is r a None = refl
 place-is r a (Some life) = refl
 
@@ -298,10 +297,11 @@ sync-stay event ups m n e s after un =
     let yes : not (list_any (is_instr s) e.records) ≡ true = ap not un in
     let one-of : (c : Cell) → stays e.records c ≡ true → f c ++ [] ≡ [] =
     λ c is. ap (λ (xs : List ℕ). xs ++ []) (nothing event (name_of c) (text_of ups m c) (text_of ups n c) (untouched ups m n e c after is)) in
-    flat_map-append f (up_to (mutex_cell s) def.mutexes) (up_to (semaphore_cell s) (length def.sems) ++ up_to (shared_cell s) def.cells)
-    ∙ ap (λ (xs : List ℕ). xs ++ flat_map f (up_to (semaphore_cell s) (length def.sems) ++ up_to (shared_cell s) def.cells))
-    (nothing-of f (mutex_cell s) def.mutexes (λ k. one-of (Mutex s k) yes))
-    ∙ flat_map-append f (up_to (semaphore_cell s) (length def.sems)) (up_to (shared_cell s) def.cells)
-    ∙ ap (λ (xs : List ℕ). xs ++ flat_map f (up_to (shared_cell s) def.cells))
-    (nothing-of f (semaphore_cell s) (length def.sems) (λ k. one-of (Semaphore s k) yes))
+    let mutexes = up_to (mutex_cell s) def.mutexes in
+    let semaphores = up_to (semaphore_cell s) (length def.sems) in
+    let cells = up_to (shared_cell s) def.cells in
+    flat_map-append f (mutexes ++ semaphores) cells
+    ∙ ap (λ (xs : List ℕ). xs ++ flat_map f cells)
+    (flat_map-append f mutexes semaphores ∙ ap (λ (xs : List ℕ). xs ++ flat_map f semaphores) (nothing-of f (mutex_cell s) def.mutexes (λ k. one-of (Mutex s k) yes))
+    ∙ nothing-of f (semaphore_cell s) (length def.sems) (λ k. one-of (Semaphore s k) yes))
     ∙ nothing-of f (shared_cell s) def.cells (λ k. one-of (Shared s k) yes)

@@ -1,8 +1,7 @@
 -- The threads of a space that an event does not reach are passed over.
-use Rattle.std.proofs.Common.{◌≡◌, ℕ, ◌+◌, ◌≤◌, ◌<◌, arith, Bool, List, [], ◌++◌, append-nil, sym, ◌∙◌, ap, subst}
+use Rattle.std.proofs.Common.{◌≡◌, ℕ, ◌+◌, ◌≤◌, ◌<◌, arith, Bool, List, ◌++◌, append-nil, sym, ◌∙◌, ap, subst}
 use Rattle.std.specs.List.{flat_map}
 use Rattle.sa_base.specs.declared.number.SpaceNo.{SpaceNo}
-use Rattle.sa_base.specs.declared.number.ThreadNo.{ThreadNo}
 use Rattle.sa_base.specs.declared.number.ActNo.{ActNo}
 use Rattle.sa_base.specs.declared.record.Record.{Record}
 use Rattle.sa_laws.specs.Event.{Event}
@@ -41,14 +40,14 @@ one-passes event ups m n e s calm t end old out new after is less so goes =
     (goes ∙ ap (λ (xs : List ℕ). out ++ xs) (sym (append-nil (change_line event ups m n (ThreadCell s (record { 0 = t })))))))
 
 -- the first, and the next one
-pub first_within : (calm : Bool) (s : SpaceNo) (end next : ℕ) (records : List Record) → next ≡ next_reached calm s 0 end records → next ≤ end
-first_within calm s end next records is =
+pub first-within : (calm : Bool) (s : SpaceNo) (end next : ℕ) (records : List Record) → next ≡ next_reached calm s 0 end records → next ≤ end
+first-within calm s end next records is =
     subst (λ (n : ℕ). n ≤ end) (sym is) (next-within calm s 0 end records (omega arith)).high
 
-pub first_written : (event : ℕ) (ups : List ActNo) (m n : Seen) (e : Event) (s : SpaceNo) (calm : Bool) (end next : ℕ) (old : List ℕ)
+pub first-written : (event : ℕ) (ups : List ActNo) (m n : Seen) (e : Event) (s : SpaceNo) (calm : Bool) (end next : ℕ) (old : List ℕ)
     → IsAfter m n e → calm ≡ are_calm m.workload m.readings.state e.records → next ≡ next_reached calm s 0 end e.records
     → old ≡ old ++ flat_map (change_line event ups m n) (up_to (thread_cell s) next)
-first_written event ups m n e s calm end next old after is found =
+first-written event ups m n e s calm end next old after is found =
     passes event ups m n e s calm 0 end old old after is (omega arith) (sym (append-nil old))
     ∙ ap (λ (k : ℕ). old ++ flat_map (change_line event ups m n) (up_to (thread_cell s) k)) (sym found)
 

@@ -1,9 +1,9 @@
 -- Cells of which nothing is written are passed over.
-use Rattle.std.proofs.Common.{◌≡◌, ℕ, zero, suc, ◌+◌, ◌-◌, ◌≤◌, ◌<◌, arith, Bool, if◌then◌else◌, List, [], ◌∷◌, ◌++◌, length, take, get_or, append_assoc, append-nil, decimal, Result, Ok, Err, OnOk, refl, sym, ◌∙◌, ap, subst}
+use Rattle.std.proofs.Common.{◌≡◌, ℕ, zero, suc, ◌+◌, ◌-◌, ◌≤◌, ◌<◌, arith, Bool, if◌then◌else◌, List, [], ◌∷◌, ◌++◌, length, take, get_or, append_assoc, append-nil, decimal, Result, Ok, Err, OnOk, refl, sym, ◌∙◌, ap}
 use Rattle.std.proofs.lemmas.Grind.{flat_map-append}
 use Rattle.std.proofs.lemmas.Slice.Eq.{bytes_eq-Decides}
 use Rattle.std.proofs.lemmas.List.{take_all}
-use Rattle.std.specs.List.{flat_map, range_with_len}
+use Rattle.std.specs.List.{flat_map}
 use Rattle.sa_lemmas.proofs.Appends.{range-more}
 use Rattle.sa_svg.proofs.Appends.{list-more}
 use Rattle.sa_base.specs.declared.number.SpaceNo.{SpaceNo}
@@ -52,7 +52,7 @@ all-mapped : (f : Cell → List ℕ) (a b c : List Cell) (old first second third
     → third ≡ second ++ flat_map f c → third ≡ old ++ flat_map f (a ++ b ++ c)
 all-mapped f a b c old first second third is_a is_b is_c =
     three-joined old (flat_map f a) (flat_map f b) (flat_map f c) first second third is_a is_b is_c
-    ∙ ap (λ (xs : List ℕ). old ++ (flat_map f a ++ xs)) (sym (flat_map-append f b c)) ∙ ap (λ (xs : List ℕ). old ++ xs) (sym (flat_map-append f a (b ++ c)))
+    ∙ ap (λ (xs : List ℕ). old ++ (xs ++ flat_map f c)) (sym (flat_map-append f a b)) ∙ ap (λ (xs : List ℕ). old ++ xs) (sym (flat_map-append f (a ++ b) c))
 
 pub three_mapped : {T E : Type 0} (result : Result T E) (f : Cell → List ℕ) (a b c : List Cell) (old first second third : List ℕ) → first ≡ old ++ flat_map f a
     → second ≡ first ++ flat_map f b → OnOk result (third ≡ second ++ flat_map f c) → OnOk result (third ≡ old ++ flat_map f (a ++ b ++ c))

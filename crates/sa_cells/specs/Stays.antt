@@ -14,14 +14,14 @@ use Rattle.sa_sync.specs.Sync.{Sync, mutex_at}
 use Rattle.sa_laws.specs.declared.place.Place.{Place}
 use Rattle.sa_laws.specs.declared.place.Place.TheVariants.{Running, Ready, Blocked, Waiting, Carried, Done}
 use Rattle.sa_laws.specs.Event.{Event}
-use Rattle.sa_laws.specs.State.{Thread, State, SpaceState, space_at, thread_in, instr_of, next_instr}
+use Rattle.sa_laws.specs.State.{Thread, State, space_at, thread_in, instr_of, next_instr}
 use Rattle.sa_laws.specs.Life.{Life, has_lock}
 use Rattle.sa_laws.specs.Readings.{Readings, line_of, life_of, life_on}
 use Rattle.sa_laws.specs.Record.{is_thread}
 use Rattle.sa_laws.specs.History.{Test, after_event}
 use Rattle.sa_check_moment.specs.Seen.{Seen, event}
 use Rattle.sa_cells.specs.declared.cell.Cell.{Cell}
-use Rattle.sa_cells.specs.declared.cell.Cell.TheVariants.{Owner, Aim, Line, Activation, Runs, Demand, Untold, Holder, Listed, Thread as ThreadCell, Mutex, Semaphore, Shared, Where, Locks, Hand}
+use Rattle.sa_cells.specs.declared.cell.Cell.TheVariants.{Owner, Aim, Line, Activation, Runs, Demand, Untold, Listed, Thread as ThreadCell, Mutex, Semaphore, Shared, Where, Locks, Hand}
 use Rattle.sa_cells.specs.Life.{is_on}
 use Rattle.sa_cells.specs.Processor.{carried_on}
 use Rattle.sa_cells.specs.Thread.{waits}

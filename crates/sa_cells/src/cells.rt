@@ -71,11 +71,7 @@ fn push_space(cells: &mut Vec<Cell>, moment: &Moment, s: SpaceNo) -> Result<(), 
 
 /// Appends the cells of a space itself, and of its lists.
 #[tactic(auto, unfolding(crate::specs::Cells::own_cells))]
-pub(crate) fn push_own(
-    cells: &mut Vec<Cell>,
-    moment: &Moment,
-    s: SpaceNo,
-) -> Result<(), AllocError>
+pub(crate) fn push_own(cells: &mut Vec<Cell>, moment: &Moment, s: SpaceNo) -> Result<(), AllocError>
     ensures { OnOk result (cells.new.items ≡ cells.old.items ++ own_cells (seen moment.now) s) }
 {
     cells.extend_from_slice(&[Cell::Demand(s), Cell::Untold(s)])?;
@@ -156,7 +152,11 @@ pub(crate) fn push_acts(cells: &mut Vec<Cell>, acts: &[ActNo]) -> Result<(), All
 }
 
 /// The activations that an event with these records may change, each once.
-pub(crate) fn acts_of(alloc: Global, before: &Moment, records: &[Record]) -> Result<Vec<ActNo>, AllocError>
+pub(crate) fn acts_of(
+    alloc: Global,
+    before: &Moment,
+    records: &[Record],
+) -> Result<Vec<ActNo>, AllocError>
     ensures { IfOk result (λ acts. acts.items ≡ acts_of (seen before.now) records.now) }
 {
     let mut all = Vec::new(alloc);

@@ -232,7 +232,9 @@ fn push_changed_space(
 {
     push_changed_own(out, alloc, event, p, ups, before, view, records, s)?;
     let made = view.moment.made(s);
-    push_changed_threads(out, alloc, event, p, ups, before, view, records, calm, s, made)?;
+    push_changed_threads(
+        out, alloc, event, p, ups, before, view, records, calm, s, made,
+    )?;
     push_changed_sync(out, alloc, event, p, ups, before, view, records, s)
 }
 
@@ -288,7 +290,6 @@ fn push_changed_sync(
 }
 
 // Appends the lines of the threads of a space, so many, of which only those are looked at that the event reaches.
-#[tactic(auto, using(crate::proofs::Passing::first_within, crate::proofs::Passing::first_written))]
 fn push_changed_threads(
     out: &mut Vec<u8>,
     alloc: Global,
@@ -311,7 +312,9 @@ fn push_changed_threads(
 {
     let mut next = next_reached(records, calm, s, 0, made);
     while next < made {
-        next = push_next_thread(out, alloc, event, p, ups, before, view, records, calm, s, next, made)?;
+        next = push_next_thread(
+            out, alloc, event, p, ups, before, view, records, calm, s, next, made,
+        )?;
     }
     Ok(())
 }

@@ -35,9 +35,7 @@ fn is_calm(moment: &Moment, what: &Record) -> bool
     ensures { result ≡ is_calm (seen moment.now).workload (seen moment.now).readings.state what.now }
 {
     match *what {
-        Record::Ins(s, t, _) => {
-            is_calm_instr(moment.instr_of(s, t, moment.thread(s, t).pc()))
-        }
+        Record::Ins(s, t, _) => { is_calm_instr(moment.instr_of(s, t, moment.thread(s, t).pc())) }
         _ => true,
     }
 }
@@ -57,7 +55,13 @@ fn is_calm_instr(instr: Instr) -> bool
 pub(crate) fn are_quiet(records: &[Record]) -> bool
     ensures { result ≡ not (list_any is_loud records.now) }
 {
-    !records.iter().any(|what| is_loud(what))
+    !are_loud(records)
+}
+
+fn are_loud(records: &[Record]) -> bool
+    ensures { result ≡ list_any is_loud records.now }
+{
+    records.iter().any(|what| is_loud(what))
 }
 
 fn is_loud(what: &Record) -> bool

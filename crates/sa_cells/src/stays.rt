@@ -147,7 +147,13 @@ fn is_listing(s: SpaceNo, what: &Record) -> bool
 pub(crate) fn has_no_instr(s: SpaceNo, records: &[Record]) -> bool
     ensures { result ≡ not (list_any (is_instr s) records.now) }
 {
-    !records.iter().any(|what| is_instr(s, what))
+    !has_instr(s, records)
+}
+
+fn has_instr(s: SpaceNo, records: &[Record]) -> bool
+    ensures { result ≡ list_any (is_instr s) records.now }
+{
+    records.iter().any(|what| is_instr(s, what))
 }
 
 /// A thread of the space runs an instruction.

@@ -3,9 +3,18 @@ use Rattle.std.specs.List.{flat_map}
 use Rattle.sa_check_moment.specs.Seen.{seen, event}
 use Rattle.sa_cells.specs.Cells.{thread_cell, up_to}
 use Rattle.sa_cells.specs.Change.{change_line}
-use Rattle.sa_cells.proofs.Next.{IsWithin}
-use Rattle.sa_cells.proofs.Passing.{next-after, next-written}
+use Rattle.sa_cells.proofs.Passing.{first-within, first-written, next-after, next-written}
 use Rattle.sa_cells.proofs.change.push_changed_threads.Goals as goal
+
+pub loop-next-init : goal.loop-next-init
+loop-next-init c =
+    let e = event c.args.event c.args.p c.args.records.now in
+    record {
+      within = first-within c.args.calm c.args.s c.args.made c.next_reached-next.result e.records c.next_reached-next.ensures;
+      written =
+          first-written c.args.event c.args.ups.now (seen c.args.before.now.moment) (seen c.args.view.now.moment) e c.args.s c.args.calm c.args.made
+          c.next_reached-next.result c.args.out.now.items c.requires.follows c.requires.calm c.next_reached-next.ensures;
+    }
 
 pub loop-next-preserved : goal.loop-next-preserved
 loop-next-preserved c =

@@ -1,4 +1,4 @@
-use Rattle.std.proofs.Common.{◌++◌, sym, ap, ◌∙◌}
+use Rattle.std.proofs.Common.{◌++◌, sym, ap}
 use Rattle.std.specs.Prelude.{codes}
 use Rattle.sa_svg.proofs.Appends.{where-ok}
 use Rattle.sa_cells.specs.Words.{words_of}
