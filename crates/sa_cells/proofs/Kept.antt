@@ -1,5 +1,5 @@
 -- What no record of an event changes is after it what it was before.
-use Rattle.std.proofs.Common.{◌≡◌, ◌≢◌, ℕ, zero, suc, ◌==◌, Bool, true, false, ◌||◌, List, [], ◌∷◌, length, Option, Some, None, get_or, set, refl, sym, ◌∙◌, ap, true≢false, get_or-set_other, length-set}
+use Rattle.std.proofs.Common.{◌≡◌, ◌≢◌, ℕ, zero, suc, ◌==◌, Bool, false, List, [], ◌∷◌, length, Option, Some, None, get_or, set, refl, sym, ◌∙◌, ap, true≢false, get_or-set_other, length-set}
 use Rattle.std.proofs.lemmas.Bool.{or_parts, eqb-false}
 use Rattle.std.specs.List.{list_any}
 use Rattle.sa_base.specs.declared.number.ProcNo.{ProcNo}
@@ -26,11 +26,11 @@ kept f touches w e p one r (x ∷ xs) none =
     let both = or_parts (touches x) (list_any touches xs) none in
     kept f touches w e p one (after_record w e p r x) xs both.1 ∙ one r x both.0
 
-apart : (m n : ℕ) → (m == n) ≡ false → n ≢ m
+pub apart : (m n : ℕ) → (m == n) ≡ false → n ≢ m
 apart m n un same = eqb-false m n un (sym same)
 
 -- a place of a list gets what has the same of something
-set-like : {A B : Type 0} (f : A → B) (xs : List A) (i j : ℕ) (y d : A) → f y ≡ f (get_or xs i d) → f (get_or (set xs i y) j d) ≡ f (get_or xs j d)
+pub set-like : {A B : Type 0} (f : A → B) (xs : List A) (i j : ℕ) (y d : A) → f y ≡ f (get_or xs i d) → f (get_or (set xs i y) j d) ≡ f (get_or xs j d)
 set-like f [] i j y d same = refl
 set-like f (x ∷ xs) zero zero y d same = same
 set-like f (x ∷ xs) zero (suc j) y d same = refl

@@ -6,3 +6,8 @@ mod Holders
 mod Kept
 mod Same
 mod Stayed
+mod Calm
+mod Skipped
+mod Passing
+mod Next
+mod Owning

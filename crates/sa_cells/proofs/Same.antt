@@ -12,7 +12,7 @@ use Rattle.sa_spaces.specs.Workload.{WorkloadView}
 use Rattle.sa_sync.specs.Sync.{Sync, mutex_at}
 use Rattle.sa_laws.specs.declared.place.Place.{Place}
 use Rattle.sa_laws.specs.declared.place.Place.TheVariants.{Running, Ready, Blocked, Waiting, Carried, Done}
-use Rattle.sa_laws.specs.State.{State, Thread, space_at, space_def, thread_at, instr_of}
+use Rattle.sa_laws.specs.State.{State, space_at, space_def, thread_at, instr_of}
 use Rattle.sa_laws.specs.Life.{Life, Lock, some_lock}
 use Rattle.sa_laws.specs.Readings.{Readings, IsLocked, line_of, life_of, life_on}
 use Rattle.sa_check_moment.specs.Seen.{Seen}
@@ -22,7 +22,7 @@ use Rattle.sa_cells.specs.Pieces.{numbered, one}
 use Rattle.sa_cells.specs.Processor.{line_text, thread_text as run_text, carrying_text, runs_in, carried_on}
 use Rattle.sa_cells.specs.Space.{candidates, held_if, holder_text}
 use Rattle.sa_cells.specs.Life.{is_on, on_or_off, place_text, resting_text, locks_text, hand_thread, hand_text, of_life}
-use Rattle.sa_cells.specs.Thread.{instr_text, held_by, awaited_text, waiting_text, standing_text, waits, made_text, is_made, thread_text}
+use Rattle.sa_cells.specs.Thread.{instr_text, held_by, awaited_text, waiting_text, standing_text, waits, made_text, thread_text}
 use Rattle.sa_cells.specs.Text.{text_of}
 use Rattle.sa_cells.specs.Stays.{same_flag, same_line, same_thread, same_run, both_if, same_place, no_lock, no_hand, same_where, same_standing, same_awaited, same_wait, made_same, has_made, thread_same, is_same}
 use Rattle.sa_cells.proofs.Holders.{nobody_has}

@@ -2,7 +2,6 @@
 use Rattle.std.proofs.Common.{◌≡◌, ℕ, ◌-◌, ◌++◌, append-nil, Bool, true, false, not, ◌&&◌, if◌then◌else◌, List, [], length, nat_lt, slice_index, slice_index_or, codes, decimal, Option, None, refl, sym, ◌∙◌, ap}
 use Rattle.std.proofs.lemmas.Bool.{false≢true}
 use Rattle.std.proofs.lemmas.Slice.Eq.{bytes_eq-Decides}
-use Rattle.std.specs.Str.{bytes_eq}
 use Rattle.std.specs.List.{list_any}
 use Rattle.sa_base.specs.declared.number.SpaceNo.{SpaceNo}
 use Rattle.sa_base.specs.declared.number.ThreadNo.{ThreadNo}
@@ -14,7 +13,7 @@ use Rattle.sa_spaces.specs.Workload.{WorkloadView}
 use Rattle.sa_sync.specs.Sync.{Sync}
 use Rattle.sa_laws.specs.Event.{Event}
 use Rattle.sa_laws.specs.State.{State, SpaceState, space_at, space_def, thread_in, is_due, is_waiting}
-use Rattle.sa_laws.specs.Readings.{Readings, Listed as ListedThread, ready_of}
+use Rattle.sa_laws.specs.Readings.{Readings, ready_of}
 use Rattle.sa_laws.specs.History.{Test, event_begun, after_event}
 use Rattle.sa_check_moment.specs.Seen.{Seen}
 use Rattle.sa_cells.specs.declared.cell.Cell.{Cell}
@@ -25,7 +24,7 @@ use Rattle.sa_cells.specs.Sync.{of_sync, mutex_in, semaphore_in, cell_in}
 use Rattle.sa_cells.specs.Thread.{waiting_text, standing_text, thread_text}
 use Rattle.sa_cells.specs.Text.{text_of}
 use Rattle.sa_cells.specs.Change.{cell_line, changed_line}
-use Rattle.sa_cells.specs.Stays.{IsAfter, is_move, is_aim, is_want, is_switch, is_news, is_listing, is_instr, is_threads, touches, stays}
+use Rattle.sa_cells.specs.Stays.{IsAfter, is_move, is_aim, is_want, is_switch, is_news, is_listing, is_instr, is_threads, stays}
 use Rattle.sa_cells.proofs.Kept.{kept, owners-stay, aims-stay, running-stays, demands-stay, untold-stays, ready-stays, space-stays, sync-stays, spaces-stay}
 
 none : (b : Bool) → not b ≡ true → b ≡ false

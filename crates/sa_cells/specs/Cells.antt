@@ -35,13 +35,20 @@ shared_cell s n = Shared s n ∷ []
 abbrev pub up_to : (ℕ → List Cell) → ℕ → List Cell
 up_to cells n = flat_map cells (range_with_len 0 n)
 
-unfoldable pub cells_of_space : Seen → SpaceNo → List Cell
-cells_of_space m s =
-    (Demand s ∷ Untold s ∷ []) ++ up_to (list_cells s) m.workload.processors
-    ++ up_to (thread_cell s) (length (space_at m.readings.state s).threads)
-    ++ up_to (mutex_cell s) (space_def m.workload s).mutexes
-    ++ up_to (semaphore_cell s) (length (space_def m.workload s).sems)
+-- its own and of each list; and all that its threads wait on and share
+unfoldable pub own_cells : Seen → SpaceNo → List Cell
+own_cells m s = (Demand s ∷ Untold s ∷ []) ++ up_to (list_cells s) m.workload.processors
+
+unfoldable pub sync_cells : Seen → SpaceNo → List Cell
+sync_cells m s =
+    up_to (mutex_cell s) (space_def m.workload s).mutexes ++ up_to (semaphore_cell s) (length (space_def m.workload s).sems)
     ++ up_to (shared_cell s) (space_def m.workload s).cells
+
+abbrev pub thread_cells : Seen → SpaceNo → List Cell
+thread_cells m s = up_to (thread_cell s) (length (space_at m.readings.state s).threads)
+
+unfoldable pub cells_of_space : Seen → SpaceNo → List Cell
+cells_of_space m s = own_cells m s ++ thread_cells m s ++ sync_cells m s
 
 abbrev pub space_cells : Seen → ℕ → List Cell
 space_cells m n = cells_of_space m (record { 0 = n })

@@ -1,5 +1,5 @@
 -- Which cells stay in an event for certain: the records that can change what a cell's text is made of, and what of it is the same at two moments.
-use Rattle.std.specs.Prelude.{◌≡◌, ℕ, ◌-◌, ◌==◌, nat_lt, Bool, true, false, not, ◌&&◌, if◌then◌else◌, List, length, Option, Some, None}
+use Rattle.std.specs.Prelude.{◌≡◌, ℕ, ◌-◌, ◌==◌, nat_lt, nat_le, Bool, true, false, not, ◌&&◌, if◌then◌else◌, List, [], ◌∷◌, length, Option, Some, None}
 use Rattle.std.specs.List.{list_any}
 use Rattle.sa_base.specs.declared.number.ProcNo.{ProcNo}
 use Rattle.sa_base.specs.declared.number.SpaceNo.{SpaceNo}
@@ -14,13 +14,14 @@ use Rattle.sa_sync.specs.Sync.{Sync, mutex_at}
 use Rattle.sa_laws.specs.declared.place.Place.{Place}
 use Rattle.sa_laws.specs.declared.place.Place.TheVariants.{Running, Ready, Blocked, Waiting, Carried, Done}
 use Rattle.sa_laws.specs.Event.{Event}
-use Rattle.sa_laws.specs.State.{Thread, State, SpaceState, space_at, thread_in, instr_of}
+use Rattle.sa_laws.specs.State.{Thread, State, space_at, thread_in, instr_of, next_instr}
 use Rattle.sa_laws.specs.Life.{Life, has_lock}
 use Rattle.sa_laws.specs.Readings.{Readings, line_of, life_of, life_on}
+use Rattle.sa_laws.specs.Record.{is_thread}
 use Rattle.sa_laws.specs.History.{Test, after_event}
 use Rattle.sa_check_moment.specs.Seen.{Seen, event}
 use Rattle.sa_cells.specs.declared.cell.Cell.{Cell}
-use Rattle.sa_cells.specs.declared.cell.Cell.TheVariants.{Owner, Aim, Line, Activation, Runs, Demand, Untold, Holder, Listed, Thread as ThreadCell, Mutex, Semaphore, Shared, Where, Locks, Hand}
+use Rattle.sa_cells.specs.declared.cell.Cell.TheVariants.{Owner, Aim, Line, Activation, Runs, Demand, Untold, Listed, Thread as ThreadCell, Mutex, Semaphore, Shared, Where, Locks, Hand}
 use Rattle.sa_cells.specs.Life.{is_on}
 use Rattle.sa_cells.specs.Processor.{carried_on}
 use Rattle.sa_cells.specs.Thread.{waits}
@@ -106,6 +107,75 @@ touches other x = true
 
 abbrev pub stays : List Record → Cell → Bool
 stays records c = is_told c && not (list_any (touches c) records)
+
+-- BY THREADS. The instruction changes only its own thread
+abbrev pub is_calm_instr : Instr → Bool
+is_calm_instr (instr.Store r c) = false
+is_calm_instr (instr.Fork r g) = false
+is_calm_instr (instr.Join r) = false
+is_calm_instr (instr.Lock m) = false
+is_calm_instr (instr.Unlock m) = false
+is_calm_instr (instr.Wait k) = false
+is_calm_instr (instr.Signal k) = false
+is_calm_instr instr.End = false
+is_calm_instr i = true
+
+abbrev pub is_ins : Record → Bool
+is_ins (the.Ins s t i) = true
+is_ins other = false
+
+abbrev pub is_calm : WorkloadView → State → Record → Bool
+is_calm w a (the.Ins s t i) = is_calm_instr (next_instr w a s t)
+is_calm w a other = true
+
+-- so of all records of an event, of which only the first may be of an instruction
+abbrev pub are_calm : WorkloadView → State → List Record → Bool
+are_calm w a [] = true
+are_calm w a (x ∷ xs) = is_calm w a x && not (list_any is_ins xs)
+
+-- the thread of a space that a record names
+abbrev pub if_of : SpaceNo → SpaceNo → Option ThreadNo → Option ThreadNo
+if_of s u t = if u.0 == s.0 then t else None
+
+abbrev pub named : SpaceNo → Record → Option ThreadNo
+named s (the.Ins u t i) = if_of s u (Some t)
+named s (the.Run u t) = if_of s u (Some t)
+named s (the.Stop u t a) = if_of s u t
+named s (the.Block u t a io) = if_of s u t
+named s (the.Unblock u t a) = if_of s u t
+named s (the.Cont u t) = if_of s u t
+named s (the.Back u t) = if_of s u t
+named s (the.Ready u t) = if_of s u (Some t)
+named s other = None
+
+-- the record can change this thread: it names it, or it is of an instruction of the space that is not calm
+abbrev pub reaches : Bool → SpaceNo → ThreadNo → Record → Bool
+reaches calm s t x = if is_instr s x && not calm then true else is_thread t (named s x)
+
+-- the first thread of a space from one on that a record, and that some of these records reach; the end, if there is none below it
+abbrev pub first_from : ℕ → ℕ → Option ThreadNo → ℕ
+first_from from end None = end
+first_from from end (Some t) = if nat_le from t.0 && nat_lt t.0 end then t.0 else end
+
+abbrev pub first_reached : Bool → SpaceNo → ℕ → ℕ → Record → ℕ
+first_reached calm s from end x = if is_instr s x && not calm then from else first_from from end (named s x)
+
+abbrev pub next_reached : Bool → SpaceNo → ℕ → ℕ → List Record → ℕ
+next_reached calm s from end [] = end
+next_reached calm s from end (x ∷ xs) = next_reached calm s from (first_reached calm s from end x) xs
+
+-- BY EVENTS. The record can change more than a thread, what runs in a life and its hand: an owner, an aim, a demand, what runs on a processor,
+-- what a space was not told, a ready list, a lock, where a life is, and those among whom the holder of a lock is looked for
+abbrev pub is_loud : Record → Bool
+is_loud (the.Ins s t i) = false
+is_loud (the.Out s t n) = false
+is_loud (the.Cont s t) = false
+is_loud (the.Back s t) = false
+is_loud (the.Line q) = false
+is_loud the.Idle = false
+is_loud (the.Spin l) = false
+is_loud the.Tick = false
+is_loud other = true
 
 -- BY WHAT IS THERE. What the text of a cell is made of is the same at two moments
 abbrev pub same_flag : Bool → Bool → Bool

@@ -1,5 +1,5 @@
 -- What a record says, in words.
-use Rattle.std.specs.Prelude.{ℕ, Bool, true, false, List, ◌++◌, ◌==◌, codes, Option, Some, None, if◌then◌else◌}
+use Rattle.std.specs.Prelude.{ℕ, Bool, List, ◌++◌, ◌==◌, codes, Option, Some, None, if◌then◌else◌}
 use Rattle.sa_base.specs.declared.number.ProcNo.{ProcNo}
 use Rattle.sa_base.specs.declared.number.SpaceNo.{SpaceNo}
 use Rattle.sa_base.specs.declared.number.ThreadNo.{ThreadNo}
@@ -91,6 +91,22 @@ told_words (Preempted a) = one (codes "It hears that activation ") a.0 (codes " 
 told_words (Blocked a) = one (codes "It hears that activation ") a.0 (codes " has blocked.")
 told_words (Unblocked a) = one (codes "It hears that activation ") a.0 (codes " has unblocked.")
 
+-- an upcall, a line, a fetch of an upcall page, a number that is given back, and a list that is locked
+abbrev pub up_words : SpaceNo → ActNo → List ℕ
+up_words s a = two (codes "Space ") s.0 (codes " gets an upcall, in the fresh activation ") a.0 (codes ".")
+
+abbrev pub line_words : ProcNo → List ℕ
+line_words p = one (codes "Processor ") p.0 (codes " is called into the kernel: its interrupt line goes up.")
+
+abbrev pub fetch_words : SpaceNo → List ℕ
+fetch_words s = page_words s (codes " is not there: it is being fetched, and the upcall must wait.")
+
+abbrev pub give_back_words : ActNo → List ℕ
+give_back_words a = one (codes "The space needs the number of activation ") a.0 (codes " no more: the kernel may use it again.")
+
+abbrev pub spin_words : ProcNo → List ℕ
+spin_words l = one (codes "List ") l.0 (codes " is locked by another: this turn only waits.")
+
 -- what a record says, if the life that runs on its processor is in the copy of a section, or is not, and if this is the instruction that it
 -- runs, where one is known
 abbrev pub words_of : Bool → Option Instr → Record → List ℕ
@@ -105,15 +121,15 @@ words_of in_copy instr (the.Back s t) = back_words in_copy s t
 words_of in_copy instr (the.Ready s t) = ready_words s t (codes " is ready, and stands in a list.")
 words_of in_copy instr (the.Take s l t) = list_words s l (codes " is taken, for ") t
 words_of in_copy instr (the.Free s l t) = list_words s l (codes " is free again; it was taken for ") t
-words_of in_copy instr (the.Up s a) = two (codes "Space ") s.0 (codes " gets an upcall, in the fresh activation ") a.0 (codes ".")
+words_of in_copy instr (the.Up s a) = up_words s a
 words_of in_copy instr (the.Told note) = told_words note
 words_of in_copy instr (the.Move old new) = move_words old new
 words_of in_copy instr (the.Want s n) = want_words s n
 words_of in_copy instr (the.Aim p s) = aim_words p s
-words_of in_copy instr (the.Line p) = one (codes "Processor ") p.0 (codes " is called into the kernel: its interrupt line goes up.")
-words_of in_copy instr (the.Fetch s) = page_words s (codes " is not there: it is being fetched, and the upcall must wait.")
+words_of in_copy instr (the.Line p) = line_words p
+words_of in_copy instr (the.Fetch s) = fetch_words s
 words_of in_copy instr (the.Fetched s) = page_words s (codes " has come.")
-words_of in_copy instr (the.GiveBack a) = one (codes "The space needs the number of activation ") a.0 (codes " no more: the kernel may use it again.")
+words_of in_copy instr (the.GiveBack a) = give_back_words a
 words_of in_copy instr the.Idle = codes "No list has a thread that could run."
-words_of in_copy instr (the.Spin l) = one (codes "List ") l.0 (codes " is locked by another: this turn only waits.")
+words_of in_copy instr (the.Spin l) = spin_words l
 words_of in_copy instr the.Tick = codes "The processor is nobody's, and its turn passes."

@@ -3,7 +3,7 @@ ghost use Rattle.std.specs.Prelude.{◌≡◌, ◌++◌, ◌<◌, [], length, On
 ghost use Rattle.std.specs.List.{flat_map};
 ghost use Rattle.sa_check_moment.specs.Seen.{seen};
 ghost use Rattle.sa_cells.specs.Space.{act_if};
-ghost use Rattle.sa_cells.specs.Cells.{processor_cells, list_cells, thread_cell, mutex_cell, semaphore_cell, shared_cell, up_to, cells_of_space, space_cells, act_cells, acts_in, has_act, with_act, each_once, acts_of, up_in, ups_in, cells_of};
+ghost use Rattle.sa_cells.specs.Cells.{processor_cells, list_cells, thread_cell, mutex_cell, semaphore_cell, shared_cell, up_to, own_cells, sync_cells, cells_of_space, space_cells, act_cells, acts_in, has_act, with_act, each_once, acts_of, up_in, ups_in, cells_of};
 
 use crate::cell::Cell;
 use crate::space::{act_of_note, push_act, push_running};
@@ -30,7 +30,8 @@ pub(crate) fn cells_of(
     Ok(cells)
 }
 
-fn push_processors(cells: &mut Vec<Cell>, processors: u16) -> Result<(), AllocError>
+/// Appends the cells of the processors.
+pub(crate) fn push_processors(cells: &mut Vec<Cell>, processors: u16) -> Result<(), AllocError>
     ensures { OnOk result (cells.new.items ≡ cells.old.items ++ up_to processor_cells processors) }
 {
     for n in 0..processors {
@@ -63,10 +64,31 @@ fn push_space(cells: &mut Vec<Cell>, moment: &Moment, s: SpaceNo) -> Result<(), 
     requires { s.0 < length (seen moment.now).workload.spaces }
     ensures { OnOk result (cells.new.items ≡ cells.old.items ++ cells_of_space (seen moment.now) s) }
 {
-    let def = &moment.workload().spaces()[usize::from(s.0)];
-    cells.extend_from_slice(&[Cell::Demand(s), Cell::Untold(s)])?;
-    push_lists(cells, s, moment.workload().processors())?;
+    push_own(cells, moment, s)?;
     push_threads(cells, s, moment.made(s))?;
+    push_sync(cells, moment, s)
+}
+
+/// Appends the cells of a space itself, and of its lists.
+#[tactic(auto, unfolding(crate::specs::Cells::own_cells))]
+pub(crate) fn push_own(cells: &mut Vec<Cell>, moment: &Moment, s: SpaceNo) -> Result<(), AllocError>
+    ensures { OnOk result (cells.new.items ≡ cells.old.items ++ own_cells (seen moment.now) s) }
+{
+    cells.extend_from_slice(&[Cell::Demand(s), Cell::Untold(s)])?;
+    push_lists(cells, s, moment.workload().processors())
+}
+
+/// Appends the cells of what the threads of a space wait on and share.
+#[tactic(auto, unfolding(crate::specs::Cells::sync_cells))]
+pub(crate) fn push_sync(
+    cells: &mut Vec<Cell>,
+    moment: &Moment,
+    s: SpaceNo,
+) -> Result<(), AllocError>
+    requires { s.0 < length (seen moment.now).workload.spaces }
+    ensures { OnOk result (cells.new.items ≡ cells.old.items ++ sync_cells (seen moment.now) s) }
+{
+    let def = &moment.workload().spaces()[usize::from(s.0)];
     push_mutexes(cells, s, def.mutexes())?;
     push_semaphores(cells, s, def.sems().len() as u16)?;
     push_shared(cells, s, def.cells())
@@ -118,7 +140,8 @@ fn push_shared(cells: &mut Vec<Cell>, s: SpaceNo, shared: u16) -> Result<(), All
     Ok(())
 }
 
-fn push_acts(cells: &mut Vec<Cell>, acts: &[ActNo]) -> Result<(), AllocError>
+/// Appends the cells of these activations.
+pub(crate) fn push_acts(cells: &mut Vec<Cell>, acts: &[ActNo]) -> Result<(), AllocError>
     ensures { OnOk result (cells.new.items ≡ cells.old.items ++ flat_map act_cells acts.now) }
 {
     for a in acts {
@@ -128,8 +151,12 @@ fn push_acts(cells: &mut Vec<Cell>, acts: &[ActNo]) -> Result<(), AllocError>
     Ok(())
 }
 
-// The activations that an event with these records may change, each once.
-fn acts_of(alloc: Global, before: &Moment, records: &[Record]) -> Result<Vec<ActNo>, AllocError>
+/// The activations that an event with these records may change, each once.
+pub(crate) fn acts_of(
+    alloc: Global,
+    before: &Moment,
+    records: &[Record],
+) -> Result<Vec<ActNo>, AllocError>
     ensures { IfOk result (λ acts. acts.items ≡ acts_of (seen before.now) records.now) }
 {
     let mut all = Vec::new(alloc);

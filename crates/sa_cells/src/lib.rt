@@ -8,6 +8,7 @@ pub mod laws;
 mod life;
 mod pieces;
 mod processor;
+mod reach;
 mod space;
 mod stays;
 mod sync;

@@ -1,5 +1,5 @@
 // Which cells stay in an event for certain: no text of these is written.
-ghost use Rattle.std.specs.Prelude.{◌≡◌, ◌<◌, true, length, List};
+ghost use Rattle.std.specs.Prelude.{◌≡◌, ◌<◌, true, not, length, List};
 ghost use Rattle.std.specs.List.{list_any};
 ghost use Rattle.std.specs.Option.{option_map};
 ghost use Rattle.sa_base.specs.declared.number.ActNo.{ActNo};
@@ -143,8 +143,21 @@ fn is_listing(s: SpaceNo, what: &Record) -> bool
     }
 }
 
-// A thread of the space runs an instruction.
-fn is_instr(s: SpaceNo, what: &Record) -> bool
+/// No thread of the space runs an instruction in these records.
+pub(crate) fn has_no_instr(s: SpaceNo, records: &[Record]) -> bool
+    ensures { result ≡ not (list_any (is_instr s) records.now) }
+{
+    !has_instr(s, records)
+}
+
+fn has_instr(s: SpaceNo, records: &[Record]) -> bool
+    ensures { result ≡ list_any (is_instr s) records.now }
+{
+    records.iter().any(|what| is_instr(s, what))
+}
+
+/// A thread of the space runs an instruction.
+pub(crate) fn is_instr(s: SpaceNo, what: &Record) -> bool
     ensures { result ≡ is_instr s what.now }
 {
     match *what {

@@ -1,7 +1,7 @@
 // What a record says, in words.
 ghost use Rattle.std.specs.Prelude.{◌≡◌, ◌++◌, codes, OnOk};
 ghost use Rattle.sa_cells.specs.Pieces.{one, two};
-ghost use Rattle.sa_cells.specs.Words.{thread_words, ready_words, page_words, list_words, stop_words, block_words, unblock_words, cont_words, through_words, way_words, back_words, ran_words, ran_text, ins_words, processors_word, want_words, move_words, aim_words, told_words, words_of};
+ghost use Rattle.sa_cells.specs.Words.{thread_words, ready_words, page_words, list_words, stop_words, block_words, unblock_words, cont_words, through_words, way_words, back_words, ran_words, ran_text, ins_words, processors_word, want_words, move_words, aim_words, told_words, up_words, line_words, fetch_words, give_back_words, spin_words, words_of};
 
 use crate::pieces::{
     push_a_space, push_a_thread, push_numbered, push_one, push_piece, push_three, push_two,
@@ -33,45 +33,75 @@ pub fn push_words(
         Record::Ready(s, t) => push_ready(out, s, t, b" is ready, and stands in a list."),
         Record::Take(s, l, t) => push_list(out, s, l, b" is taken, for ", t),
         Record::Free(s, l, t) => push_list(out, s, l, b" is free again; it was taken for ", t),
-        Record::Up(s, a) => push_two(
-            out,
-            b"Space ",
-            u64::from(s.0),
-            b" gets an upcall, in the fresh activation ",
-            a.0,
-            b".",
-        ),
+        Record::Up(s, a) => push_up(out, s, a),
         Record::Told(note) => push_told(out, note),
         Record::Move(old, new) => push_move(out, old, new),
         Record::Want(s, n) => push_want(out, s, n),
         Record::Aim(p, s) => push_aim(out, p, s),
-        Record::Line(p) => push_one(
-            out,
-            b"Processor ",
-            u64::from(p.0),
-            b" is called into the kernel: its interrupt line goes up.",
-        ),
-        Record::Fetch(s) => push_page(
-            out,
-            s,
-            b" is not there: it is being fetched, and the upcall must wait.",
-        ),
+        Record::Line(p) => push_line(out, p),
+        Record::Fetch(s) => push_fetch(out, s),
         Record::Fetched(s) => push_page(out, s, b" has come."),
-        Record::GiveBack(a) => push_one(
-            out,
-            b"The space needs the number of activation ",
-            a.0,
-            b" no more: the kernel may use it again.",
-        ),
+        Record::GiveBack(a) => push_give_back(out, a),
         Record::Idle => out.extend_from_slice(b"No list has a thread that could run."),
-        Record::Spin(l) => push_one(
-            out,
-            b"List ",
-            u64::from(l.0),
-            b" is locked by another: this turn only waits.",
-        ),
+        Record::Spin(l) => push_spin(out, l),
         Record::Tick => out.extend_from_slice(b"The processor is nobody's, and its turn passes."),
     }
+}
+
+fn push_up(out: &mut Vec<u8>, s: SpaceNo, a: ActNo) -> Result<(), AllocError>
+    ensures { OnOk result (out.new.items ≡ out.old.items ++ up_words s a) }
+{
+    push_two(
+        out,
+        b"Space ",
+        u64::from(s.0),
+        b" gets an upcall, in the fresh activation ",
+        a.0,
+        b".",
+    )
+}
+
+fn push_line(out: &mut Vec<u8>, p: ProcNo) -> Result<(), AllocError>
+    ensures { OnOk result (out.new.items ≡ out.old.items ++ line_words p) }
+{
+    push_one(
+        out,
+        b"Processor ",
+        u64::from(p.0),
+        b" is called into the kernel: its interrupt line goes up.",
+    )
+}
+
+fn push_fetch(out: &mut Vec<u8>, s: SpaceNo) -> Result<(), AllocError>
+    ensures { OnOk result (out.new.items ≡ out.old.items ++ fetch_words s) }
+{
+    push_page(
+        out,
+        s,
+        b" is not there: it is being fetched, and the upcall must wait.",
+    )
+}
+
+fn push_give_back(out: &mut Vec<u8>, a: ActNo) -> Result<(), AllocError>
+    ensures { OnOk result (out.new.items ≡ out.old.items ++ give_back_words a) }
+{
+    push_one(
+        out,
+        b"The space needs the number of activation ",
+        a.0,
+        b" no more: the kernel may use it again.",
+    )
+}
+
+fn push_spin(out: &mut Vec<u8>, l: ProcNo) -> Result<(), AllocError>
+    ensures { OnOk result (out.new.items ≡ out.old.items ++ spin_words l) }
+{
+    push_one(
+        out,
+        b"List ",
+        u64::from(l.0),
+        b" is locked by another: this turn only waits.",
+    )
 }
 
 // Appends what a thread does, and a number.

@@ -99,7 +99,7 @@ fn rule_words(rules: RulesName, rule: Rule) -> &'static [u8]
         Rule::ToldOnce => b"each stop, block and return is told at most once",
         Rule::ToldInTime => b"each stop, block and return is told in time",
         Rule::WhereOwned =>
-            b"each processor is owned by the space of the activation that runs there",
+            b"each processor is owned by the space of the activation that runs there, an upcall comes where none runs, and a stop or a block names the one that runs",
         Rule::AllTold => b"an upcall is in a fresh activation, and tells all",
         Rule::UpcallGiven => b"a block gives an upcall",
         Rule::InterruptNext =>

@@ -17,7 +17,6 @@ use Rattle.sa_trace_events.specs.declared.track.Track.{Track}
 use Rattle.sa_trace_events.specs.declared.track.Track.TheVariants as track
 use Rattle.sa_trace_events.specs.declared.state.Doing.{Doing}
 use Rattle.sa_trace_events.specs.declared.state.Doing.TheVariants.{Ready, Runs, Section, Stopped, Blocked, Returned, Hand, Away}
-use Rattle.sa_trace_events.specs.declared.state.Context.{Context}
 use Rattle.sa_trace_events.specs.declared.state.Holder.{Holder}
 use Rattle.sa_trace_events.specs.declared.state.Holder.TheVariants.{Nobody}
 use Rattle.sa_trace_events.specs.declared.state.Tally.{Tally}

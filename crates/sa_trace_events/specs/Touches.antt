@@ -7,7 +7,6 @@ use Rattle.sa_base.specs.declared.number.ThreadNo.{ThreadNo}
 use Rattle.sa_base.specs.declared.record.Item.{Item}
 use Rattle.sa_base.specs.declared.record.Record.{Record}
 use Rattle.sa_base.specs.declared.record.Record.TheVariants as what
-use Rattle.sa_trace_events.specs.declared.track.Count.{Count}
 use Rattle.sa_trace_events.specs.declared.track.Count.TheVariants.{Demand, Aimed, Owned, Ready, Untold}
 use Rattle.sa_trace_events.specs.declared.track.Track.{Track}
 use Rattle.sa_trace_events.specs.declared.track.Track.TheVariants as track

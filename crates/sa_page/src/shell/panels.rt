@@ -73,10 +73,11 @@ const makeProcessors = () => {
   return made;
 };
 const SYNC_TITLES = { mutex: 'Mutexes', semaphore: 'Semaphores', cell: 'Cells' };
+const SYNC_HEADS = { mutex: 'holder, queue', semaphore: 'count, queue', cell: 'value' };
 const makeSync = (s) => {
   const kinds = Object.keys(SYNC_TITLES).filter((kind) => cellOf.has(`s${s}.${kind}0`));
   if (kinds.length === 0) return [];
-  const made = table(kinds.map((kind) => SYNC_TITLES[kind]).join(', '), ['which', 'holds']);
+  const made = table(kinds.map((kind) => SYNC_TITLES[kind]).join(', '), ['which', kinds.map((kind) => SYNC_HEADS[kind]).join('; or ')]);
   for (const kind of kinds) {
     for (let n = 0; n < countOf(`s${s}.${kind}`, ''); n += 1) addRow(made, named(kind, s, n), [{ name: `s${s}.${kind}${n}` }]);
   }
@@ -198,18 +199,21 @@ const placeOf = (cell, k) => {
   }
   return -1;
 };
+// Where each thread is. It is read again only if its cell has another line.
+const standings = threads.flatMap((count, s) => each(count, (t) => ({ s, t, cell: cellOf.get(`s${s}.thread${t}`), line: -1, kind: KIND.nobody, key: '' })));
+const readStanding = (one, line) => {
+  one.line = line;
+  one.kind = line < 0 ? KIND.nobody : threadKind(lineFrom(cells, one.cell.texts[line]));
+  if (one.kind !== KIND.nobody) one.key = lineKey(one.s, programOf[one.s][one.t], placeOf(one.cell, line));
+};
 const threadsAtLines = () => {
   const at = new Map();
-  for (let s = 0; s < spaces; s += 1) {
-    for (let t = 0; t < threads[s]; t += 1) {
-      const cell = cellOf.get(`s${s}.thread${t}`);
-      const k = placeIn(cell.times, chosen);
-      const kind = k < 0 ? KIND.nobody : threadKind(lineFrom(cells, cell.texts[k]));
-      if (kind === KIND.nobody) continue;
-      const key = lineKey(s, programOf[s][t], placeOf(cell, k));
-      if (!at.has(key)) at.set(key, []);
-      at.get(key).push({ t, kind });
-    }
+  for (const one of standings) {
+    const line = placeIn(one.cell.times, chosen);
+    if (line !== one.line) readStanding(one, line);
+    if (one.kind === KIND.nobody) continue;
+    if (!at.has(one.key)) at.set(one.key, []);
+    at.get(one.key).push(one);
   }
   return at;
 };

@@ -95,7 +95,7 @@ ol.lines li.ran { background: var(--mark); box-shadow: inset 4px 0 0 var(--mark-
   #scroller { max-height: none; overflow: visible; }
   #columns { display: block; }
   #programs { max-height: none; overflow: visible; }
-  tr, li { break-inside: avoid; }
+  table, tr, li { break-inside: avoid; }
   h2, h3, caption { break-after: avoid; }
 }
 "##;

@@ -1,7 +1,6 @@
-use Rattle.std.proofs.Common.{ℕ, ◌++◌, sym, ap, ◌∙◌}
+use Rattle.std.proofs.Common.{◌++◌, sym, ap}
 use Rattle.std.specs.Prelude.{codes}
 use Rattle.sa_svg.proofs.Appends.{where-ok}
-use Rattle.sa_cells.specs.Pieces.{one, two}
 use Rattle.sa_cells.specs.Words.{words_of}
 use Rattle.sa_cells.proofs.Joined.{joined-as}
 use Rattle.sa_cells.proofs.words.push_words.Goals as goal
@@ -63,8 +62,8 @@ returns-in-Free c =
 
 pub returns-in-Up : goal.returns-in-Up
 returns-in-Up c =
-    joined-as c.push_two.result c.args.out.now.items c.push_two.new.out.items _ (words_of c.args.in_copy c.args.instr c.args.what.now)
-    (ap (λ (n : ℕ). two (codes "Space ") n (codes " gets an upcall, in the fresh activation ") c.in-Up.a.0 (codes ".")) c.from.ensures ∙ ap (words_of c.args.in_copy c.args.instr) (sym c.in-Up.is)) c.push_two.ensures
+    joined-as c.push_up.result c.args.out.now.items c.push_up.new.out.items _ (words_of c.args.in_copy c.args.instr c.args.what.now)
+    (ap (words_of c.args.in_copy c.args.instr) (sym c.in-Up.is)) c.push_up.ensures
 
 pub returns-in-Told : goal.returns-in-Told
 returns-in-Told c =
@@ -88,23 +87,23 @@ returns-in-Aim c =
 
 pub returns-in-Line : goal.returns-in-Line
 returns-in-Line c =
-    joined-as c.push_one.result c.args.out.now.items c.push_one.new.out.items _ (words_of c.args.in_copy c.args.instr c.args.what.now)
-    (ap (λ (n : ℕ). one (codes "Processor ") n (codes " is called into the kernel: its interrupt line goes up.")) c.from-in-Line.ensures ∙ ap (words_of c.args.in_copy c.args.instr) (sym c.in-Line.is)) c.push_one.ensures
+    joined-as c.push_line.result c.args.out.now.items c.push_line.new.out.items _ (words_of c.args.in_copy c.args.instr c.args.what.now)
+    (ap (words_of c.args.in_copy c.args.instr) (sym c.in-Line.is)) c.push_line.ensures
 
 pub returns-in-Fetch : goal.returns-in-Fetch
 returns-in-Fetch c =
-    joined-as c.push_page.result c.args.out.now.items c.push_page.new.out.items _ (words_of c.args.in_copy c.args.instr c.args.what.now)
-    (ap (words_of c.args.in_copy c.args.instr) (sym c.in-Fetch.is)) c.push_page.ensures
+    joined-as c.push_fetch.result c.args.out.now.items c.push_fetch.new.out.items _ (words_of c.args.in_copy c.args.instr c.args.what.now)
+    (ap (words_of c.args.in_copy c.args.instr) (sym c.in-Fetch.is)) c.push_fetch.ensures
 
 pub returns-in-Fetched : goal.returns-in-Fetched
 returns-in-Fetched c =
-    joined-as c.push_page-in-Fetched.result c.args.out.now.items c.push_page-in-Fetched.new.out.items _ (words_of c.args.in_copy c.args.instr c.args.what.now)
-    (ap (words_of c.args.in_copy c.args.instr) (sym c.in-Fetched.is)) c.push_page-in-Fetched.ensures
+    joined-as c.push_page.result c.args.out.now.items c.push_page.new.out.items _ (words_of c.args.in_copy c.args.instr c.args.what.now)
+    (ap (words_of c.args.in_copy c.args.instr) (sym c.in-Fetched.is)) c.push_page.ensures
 
 pub returns-in-GiveBack : goal.returns-in-GiveBack
 returns-in-GiveBack c =
-    joined-as c.push_one-in-GiveBack.result c.args.out.now.items c.push_one-in-GiveBack.new.out.items _ (words_of c.args.in_copy c.args.instr c.args.what.now)
-    (ap (words_of c.args.in_copy c.args.instr) (sym c.in-GiveBack.is)) c.push_one-in-GiveBack.ensures
+    joined-as c.push_give_back.result c.args.out.now.items c.push_give_back.new.out.items _ (words_of c.args.in_copy c.args.instr c.args.what.now)
+    (ap (words_of c.args.in_copy c.args.instr) (sym c.in-GiveBack.is)) c.push_give_back.ensures
 
 pub returns-in-Idle : goal.returns-in-Idle
 returns-in-Idle c =
@@ -113,8 +112,8 @@ returns-in-Idle c =
 
 pub returns-in-Spin : goal.returns-in-Spin
 returns-in-Spin c =
-    joined-as c.push_one-in-Spin.result c.args.out.now.items c.push_one-in-Spin.new.out.items _ (words_of c.args.in_copy c.args.instr c.args.what.now)
-    (ap (λ (n : ℕ). one (codes "List ") n (codes " is locked by another: this turn only waits.")) c.from-in-Spin.ensures ∙ ap (words_of c.args.in_copy c.args.instr) (sym c.in-Spin.is)) c.push_one-in-Spin.ensures
+    joined-as c.push_spin.result c.args.out.now.items c.push_spin.new.out.items _ (words_of c.args.in_copy c.args.instr c.args.what.now)
+    (ap (words_of c.args.in_copy c.args.instr) (sym c.in-Spin.is)) c.push_spin.ensures
 
 pub returns-in-Tick : goal.returns-in-Tick
 returns-in-Tick c =

@@ -1,0 +1,9 @@
+use Rattle.sa_check_moment.specs.Seen.{seen}
+use Rattle.sa_cells.specs.Cells.{processor_cells}
+use Rattle.sa_cells.specs.Change.{change_line}
+use Rattle.sa_cells.proofs.Skipped.{cells-more}
+use Rattle.sa_cells.proofs.change.push_changed_processors.Goals as goal
+
+pub loop-n-preserved : goal.loop-n-preserved
+loop-n-preserved c =
+    cells-more (change_line c.args.event c.args.ups.now (seen c.args.before.now.moment) (seen c.args.view.now.moment)) processor_cells c.loop-n.n _ _ _ c.loop-n.invariant c.in_ok-push_changed_processor.ensures
