@@ -4,7 +4,7 @@ use Rattle.std.specs.Option.{option_map, unwrap_or}
 use Rattle.sa_base.specs.declared.number.ProcNo.{ProcNo}
 use Rattle.toga_draft.specs.declared.word.Word.{Word}
 use Rattle.toga_draft.specs.declared.draft.Setting.{Setting}
-use Rattle.toga_draft.specs.declared.draft.Thing.{Thing}
+use Rattle.toga_draft.specs.declared.draft.NameDraft.{NameDraft}
 use Rattle.toga_draft.specs.declared.draft.LabelDraft.{LabelDraft}
 use Rattle.toga_draft.specs.declared.draft.InstrDraft.{InstrDraft}
 use Rattle.toga_draft.specs.declared.draft.EvictDraft.{EvictDraft}
@@ -22,7 +22,9 @@ pub record SpaceDraftView : Type 0 where
   pub line : ℕ
   pub priority : Option Setting
   pub patience : Option Setting
-  pub things : List Thing
+  pub mutexes : List NameDraft
+  pub semaphores : List NameDraft
+  pub cells : List NameDraft
   pub starts : List ℕ
   pub absent : List ℕ
   pub evictions : List EvictDraft

@@ -16,12 +16,10 @@ pub struct Setting {
     pub line: u64,
 }
 
-/// Something that has a name in a space: its number among those of its kind, and the line that declares it.
+/// A mutex, a semaphore or a cell: its name, and the line that declares it.
 #[derive(Drop)]
-pub struct Thing {
+pub struct NameDraft {
     pub name: Name,
-    pub kind: Kind,
-    pub number: u16,
     pub line: u64,
 }
 
@@ -40,8 +38,18 @@ pub enum OperandDraft {
     None,
     /// One that names nothing: a register, a number, a length or a page.
     Known(Operand),
-    /// A name of something of this kind, or its number.
+    /// The name of a mutex, a semaphore, a cell, a program or a label.
     Named(Kind, Word),
+    /// The number of a mutex, a semaphore, a cell or a program, or a place.
+    Numbered(Kind, NumberDraft),
+}
+
+/// A number that stands for something that is declared: its column, and how many bytes it has.
+#[derive(Clone, Copy)]
+pub struct NumberDraft {
+    pub number: u64,
+    pub column: usize,
+    pub width: usize,
 }
 
 /// An instruction. Its operands are as many, and of the kinds, as its operation has.
@@ -84,15 +92,16 @@ impl Model for ProgramDraft {
     } };
 }
 
-/// A space. Contracts see lists.
+/// A space: what it declares, each kind in the order of the lines. Contracts see lists.
 #[derive(Drop)]
 pub struct SpaceDraft {
     pub name: Name,
     pub line: u64,
     pub priority: Option<Setting>,
     pub patience: Option<Setting>,
-    /// The mutexes, semaphores, cells and programs, in the order of the lines.
-    pub things: Vec<Thing>,
+    pub mutexes: Vec<NameDraft>,
+    pub semaphores: Vec<NameDraft>,
+    pub cells: Vec<NameDraft>,
     /// What each semaphore starts with.
     pub starts: Vec<u32>,
     /// The absent pages, in the order of the lines.
@@ -112,7 +121,9 @@ impl Model for SpaceDraft {
       line = s.line;
       priority = s.priority;
       patience = s.patience;
-      things = s.things.items;
+      mutexes = s.mutexes.items;
+      semaphores = s.semaphores.items;
+      cells = s.cells.items;
       starts = s.starts.items;
       absent = s.absent.items;
       evictions = s.evictions.items;
