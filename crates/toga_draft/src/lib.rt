@@ -6,7 +6,7 @@ mod draft;
 mod word;
 
 pub use draft::{
-    Draft, EvictDraft, InstrDraft, LabelDraft, OperandDraft, ProgramDraft, Setting, SpaceDraft,
-    Thing,
+    Draft, EvictDraft, InstrDraft, LabelDraft, NameDraft, NumberDraft, OperandDraft, ProgramDraft,
+    Setting, SpaceDraft,
 };
 pub use word::Word;
