@@ -1,5 +1,5 @@
 -- What holds of each draft that was read to its end: its numbers are in their ranges, and its operands fit.
-use Rattle.std.specs.Prelude.{◌≡◌, ℕ, ◌^◌, ◌<◌, ◌≤◌, ◌-◌, Bool, ◌==◌, List, [], ◌∷◌, ◌++◌, length, slice_get, All, Some, count_by, sum_by}
+use Rattle.std.specs.Prelude.{◌≡◌, ℕ, ◌^◌, ◌<◌, ◌≤◌, ◌-◌, List, [], ◌∷◌, ◌++◌, length, slice_get, All, Some, sum_by}
 use Rattle.std.specs.Option.{option_map}
 use Rattle.sa_base.specs.declared.limits.TheConstants.{FIRST_THREAD_PAGE, MAX_EVENTS, MAX_PROCESSORS, MAX_SPACES}
 use Rattle.sa_instr.specs.declared.limits.TheConstants.{LAST_PAGE, MAX_CELLS, MAX_EVICTIONS, MAX_FETCH, MAX_INSTRUCTIONS, MAX_IO_LENGTH, MAX_MUTEXES, MAX_PATIENCE, MAX_PRIORITY, MAX_PROGRAMS, MAX_SEMAPHORES, MAX_SLICE, MAX_START, MAX_TURNS}
@@ -12,26 +12,11 @@ use Rattle.sa_instr.specs.Operand.{kind_of}
 use Rattle.sa_instr.specs.Operation.{form_of}
 use Rattle.toga_diagnostic.specs.declared.cause.Kind.{Kind}
 use Rattle.toga_diagnostic.specs.declared.cause.Kind.TheVariants.{Space, Mutex, Semaphore, Cell, Program, Label, Instruction, Eviction}
-use Rattle.toga_draft.specs.declared.draft.Thing.{Thing}
 use Rattle.toga_draft.specs.declared.draft.OperandDraft.{OperandDraft}
-use Rattle.toga_draft.specs.declared.draft.OperandDraft.TheVariants.{None, Known, Named}
+use Rattle.toga_draft.specs.declared.draft.OperandDraft.TheVariants.{None, Known, Named, Numbered}
 use Rattle.toga_draft.specs.declared.draft.InstrDraft.{InstrDraft}
 use Rattle.toga_draft.specs.declared.draft.EvictDraft.{EvictDraft}
 use Rattle.toga_draft.specs.Draft.{DraftView, SpaceDraftView, ProgramDraftView, value_or}
-
--- the two are one kind
-abbrev pub kind_number : Kind → ℕ
-kind_number Space = 0
-kind_number Mutex = 1
-kind_number Semaphore = 2
-kind_number Cell = 3
-kind_number Program = 4
-kind_number Label = 5
-kind_number Instruction = 6
-kind_number Eviction = 7
-
-abbrev pub is_kind : Kind → Kind → Bool
-is_kind one other = kind_number one == kind_number other
 
 -- what a word of an operand stands for
 abbrev pub named_kinds : Kind → List OperandKind
@@ -46,6 +31,7 @@ abbrev pub kinds_of : OperandDraft → List OperandKind
 kinds_of None = []
 kinds_of (Known o) = kind_of o ∷ []
 kinds_of (Named kind word) = named_kinds kind
+kinds_of (Numbered kind number) = named_kinds kind
 
 -- an operand that names nothing is in its range
 abbrev pub IsKnown : Operand → Type 0
@@ -71,10 +57,6 @@ pub record IsProgramDraft (p : ProgramDraftView) : Type 0 where
   pub instrs : All IsInstrDraft p.instrs
   pub labels : All (λ l. l.place < length p.instrs) p.labels
 
--- how many things of a kind there are
-abbrev pub count_of : Kind → List Thing → ℕ
-count_of kind things = count_by (λ t. is_kind t.kind kind) things
-
 pub record IsEvictDraft (e : EvictDraft) : Type 0 where
   pub first : 1 ≤ e.event
   pub last : e.event ≤ MAX_EVENTS
@@ -84,18 +66,16 @@ pub record IsSpaceDraft (s : SpaceDraftView) : Type 0 where
   pub priority : value_or s.priority 0 ≤ MAX_PRIORITY
   pub some_patience : 1 ≤ value_or s.patience 1
   pub patience : value_or s.patience 1 ≤ MAX_PATIENCE
-  pub mutexes : count_of Mutex s.things ≤ MAX_MUTEXES
-  pub cells : count_of Cell s.things ≤ MAX_CELLS
-  pub semaphores : count_of Semaphore s.things ≡ length s.starts
+  pub mutexes : length s.mutexes ≤ MAX_MUTEXES
+  pub cells : length s.cells ≤ MAX_CELLS
+  pub semaphores : length s.semaphores ≡ length s.starts
   pub few_semaphores : length s.starts ≤ MAX_SEMAPHORES
   pub starts : All (λ start. start ≤ MAX_START) s.starts
   pub absent : All (λ page. page ≤ LAST_PAGE) s.absent
   pub evictions : All IsEvictDraft s.evictions
   pub some_program : 1 ≤ length s.programs
   pub few_programs : length s.programs ≤ MAX_PROGRAMS
-  pub programs : count_of Program s.things ≡ length s.programs
   pub all_programs : All IsProgramDraft s.programs
-  pub things : All (λ t. t.number < count_of t.kind s.things) s.things
 
 pub record IsDraft (d : DraftView) : Type 0 where
   pub some_processor : 1 ≤ value_or d.processors 2
