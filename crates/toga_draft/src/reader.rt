@@ -278,18 +278,25 @@ impl Reader {
         ensures { Leaves (state_of self.new) result (read_declaration line word.now operands.now declaration (state_of self.old)) }
     {
         self.open(line);
-        declare(
-            self.alloc,
-            line,
-            word,
-            operands,
-            self.evictions,
-            declaration,
-            &mut self.space,
-        )?;
-        if let Declaration::Evict = declaration {
-            self.evictions += 1;
-        }
+        self.declare_in(line, word, operands, declaration)
+    }
+
+    // Reads a declaration of the space that has begun.
+    #[tactic(auto, unfolding(crate::specs::Lines::declare_in))]
+    fn declare_in(
+        &mut self,
+        line: u64,
+        word: &LineWord,
+        operands: &[LineWord],
+        declaration: Declaration,
+    ) -> Result<(), Unread>
+        requires { IsReady (state_of self.old) }
+        ensures { Leaves (state_of self.new) result (declare_in line word.now operands.now declaration (state_of self.old)) }
+    {
+        let count = self.evictions;
+        let space = &mut self.space;
+        declare(self.alloc, line, word, operands, count, declaration, space)?;
+        self.evictions = one_more(declaration, count);
         Ok(())
     }
 
@@ -355,15 +362,10 @@ impl Reader {
         requires { IsReady (state_of self.old) }
         ensures { Leaves (state_of self.new) result (read_turns line word.now operands.now (state_of self.old)) }
     {
+        let last = Setting::value_or(self.processors, 2).saturating_sub(1);
         self.end_program()?;
         some_words(line, word, operands, Next::Turn)?;
-        let processors = Setting::value_or(self.processors, 2);
-        add_turns(
-            line,
-            processors.saturating_sub(1),
-            operands,
-            &mut self.turns,
-        )?;
+        add_turns(line, last, operands, &mut self.turns)?;
         self.stage = Stage::AfterTurns;
         Ok(())
     }
