@@ -37,7 +37,7 @@ use Rattle.toga_draft.specs.Declarations.{add_cell, add_eviction, add_mutex, add
 use Rattle.toga_draft.specs.Draft.{ProgramDraftView, SpaceDraftView, value_or}
 use Rattle.toga_draft.specs.Lines.{one_more}
 use Rattle.toga_draft.specs.Operands.{nth_operand, named_in, number_in, numbered_unless, operand_in, register_of, register_unless}
-use Rattle.toga_draft.specs.Programs.{add_instr, add_label, ends, instr_in, is_end, label_line, label_unless, unless_alone, unless_end, whole_program}
+use Rattle.toga_draft.specs.Programs.{add_instr, add_label, ends, instr_in, is_end, label_line, label_unless, next_after, unless_alone, unless_end, whole_program}
 use Rattle.toga_draft.specs.Reading.{◌>>=◌, in_turn}
 use Rattle.toga_draft.specs.Whole.{kinds_of, named_kinds, IsOperandDraft, IsInstrDraft, IsProgramDraft, IsEvictDraft, IsSpaceDraft}
 use Rattle.toga_draft.specs.Words.{about, count_words, nth, some_words, without_colon}
@@ -116,7 +116,8 @@ few-operands _ = omega arith
 instr-stands : (line : ℕ) (o : Operation) (w : Word) (ws : List Word) (i : InstrDraft) → instr_in line o w ws ≡ Ok i → IsInstrDraft i
 unfolding instr_in
 instr-stands line o w ws i e =
-    after _ _ i (IsInstrDraft i) e (λ _ _ more1.
+    after (count_words line w ws (length (form_of o).operands) (length (form_of o).operands) (next_after (form_of o).operands (length ws))) _ i
+    (IsInstrDraft i) e (λ _ _ more1.
     after (nth_operand line ws (form_of o).operands 0) _ i (IsInstrDraft i) more1 (λ a first more2.
     after (nth_operand line ws (form_of o).operands 1) _ i (IsInstrDraft i) more2 (λ b second more3.
     let p = operands-fit line ws (form_of o).operands a b (few-operands o) first second in
@@ -161,16 +162,16 @@ label-added line w p q h e = by_name (is_name (without_colon w).text) e
 -- a program that has ended
 none-alone : (n : ℕ) (ls : List LabelDraft) → find (λ l. l.place == n) ls ≡ None → All (λ l. l.place ≤ n) ls → All (λ l. l.place < n) ls
 none-alone n [] e all = All-nil (λ (l : LabelDraft). l.place < n)
-none-alone n (l ∷ ls) e all = by_test (l.place == n) refl e
+none-alone n (l ∷ ls) e all = by_test (l.place == n) refl e (λ none. none-alone n ls none (All-tail (λ (l : LabelDraft). l.place ≤ n) l ls all))
   where
-    by_test : (b : Bool) → (l.place == n) ≡ b → cond b (Some l) (find (λ l. l.place == n) ls) ≡ None → All (λ l. l.place < n) (l ∷ ls)
-    by_test true t e = absurd cc
-    by_test false t e =
-        All-cons (λ (l : LabelDraft). l.place < n) l ls (below l.place n t (All-head (λ (l : LabelDraft). l.place ≤ n) l ls all))
-        (none-alone n ls e (All-tail (λ (l : LabelDraft). l.place ≤ n) l ls all))
-      where
-        below : (k n : ℕ) → (k == n) ≡ false → k ≤ n → k < n
-        below k n t h = grind arith
+    below : (k : ℕ) → (k == n) ≡ false → k ≤ n → k < n
+    below k t h = grind arith
+
+    by_test : (b : Bool) → (l.place == n) ≡ b → cond b (Some l) (find (λ l. l.place == n) ls) ≡ None
+        → (find (λ (l : LabelDraft). l.place == n) ls ≡ None → All (λ (l : LabelDraft). l.place < n) ls) → All (λ (l : LabelDraft). l.place < n) (l ∷ ls)
+    by_test true t e rest = absurd cc
+    by_test false t e rest =
+        All-cons (λ (l : LabelDraft). l.place < n) l ls (below l.place t (All-head (λ (l : LabelDraft). l.place ≤ n) l ls all)) (rest e)
 
 not-alone : (o : Option LabelDraft) (u : Unit {0}) → unless_alone o ≡ Ok u → o ≡ None
 not-alone (Some l) u e = absurd cc
@@ -282,12 +283,14 @@ semaphore-added line w ws s t h e =
 page-added : (line : ℕ) (w : Word) (xs ys : List ℕ) → All (λ page. page ≤ LAST_PAGE) xs → add_page line w xs ≡ Ok ys → All (λ page. page ≤ LAST_PAGE) ys
 unfolding add_page
 page-added line w xs ys h e =
-    after (number_in line w PAGE) (λ page. new_page line w page xs) ys _ e (λ page found more. by_test page found _ more)
+    after (number_in line w PAGE) (λ page. new_page line w page xs) ys (All (λ page. page ≤ LAST_PAGE) ys) e (λ page found more.
+    by_test page found (list_any (λ p. p == page) xs) _ more)
   where
-    by_test : (page : ℕ) → number_in line w PAGE ≡ Ok page → (b : Bool) → cond b (Err _) (Ok (xs ++ page ∷ [])) ≡ Ok ys → All (λ page. page ≤ LAST_PAGE) ys
-    by_test page found true e = absurd cc
-    by_test page found false e =
-        subst (All (λ page. page ≤ LAST_PAGE)) (same-ok _ ys e)
+    by_test : (page : ℕ) → number_in line w PAGE ≡ Ok page → (b : Bool) (d : Fault) → cond b (Err d) (Ok (xs ++ page ∷ [])) ≡ Ok ys
+        → All (λ page. page ≤ LAST_PAGE) ys
+    by_test page found true d e = absurd cc
+    by_test page found false d e =
+        subst (All (λ page. page ≤ LAST_PAGE)) (same-ok (xs ++ page ∷ []) ys e)
         (All-push (λ page. page ≤ LAST_PAGE) xs page h (number-within line w PAGE page found).1)
 
 eviction-added :

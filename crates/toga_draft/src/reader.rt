@@ -7,6 +7,7 @@ ghost use Rattle.toga_draft.specs.Draft.{value_or};
 ghost use Rattle.toga_draft.specs.Reading.{Gives, Leaves, in_turn};
 ghost use Rattle.toga_draft.specs.Operands.{add_turn};
 ghost use Rattle.toga_draft.specs.State.{start};
+ghost use Rattle.toga_draft.specs.Whole.{IsDraft};
 ghost use Rattle.toga_draft.specs.Reader.{IsReady, state_of};
 ghost use Rattle.toga_draft.specs.Lines.{declare_in, draft_of, end_of_lines, end_program, end_space, is_beyond, new_program, new_space, one_more, opened, read_after_label, read_by, read_declaration, read_first, read_instr, read_label, read_line, read_line_of, read_program, read_setting, read_space, read_turns, read_words, space_line, too_long, unless_space, empty, no_program};
 
@@ -51,8 +52,16 @@ pub(crate) const SLICE: Limit = Limit {
 };
 
 /// The draft of a source, whose lines are read one after another up to the first error of form.
-#[tactic(auto, unfolding(crate::specs::Lines::draft_of))]
 pub fn read_draft(alloc: Global, text: &[u8]) -> Result<Draft, Unread>
+    ensures exact { Gives (λ draft. draft) result (draft_of text.now) }
+    ensures whole { IfOk result IsDraft }
+{
+    read_all(alloc, text)
+}
+
+// The same, without what holds of each draft.
+#[tactic(auto, unfolding(crate::specs::Lines::draft_of))]
+fn read_all(alloc: Global, text: &[u8]) -> Result<Draft, Unread>
     ensures { Gives (λ draft. draft) result (draft_of text.now) }
 {
     let reader = read_lines(alloc, text)?;
