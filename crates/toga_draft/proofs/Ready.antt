@@ -262,8 +262,8 @@ ready-by line word operands first.Space s t h e = ready-space line word operands
 ready-by line word operands first.Program s t h e = ready-program line word operands s t h e
 ready-by line word operands first.Turns s t h e = ready-turns line word operands s t h e
 ready-by line word operands (first.Instr o) s t h e = ready-instr line o word operands s t h e
-ready-by line word operands first.Workload s t h e = subst IsReady (same-ok _ _ e) h
-ready-by line word operands first.Unknown s t h e = subst IsReady (same-ok _ _ e) h
+ready-by line word operands first.Workload s t h e = absurd cc
+ready-by line word operands first.Unknown s t h e = absurd cc
 
 ready-first : (line : ℕ) (word : Word) (operands : List Word) (f : First) (s t : State) → IsReady s → read_first line word operands f s ≡ Ok t → IsReady t
 unfolding read_first

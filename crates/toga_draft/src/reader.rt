@@ -22,7 +22,7 @@ use sa_instr::{MAX_FETCH, MAX_PROGRAMS, MAX_SLICE, Operation};
 use sa_text::{Line, Lines};
 use std::alloc::{AllocError, Global};
 use std::mem;
-use toga_diagnostic::{About, Cause, Fault, Kind, Limit, Next, Part, Stage, Twice, What};
+use toga_diagnostic::{About, Cause, Fault, Kind, Limit, Next, Part, Stage, Twice, Wanted, What};
 use toga_lines::content_of;
 use toga_source::Name;
 
@@ -230,7 +230,11 @@ impl Reader {
             First::Program => self.read_program(line, word, operands),
             First::Turns => self.read_turns(line, word, operands),
             First::Instr(operation) => self.read_instr(line, operation, word, operands),
-            First::Workload | First::Unknown => Ok(()),
+            First::Workload => Err(word.about(line, About::Plain)),
+            First::Unknown => {
+                let wanted = Wanted::First(self.stage);
+                Err(word.fault(line, Cause::Wanted(wanted)))
+            }
         }
     }
 
