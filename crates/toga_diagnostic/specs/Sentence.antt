@@ -115,10 +115,10 @@ no_place_text n program count =
     ++ last_place_text count
 
 unfoldable pub missing_text : Missing → List ℕ → List ℕ
-missing_text (missing.Name kind space names) word = no_name_text kind word space names.items
-missing_text (missing.Other is kind names) word = other_text is kind word names.items
+missing_text (missing.Name kind space names) word = no_name_text kind word space names
+missing_text (missing.Other is kind names) word = other_text is kind word names
 missing_text (missing.Number kind n space count) word = no_number_text kind n space count
-missing_text (missing.Label program labels count) word = no_label_text word program labels.items count
+missing_text (missing.Label program labels count) word = no_label_text word program labels count
 missing_text (missing.Place n program count) word = no_place_text n program count
 
 -- a hexadecimal digit

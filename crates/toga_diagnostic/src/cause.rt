@@ -1,5 +1,38 @@
 // What is wrong with a source, and where.
+ghost use Rattle.std.specs.Prelude.{◌≡◌};
+
+use std::marker::Model;
 use toga_source::Name;
+
+/// Names, in their order. Contracts see the list of them.
+#[derive(Drop)]
+pub struct NameList {
+    names: Vec<Name>,
+}
+
+impl Model for NameList {
+    ghost use Rattle.std.specs.Prelude.{List, ℕ};
+
+    ghost Value = { List (List ℕ) };
+
+    ghost view = { λ n. n.names.items };
+}
+
+impl NameList {
+    /// The list of these names.
+    pub fn new(names: Vec<Name>) -> NameList
+        ensures { result ≡ names.items }
+    {
+        NameList { names }
+    }
+
+    /// The names.
+    pub fn names(&self) -> &[Name]
+        ensures { result.now ≡ self.now }
+    {
+        self.names.as_slice()
+    }
+}
 
 /// A kind of what has a name, or of what there may be too many of.
 #[derive(Clone, Copy)]
@@ -119,13 +152,13 @@ pub enum Twice {
 #[derive(Drop)]
 pub enum Missing {
     /// Nothing of this kind in the space of this name has the name; these are the names of that kind.
-    Name(Kind, Name, Vec<Name>),
+    Name(Kind, Name, NameList),
     /// What has the name is of the first kind, and the second is wanted; these are its names.
-    Other(Kind, Kind, Vec<Name>),
+    Other(Kind, Kind, NameList),
     /// There is nothing of this kind and number in the space of this name, but so many.
     Number(Kind, u64, Name, u64),
     /// The program of this name has no such label; these it has, and so many places.
-    Label(Name, Vec<Name>, u64),
+    Label(Name, NameList, u64),
     /// There is no place of this number in the program of this name, but so many.
     Place(u64, Name, u64),
 }

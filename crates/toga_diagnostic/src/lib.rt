@@ -9,6 +9,6 @@ mod tables;
 mod texts;
 
 pub use cause::{
-    About, Cause, Fault, Kind, Limit, Missing, Next, Part, Stage, Twice, Wanted, What,
+    About, Cause, Fault, Kind, Limit, Missing, NameList, Next, Part, Stage, Twice, Wanted, What,
 };
 pub use texts::diagnostic;

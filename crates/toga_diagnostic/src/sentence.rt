@@ -185,14 +185,14 @@ pub(crate) fn push_missing(
 {
     match missing {
         Missing::Name(kind, space, names) => {
-            push_no_name(out, *kind, word, space.bytes(), names.as_slice())
+            push_no_name(out, *kind, word, space.bytes(), names.names())
         }
-        Missing::Other(is, kind, names) => push_other(out, *is, *kind, word, names.as_slice()),
+        Missing::Other(is, kind, names) => push_other(out, *is, *kind, word, names.names()),
         Missing::Number(kind, n, space, count) => {
             push_no_number(out, *kind, *n, space.bytes(), *count)
         }
         Missing::Label(program, labels, count) => {
-            push_no_label(out, word, program.bytes(), labels.as_slice(), *count)
+            push_no_label(out, word, program.bytes(), labels.names(), *count)
         }
         Missing::Place(n, program, count) => push_no_place(out, *n, program.bytes(), *count),
     }
