@@ -1,0 +1,14 @@
+//! Reading a source: the workload that it says, with the names of what it declares and the line of each instruction; or the first error,
+//! with its place and its cause.
+#![tactic(auto)]
+
+mod evictions;
+mod lookup;
+mod names;
+mod operands;
+mod source;
+mod spaces;
+mod unread;
+
+pub use source::{MAX_TEXT, Source};
+pub use unread::Unread;
