@@ -1,2 +1,11 @@
 pub mod Draft
 pub mod Whole
+pub mod Reading
+pub mod Words
+pub mod First
+pub mod Operands
+pub mod Declarations
+pub mod Programs
+pub mod State
+pub mod Lines
+pub mod Reader

@@ -5,6 +5,7 @@ ghost use Rattle.toga_draft.specs.Draft.{value_or};
 use crate::word::Word;
 use sa_base::ProcNo;
 use sa_instr::{Operand, Operation};
+use std::alloc::Global;
 use std::marker::Model;
 use toga_diagnostic::Kind;
 use toga_source::Name;
@@ -166,6 +167,57 @@ impl Setting {
         match setting {
             Some(setting) => setting.value,
             None => usual,
+        }
+    }
+}
+
+impl ProgramDraft {
+    ghost use Rattle.toga_draft.specs.State.{program_from};
+    ghost use Rattle.toga_draft.specs.Words.{no_word};
+
+    /// A program that begins.
+    pub(crate) fn new(alloc: Global, name: Word, line: u64) -> ProgramDraft
+        ensures { result ≡ program_from name line }
+    {
+        ProgramDraft {
+            name,
+            line,
+            labels: Vec::new(alloc),
+            instrs: Vec::new(alloc),
+        }
+    }
+
+    /// No program.
+    pub(crate) fn none(alloc: Global) -> ProgramDraft
+        ensures { result ≡ program_from no_word 0 }
+    {
+        let name = Word {
+            text: Name::new(Vec::new(alloc)),
+            column: 0,
+        };
+        ProgramDraft::new(alloc, name, 0)
+    }
+}
+
+impl SpaceDraft {
+    ghost use Rattle.toga_draft.specs.State.{space_from};
+
+    /// A space that begins.
+    pub(crate) fn new(alloc: Global, name: Name, line: u64) -> SpaceDraft
+        ensures { result ≡ space_from name line }
+    {
+        SpaceDraft {
+            name,
+            line,
+            priority: None,
+            patience: None,
+            mutexes: Vec::new(alloc),
+            semaphores: Vec::new(alloc),
+            cells: Vec::new(alloc),
+            starts: Vec::new(alloc),
+            absent: Vec::new(alloc),
+            evictions: Vec::new(alloc),
+            programs: Vec::new(alloc),
         }
     }
 }

@@ -2,11 +2,19 @@
 //! place and its cause.
 #![tactic(auto)]
 
+mod declarations;
 mod draft;
+mod first;
+mod operands;
+mod programs;
+mod reader;
+mod unread;
 mod word;
 
 pub use draft::{
     Draft, EvictDraft, InstrDraft, LabelDraft, NameDraft, NumberDraft, OperandDraft, ProgramDraft,
     Setting, SpaceDraft,
 };
+pub use reader::{MAX_SOURCE, read_draft};
+pub use unread::Unread;
 pub use word::Word;

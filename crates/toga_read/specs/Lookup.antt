@@ -96,14 +96,20 @@ unfoldable pub named_number : SpaceDraftView → ProgramDraftView → ℕ → Ki
 named_number space program line Label word = label_place program line word
 named_number space program line kind word = thing_number space line kind word
 
--- how many places, or things of the kind, there are; and the fault of a number that none of them has
+-- how many things of a kind there are, or places; and the fault of a number that none of them has
+abbrev pub kind_count : Kind → SpaceDraftView → ℕ
+kind_count Mutex space = length space.mutexes
+kind_count Semaphore space = length space.semaphores
+kind_count Cell space = length space.cells
+kind_count _ space = length space.programs
+
 abbrev pub count_of : SpaceDraftView → ProgramDraftView → Kind → ℕ
 count_of space program Label = length program.instrs
-count_of space program kind = length (kind_names kind space)
+count_of space program kind = kind_count kind space
 
 abbrev pub no_number : SpaceDraftView → ProgramDraftView → Kind → ℕ → Missing
 no_number space program Label n = missing.Place n program.name.text (length program.instrs)
-no_number space program kind n = missing.Number kind n space.name (length (kind_names kind space))
+no_number space program kind n = missing.Number kind n space.name (kind_count kind space)
 
 -- a number that says a place, or something of the kind, has to be below their count
 unfoldable pub said_number : SpaceDraftView → ProgramDraftView → ℕ → Kind → NumberDraft → Result ℕ Fault

@@ -2,7 +2,7 @@
 ghost use Rattle.std.specs.Prelude.{◌≡◌, ◌<◌, ◌^◌, IfOk, IfErr, Ok, length};
 ghost use Rattle.toga_draft.specs.Reading.{Fails};
 ghost use Rattle.toga_draft.specs.Whole.{IsProgramDraft, IsSpaceDraft};
-ghost use Rattle.toga_read.specs.Lookup.{count_of, draft_names, draft_number, is_named, kind_named, kind_names, label_names, label_place, named_number, no_label, no_name, no_number, number_fault, number_named, other_kind, own_names, place_named, program_number, said_number, thing_number, word_fault};
+ghost use Rattle.toga_read.specs.Lookup.{count_of, draft_names, draft_number, is_named, kind_count, kind_named, kind_names, label_names, label_place, named_number, no_label, no_name, no_number, number_fault, number_named, other_kind, own_names, place_named, program_number, said_number, thing_number, word_fault};
 
 use std::alloc::{AllocError, Global};
 use toga_diagnostic::{Cause, Fault, Kind, Missing, NameList};
@@ -232,16 +232,25 @@ pub(crate) fn named_number(
     }
 }
 
+// How many things of this kind there are.
+fn kind_count(kind: Kind, space: &SpaceDraft) -> usize
+    ensures { result ≡ kind_count kind space.now }
+{
+    match kind {
+        Kind::Mutex => space.mutexes.len(),
+        Kind::Semaphore => space.semaphores.len(),
+        Kind::Cell => space.cells.len(),
+        _ => space.programs.len(),
+    }
+}
+
 // How many places, or things of this kind, there are.
 fn count_of(space: &SpaceDraft, program: &ProgramDraft, kind: Kind) -> usize
     ensures { result ≡ count_of space.now program.now kind }
 {
     match kind {
         Kind::Label => program.instrs.len(),
-        Kind::Mutex => space.mutexes.len(),
-        Kind::Semaphore => space.semaphores.len(),
-        Kind::Cell => space.cells.len(),
-        _ => space.programs.len(),
+        _ => kind_count(kind, space),
     }
 }
 
@@ -255,10 +264,15 @@ fn no_number(
 ) -> Result<Missing, AllocError>
     ensures { IfOk result (λ missing. missing ≡ no_number space.now program.now kind n) }
 {
-    let count = count_of(space, program, kind) as u64;
     match kind {
-        Kind::Label => Ok(Missing::Place(n, copied(alloc, &program.name.text)?, count)),
-        _ => Ok(Missing::Number(kind, n, copied(alloc, &space.name)?, count)),
+        Kind::Label => {
+            let name = copied(alloc, &program.name.text)?;
+            Ok(Missing::Place(n, name, program.instrs.len() as u64))
+        }
+        _ => {
+            let name = copied(alloc, &space.name)?;
+            Ok(Missing::Number(kind, n, name, kind_count(kind, space) as u64))
+        }
     }
 }
 

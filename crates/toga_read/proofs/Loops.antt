@@ -1,0 +1,42 @@
+-- What a loop has made of the items so far.
+use Rattle.std.proofs.Common.{◌≡◌, ℕ, ◌+◌, ◌<◌, ◌≤◌, zero, suc, Bool, true, false, List, [], ◌∷◌, ◌++◌, length, take, get_or, map, find, Option, None, Some, refl, sym, ap, ◌∙◌, cond, arith}
+use Rattle.std.proofs.lemmas.List.{take_all, take_more, map-append}
+
+-- what is made of one item more, and of all
+pub mapped-more : {A B : Type 0} (f : A → B) (xs : List A) (i : ℕ) (d : A) (now later : List B) (y : B) → i < length xs → now ≡ map f (take i xs)
+    → y ≡ f (get_or xs i d) → later ≡ now ++ y ∷ [] → later ≡ map f (take (i + 1) xs)
+mapped-more f xs i d now later y h e v g =
+    g ∙ ap (λ z. now ++ z ∷ []) v ∙ ap (λ zs. zs ++ f (get_or xs i d) ∷ []) e ∙ sym (map-append f (take i xs) (get_or xs i d ∷ []))
+    ∙ ap (map f) (sym (take_more xs i d h))
+
+pub mapped-all : {A B : Type 0} (f : A → B) (xs : List A) (i : ℕ) (now : List B) → length xs ≤ i → now ≡ map f (take i xs) → now ≡ map f xs
+mapped-all f xs i now h e = e ∙ ap (map f) (take_all i xs h)
+
+-- the first item that passes
+pub find-here : {A : Type 0} (p : A → Bool) (xs : List A) (i : ℕ) (d : A) → i < length xs → find p (take i xs) ≡ None → p (get_or xs i d) ≡ true
+    → find p xs ≡ Some (get_or xs i d)
+find-here p [] i d h e g = absurd (omega (arith, h))
+find-here {A} p (x ∷ xs) zero d h e g = ap (λ (b : Bool). cond b (Some x) (find p xs)) g
+find-here {A} p (x ∷ xs) (suc i) d h e g = later (p x) refl where
+  later : (b : Bool) → p x ≡ b → find p (x ∷ xs) ≡ Some (get_or xs i d)
+  later true is = absurd (let clash = sym (ap (λ (c : Bool). cond c (Some x) (find p (take i xs))) is) ∙ e in cc)
+  later false is =
+      ap (λ (c : Bool). cond c (Some x) (find p xs)) is
+      ∙ find-here p xs i d (omega arith) (sym (ap (λ (c : Bool). cond c (Some x) (find p (take i xs))) is) ∙ e) g
+
+find-append : {A : Type 0} (p : A → Bool) (xs : List A) (x : A) → find p xs ≡ None → p x ≡ false → find p (xs ++ x ∷ []) ≡ None
+find-append {A} p [] x e g = ap (λ (b : Bool). cond b (Some x) None) g
+find-append {A} p (a ∷ xs) x e g = later (p a) refl where
+  later : (b : Bool) → p a ≡ b → find p ((a ∷ xs) ++ x ∷ []) ≡ None
+  later true is = absurd (let clash = sym (ap (λ (c : Bool). cond c (Some a) (find p xs)) is) ∙ e in cc)
+  later false is =
+      ap (λ (c : Bool). cond c (Some a) (find p (xs ++ x ∷ []))) is
+      ∙ find-append p xs x (sym (ap (λ (c : Bool). cond c (Some a) (find p xs)) is) ∙ e) g
+
+-- no item up to this one passes
+pub find-none : {A : Type 0} (p : A → Bool) (xs : List A) (i : ℕ) (d : A) → i < length xs → find p (take i xs) ≡ None → p (get_or xs i d) ≡ false
+    → find p (take (i + 1) xs) ≡ None
+find-none p xs i d h e g = ap (find p) (take_more xs i d h) ∙ find-append p (take i xs) (get_or xs i d) e g
+
+pub find-all : {A : Type 0} (p : A → Bool) (xs : List A) (i : ℕ) → length xs ≤ i → find p (take i xs) ≡ None → find p xs ≡ None
+find-all p xs i h e = sym (ap (find p) (take_all i xs h)) ∙ e
