@@ -4,7 +4,9 @@ use Rattle.std.specs.List.{All}
 use Rattle.std.proofs.lemmas.List.{take_all, take_more}
 use Rattle.std.proofs.lemmas.List.Elements.{All-cons, All-tail}
 use Rattle.toga_diagnostic.specs.declared.cause.Fault.{Fault}
-use Rattle.toga_draft.specs.Reading.{◌>>=◌}
+use Rattle.toga_draft.specs.declared.unread.Unread.{Unread}
+use Rattle.toga_draft.specs.declared.unread.Unread.TheVariants as unread
+use Rattle.toga_draft.specs.Reading.{◌>>=◌, Fails}
 use Rattle.toga_read.specs.Outcome.{each}
 
 -- a value and a list that were made after each other
@@ -60,6 +62,17 @@ each-fails {A} {B} f (x ∷ xs) zero d now fault h e g = ap (λ (q : Result B Fa
 each-fails f (x ∷ xs) (suc i) d now fault h e g =
     let b = both (f x) (each f (take i xs)) now e in
     failed (f x) (each f xs) b.first fault b.made (each-fails f xs i d b.rest fault (omega arith) b.others g)
+
+-- what tells the fault of an item, or nothing, tells that of all
+pub each-failing : {A B : Type 0} (f : A → Result B Fault) (xs : List A) (i : ℕ) (d : A) (now : List B) (e : Unread) → i < length xs
+    → each f (take i xs) ≡ Ok now → Fails e (f (get_or xs i d)) → Fails e (each f xs)
+each-failing f xs i d now (unread.Wrong fault) h g fails = each-fails f xs i d now fault h g fails
+each-failing f xs i d now unread.OutOfMemory h g fails = tt
+
+-- and that of what follows
+pub fails-through : {A B : Type 0} (e : Unread) (r : Result A Fault) (f : A → Result B Fault) → Fails e r → Fails e (r >>= f)
+fails-through {A} {B} (unread.Wrong fault) r f fails = ap (λ (q : Result A Fault). q >>= f) fails
+fails-through unread.OutOfMemory r f fails = tt
 
 -- as many are made
 pub each-length : {A B : Type 0} (f : A → Result B Fault) (xs : List A) (ys : List B) → each f xs ≡ Ok ys → length ys ≡ length xs

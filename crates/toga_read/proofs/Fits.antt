@@ -22,7 +22,7 @@ use Rattle.toga_draft.specs.declared.word.Word.{Word}
 use Rattle.toga_draft.specs.Draft.{ProgramDraftView, SpaceDraftView}
 use Rattle.toga_draft.specs.Reading.{◌>>=◌}
 use Rattle.toga_draft.specs.Whole.{IsKnown, IsOperandDraft, IsProgramDraft, IsSpaceDraft, kinds_of, named_kinds}
-use Rattle.toga_read.specs.Lookup.{count_of, draft_number, kind_count, label_place, named_number, number_named, or_fault, place_named, program_number, said_number, thing_number}
+use Rattle.toga_read.specs.Lookup.{count_of, draft_number, is_label, kind_count, label_place, named_number, number_named, or_fault, place_named, program_number, said_number, thing_number}
 use Rattle.toga_read.specs.Operands.{listed, numbered, operand_by, operand_of}
 
 -- a number that was found is that of the answer
@@ -88,7 +88,7 @@ label-below : (program : ProgramDraftView) (line : ℕ) (word : Word) (n : ℕ) 
     → n < length program.instrs
 unfolding label_place
 label-below program line word n has e =
-    let found = label-in (λ (l : LabelDraft). bytes_eq l.name.text word.text) program.labels (λ (l : LabelDraft). l.place < length program.instrs) n has.labels
+    let found = label-in (is_label word.text) program.labels (λ (l : LabelDraft). l.place < length program.instrs) n has.labels
         (or_fault-ok _ _ n e) in
     subst (λ (k : ℕ). k < length program.instrs) found.2 found.1
 

@@ -6,3 +6,4 @@ pub mod Evictions
 pub mod Spaces
 pub mod SourceFields
 pub mod Source
+pub mod Reading

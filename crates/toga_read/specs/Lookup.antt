@@ -80,8 +80,11 @@ unfoldable pub thing_number : SpaceDraftView → ℕ → Kind → Word → Resul
 thing_number space line kind word = or_fault (number_named kind space word.text) (word_fault line word (no_name space kind word))
 
 -- the place of the label of a name
+abbrev pub is_label : List ℕ → LabelDraft → Bool
+is_label name label = bytes_eq label.name.text name
+
 abbrev pub place_named : List ℕ → List LabelDraft → Option ℕ
-place_named name labels = option_map (λ l. l.place) (find (λ l. bytes_eq l.name.text name) labels)
+place_named name labels = option_map (λ l. l.place) (find (is_label name) labels)
 
 -- no label of the program has the name
 abbrev pub no_label : ProgramDraftView → Missing

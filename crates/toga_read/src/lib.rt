@@ -6,9 +6,12 @@ mod evictions;
 mod lookup;
 mod names;
 mod operands;
+mod plain;
+mod reader;
 mod source;
 mod spaces;
 mod unread;
 
+pub use reader::read_source;
 pub use source::{MAX_TEXT, Source};
 pub use unread::Unread;

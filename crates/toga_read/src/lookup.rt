@@ -2,7 +2,7 @@
 ghost use Rattle.std.specs.Prelude.{◌≡◌, ◌<◌, ◌^◌, IfOk, IfErr, Ok, length};
 ghost use Rattle.toga_draft.specs.Reading.{Fails};
 ghost use Rattle.toga_draft.specs.Whole.{IsProgramDraft, IsSpaceDraft};
-ghost use Rattle.toga_read.specs.Lookup.{count_of, draft_names, draft_number, is_named, kind_count, kind_named, kind_names, label_names, label_place, named_number, no_label, no_name, no_number, number_fault, number_named, other_kind, own_names, place_named, program_number, said_number, thing_number, word_fault};
+ghost use Rattle.toga_read.specs.Lookup.{count_of, draft_names, draft_number, is_label, is_named, kind_count, kind_named, kind_names, label_names, label_place, named_number, no_label, no_name, no_number, number_fault, number_named, other_kind, own_names, place_named, program_number, said_number, thing_number, word_fault};
 
 use std::alloc::{AllocError, Global};
 use toga_diagnostic::{Cause, Fault, Kind, Missing, NameList};
@@ -173,12 +173,19 @@ fn thing_number(
     Err(Unread::Wrong(word_fault(line, word, missing)))
 }
 
+// Whether the label has the name.
+fn is_label(label: &LabelDraft, name: &[u8]) -> bool
+    ensures { result ≡ is_label name.now label.now }
+{
+    label.name.text.bytes() == name
+}
+
 // The place of the label of the name, if there is one.
 fn place_named(name: &[u8], labels: &[LabelDraft]) -> Option<u16>
     ensures { result ≡ place_named name.now labels.now }
 {
     for label in labels {
-        if label.name.text.bytes() == name {
+        if is_label(label, name) {
             return Some(label.place);
         }
     }

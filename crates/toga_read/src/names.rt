@@ -5,7 +5,7 @@ ghost use Rattle.toga_read.specs.Names.{label_of, program_lines, program_names, 
 
 use crate::lookup::{copied, draft_names};
 use std::alloc::{AllocError, Global};
-use toga_draft::{LabelDraft, ProgramDraft, SpaceDraft};
+use toga_draft::{InstrDraft, LabelDraft, ProgramDraft, SpaceDraft};
 use toga_source::{Label, ProgramNames, SpaceNames};
 
 /// The names of these spaces.
@@ -85,16 +85,16 @@ fn push_space_lines(lines: &mut Vec<u64>, programs: &[ProgramDraft]) -> Result<(
     ensures { OnOk result (lines.new.items ≡ lines.old.items ++ flat_map program_lines programs.now) }
 {
     for program in programs {
-        push_program_lines(lines, program)?;
+        push_program_lines(lines, &program.instrs)?;
     }
     Ok(())
 }
 
-// Appends the line of each instruction of a program.
-fn push_program_lines(lines: &mut Vec<u64>, program: &ProgramDraft) -> Result<(), AllocError>
-    ensures { OnOk result (lines.new.items ≡ lines.old.items ++ program_lines program.now) }
+// Appends the line of each of these instructions.
+fn push_program_lines(lines: &mut Vec<u64>, instrs: &[InstrDraft]) -> Result<(), AllocError>
+    ensures { OnOk result (lines.new.items ≡ lines.old.items ++ map (λ i. i.line) instrs.now) }
 {
-    for instr in &program.instrs {
+    for instr in instrs {
         lines.push(instr.line)?;
     }
     Ok(())

@@ -1,8 +1,9 @@
 // Operands, instructions and programs of a draft.
-ghost use Rattle.std.specs.Prelude.{◌≡◌, ◌++◌, ◌<◌, ◌^◌, IfOk, IfErr, Ok};
+ghost use Rattle.std.specs.Prelude.{◌≡◌, ◌++◌, IfOk, IfErr, Ok, All};
 ghost use Rattle.sa_instr.specs.Parts.{FitTheOperation, parts};
 ghost use Rattle.toga_draft.specs.Reading.{Fails};
 ghost use Rattle.toga_draft.specs.Whole.{IsInstrDraft, IsProgramDraft, IsSpaceDraft};
+ghost use Rattle.toga_read.specs.Outcome.{each};
 ghost use Rattle.toga_read.specs.Operands.{fitting, instr_in, listed, operand_by, operand_of, program_of, programs_of};
 
 use crate::lookup::{named_number, said_number};
@@ -85,38 +86,54 @@ fn instr_in(
     Ok(fitting(instr.operation, first, second))
 }
 
-// The instructions of a program.
-#[tactic(auto, unfolding(crate::specs::Operands::program_of))]
+// These instructions of a program.
 fn instrs_of(
     alloc: Global,
     space: &SpaceDraft,
     program: &ProgramDraft,
+    drafts: &[InstrDraft],
 ) -> Result<Vec<Instr>, Unread>
     requires space { IsSpaceDraft space.now }
     requires program { IsProgramDraft program.now }
-    ensures ok { IfOk result (λ instrs. program_of space.now program.now ≡ Ok instrs.items) }
-    ensures err { IfErr result (λ e. Fails e (program_of space.now program.now)) }
+    requires drafts { All IsInstrDraft drafts.now }
+    ensures ok { IfOk result (λ instrs. each (instr_in space.now program.now) drafts.now ≡ Ok instrs.items) }
+    ensures err { IfErr result (λ e. Fails e (each (instr_in space.now program.now) drafts.now)) }
 {
     let mut instrs = Vec::new(alloc);
-    for instr in &program.instrs {
-        instrs.push(instr_in(alloc, space, program, instr)?)?;
+    for draft in drafts {
+        instrs.push(instr_in(alloc, space, program, draft)?)?;
     }
     Ok(instrs)
 }
 
 // A program of a space.
-fn program_of(
-    alloc: Global,
-    space: &SpaceDraft,
-    program: &ProgramDraft,
-) -> Result<Program, Unread>
+#[tactic(auto, unfolding(crate::specs::Operands::program_of))]
+fn program_of(alloc: Global, space: &SpaceDraft, program: &ProgramDraft) -> Result<Program, Unread>
     requires space { IsSpaceDraft space.now }
     requires program { IsProgramDraft program.now }
     ensures ok { IfOk result (λ made. program_of space.now program.now ≡ Ok made) }
     ensures err { IfErr result (λ e. Fails e (program_of space.now program.now)) }
 {
-    let instrs = instrs_of(alloc, space, program)?;
+    let instrs = instrs_of(alloc, space, program, &program.instrs)?;
     Ok(Program::new(instrs).unwrap())
+}
+
+// These programs of a space.
+fn each_program(
+    alloc: Global,
+    space: &SpaceDraft,
+    drafts: &[ProgramDraft],
+) -> Result<Vec<Program>, Unread>
+    requires space { IsSpaceDraft space.now }
+    requires drafts { All IsProgramDraft drafts.now }
+    ensures ok { IfOk result (λ programs. each (program_of space.now) drafts.now ≡ Ok programs.items) }
+    ensures err { IfErr result (λ e. Fails e (each (program_of space.now) drafts.now)) }
+{
+    let mut programs = Vec::new(alloc);
+    for draft in drafts {
+        programs.push(program_of(alloc, space, draft)?)?;
+    }
+    Ok(programs)
 }
 
 /// The programs of a space, or the first fault.
@@ -126,9 +143,5 @@ pub(crate) fn programs_of(alloc: Global, space: &SpaceDraft) -> Result<Vec<Progr
     ensures ok { IfOk result (λ programs. programs_of space.now ≡ Ok programs.items) }
     ensures err { IfErr result (λ e. Fails e (programs_of space.now)) }
 {
-    let mut programs = Vec::new(alloc);
-    for program in &space.programs {
-        programs.push(program_of(alloc, space, program)?)?;
-    }
-    Ok(programs)
+    each_program(alloc, space, &space.programs)
 }

@@ -1,7 +1,6 @@
 -- What is made of the spaces of a draft is spaces, and what is made of the draft is a workload.
-use Rattle.std.proofs.Common.{◌≡◌, ℕ, ◌<◌, ◌≤◌, List, length, Option, None, Some, IsSome, Result, Ok, Err, refl, sym, ap, subst, ◌∙◌, arith}
+use Rattle.std.proofs.Common.{◌≡◌, ℕ, ◌<◌, ◌≤◌, List, length, Result, Ok, Err, refl, sym, ap, subst, ◌∙◌, arith}
 use Rattle.std.specs.List.{All, sum_by}
-use Rattle.std.specs.Option.{SomeIff}
 use Rattle.sa_instr.specs.declared.instr.Instr.{Instr}
 use Rattle.sa_spaces.specs.Space.{IsSpace, SpaceView}
 use Rattle.sa_spaces.specs.Workload.{IsEviction, IsWorkload, WorkloadView}
@@ -16,11 +15,6 @@ use Rattle.toga_read.specs.Spaces.{space_of, space_with, workload_with}
 use Rattle.toga_read.proofs.Each.{each-holds, each-length}
 use Rattle.toga_read.proofs.Orders.{evictions-made, pages-below, pages-in-order}
 use Rattle.toga_read.proofs.Programs.{programs-made}
-
--- where the condition holds there is a value
-pub some-if : {T : Type 0} (o : Option T) (P : Type 0) (v : T) → SomeIff o P v → P → IsSome o
-some-if None P v not_so holds = absurd (not_so holds)
-some-if (Some x) P v is holds = refl
 
 -- a space, whatever its patience is
 pub space-made : (space : SpaceDraftView) (programs : List (List Instr)) → IsSpaceDraft space → programs_of space ≡ Ok programs
