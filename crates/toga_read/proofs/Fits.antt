@@ -75,14 +75,14 @@ few-counted space program kinds.Eviction is has = omega (arith, is.few_programs)
 label-in : (p : LabelDraft → Bool) (labels : List LabelDraft) (P : LabelDraft → Type 0) (n : ℕ) → All P labels
     → option_map (λ (l : LabelDraft). l.place) (find p labels) ≡ Some n → (l : LabelDraft) × P l × (l.place ≡ n)
 label-in p [] P n all e = absurd (cc)
-label-in p (l ∷ ls) P n all e = later (p l) refl where
-  later : (b : Bool) → p l ≡ b → (m : LabelDraft) × P m × (m.place ≡ n)
-  later true is =
+label-in p (l ∷ ls) P n all e = later (p l) refl (λ k. label-in p ls P n (All-tail P l ls all) k) where
+  later : (b : Bool) → p l ≡ b
+      → (option_map (λ (m : LabelDraft). m.place) (find p ls) ≡ Some n → (m : LabelDraft) × P m × (m.place ≡ n))
+      → (m : LabelDraft) × P m × (m.place ≡ n)
+  later true is rest =
       let s : Some l.place ≡ Some n = sym (ap (λ (c : Bool). option_map (λ (m : LabelDraft). m.place) (cond c (Some l) (find p ls))) is) ∙ e in
       (l, all 0 l (omega arith), cc)
-  later false is =
-      label-in p ls P n (All-tail P l ls all)
-      (sym (ap (λ (c : Bool). option_map (λ (m : LabelDraft). m.place) (cond c (Some l) (find p ls))) is) ∙ e)
+  later false is rest = rest (sym (ap (λ (c : Bool). option_map (λ (m : LabelDraft). m.place) (cond c (Some l) (find p ls))) is) ∙ e)
 
 label-below : (program : ProgramDraftView) (line : ℕ) (word : Word) (n : ℕ) → IsProgramDraft program → label_place program line word ≡ Ok n
     → n < length program.instrs

@@ -40,21 +40,19 @@ pub find-here : {A : Type 0} (p : A → Bool) (xs : List A) (i : ℕ) (d : A) �
     → find p xs ≡ Some (get_or xs i d)
 find-here p [] i d h e g = absurd (omega (arith, h))
 find-here {A} p (x ∷ xs) zero d h e g = ap (λ (b : Bool). cond b (Some x) (find p xs)) g
-find-here {A} p (x ∷ xs) (suc i) d h e g = later (p x) refl where
-  later : (b : Bool) → p x ≡ b → find p (x ∷ xs) ≡ Some (get_or xs i d)
-  later true is = absurd (let clash = sym (ap (λ (c : Bool). cond c (Some x) (find p (take i xs))) is) ∙ e in cc)
-  later false is =
-      ap (λ (c : Bool). cond c (Some x) (find p xs)) is
-      ∙ find-here p xs i d (omega arith) (sym (ap (λ (c : Bool). cond c (Some x) (find p (take i xs))) is) ∙ e) g
+find-here {A} p (x ∷ xs) (suc i) d h e g = later (p x) refl (λ k. find-here p xs i d (omega arith) k g) where
+  later : (b : Bool) → p x ≡ b → (find p (take i xs) ≡ None → find p xs ≡ Some (get_or xs i d)) → find p (x ∷ xs) ≡ Some (get_or xs i d)
+  later true is rest = absurd (let clash = sym (ap (λ (c : Bool). cond c (Some x) (find p (take i xs))) is) ∙ e in cc)
+  later false is rest =
+      ap (λ (c : Bool). cond c (Some x) (find p xs)) is ∙ rest (sym (ap (λ (c : Bool). cond c (Some x) (find p (take i xs))) is) ∙ e)
 
 find-append : {A : Type 0} (p : A → Bool) (xs : List A) (x : A) → find p xs ≡ None → p x ≡ false → find p (xs ++ x ∷ []) ≡ None
 find-append {A} p [] x e g = ap (λ (b : Bool). cond b (Some x) None) g
-find-append {A} p (a ∷ xs) x e g = later (p a) refl where
-  later : (b : Bool) → p a ≡ b → find p ((a ∷ xs) ++ x ∷ []) ≡ None
-  later true is = absurd (let clash = sym (ap (λ (c : Bool). cond c (Some a) (find p xs)) is) ∙ e in cc)
-  later false is =
-      ap (λ (c : Bool). cond c (Some a) (find p (xs ++ x ∷ []))) is
-      ∙ find-append p xs x (sym (ap (λ (c : Bool). cond c (Some a) (find p xs)) is) ∙ e) g
+find-append {A} p (a ∷ xs) x e g = later (p a) refl (λ k. find-append p xs x k g) where
+  later : (b : Bool) → p a ≡ b → (find p xs ≡ None → find p (xs ++ x ∷ []) ≡ None) → find p ((a ∷ xs) ++ x ∷ []) ≡ None
+  later true is rest = absurd (let clash = sym (ap (λ (c : Bool). cond c (Some a) (find p xs)) is) ∙ e in cc)
+  later false is rest =
+      ap (λ (c : Bool). cond c (Some a) (find p (xs ++ x ∷ []))) is ∙ rest (sym (ap (λ (c : Bool). cond c (Some a) (find p xs)) is) ∙ e)
 
 -- no item up to this one passes
 pub find-none : {A : Type 0} (p : A → Bool) (xs : List A) (i : ℕ) (d : A) → i < length xs → find p (take i xs) ≡ None → p (get_or xs i d) ≡ false

@@ -101,9 +101,9 @@ ending (i ∷ is) e =
 abbrev pub Declares : SpaceDraftView → Instr → Type 0
 Declares space = NamesDeclared (length space.mutexes) (length space.starts) (length space.cells) (length space.programs)
 
-pub record MadeProgram (space : SpaceDraftView) (instrs : List Instr) : Type 0 where
-  pub program : IsProgram instrs
-  pub names : All (Declares space) instrs
+pub record MadeProgram (space : SpaceDraftView) (made : List Instr) : Type 0 where
+  pub program : IsProgram made
+  pub names : All (Declares space) made
 
 pub program-made : (space : SpaceDraftView) (program : ProgramDraftView) (instrs : List Instr) → IsSpaceDraft space → IsProgramDraft program
     → program_of space program ≡ Ok instrs → MadeProgram space instrs
@@ -130,10 +130,10 @@ program-made space program instrs is has e =
     }
 
 -- and of the programs of a space
-pub record MadePrograms (space : SpaceDraftView) (programs : List (List Instr)) : Type 0 where
-  pub count : length programs ≡ length space.programs
-  pub programs : All IsProgram programs
-  pub names : All (All (Declares space)) programs
+pub record MadePrograms (space : SpaceDraftView) (made : List (List Instr)) : Type 0 where
+  pub count : length made ≡ length space.programs
+  pub programs : All IsProgram made
+  pub names : All (All (Declares space)) made
 
 pub programs-made : (space : SpaceDraftView) (programs : List (List Instr)) → IsSpaceDraft space → programs_of space ≡ Ok programs → MadePrograms space programs
 unfolding programs_of

@@ -5,10 +5,12 @@ use Rattle.sa_instr.specs.declared.instr.Instr.{Instr}
 use Rattle.sa_spaces.specs.Space.{IsSpace, SpaceView}
 use Rattle.sa_spaces.specs.Workload.{IsEviction, IsWorkload, WorkloadView}
 use Rattle.toga_diagnostic.specs.declared.cause.Fault.{Fault}
-use Rattle.toga_draft.specs.Draft.{DraftView, SpaceDraftView}
+use Rattle.sa_base.specs.declared.number.ProcNo.{ProcNo}
+use Rattle.sa_spaces.specs.declared.workload.Evict.{Evict}
+use Rattle.toga_draft.specs.Draft.{DraftView, SpaceDraftView, value_or}
 use Rattle.toga_draft.specs.Reading.{◌>>=◌}
 use Rattle.toga_draft.specs.Whole.{IsDraft, IsSpaceDraft}
-use Rattle.toga_read.specs.Evictions.{evictions_of}
+use Rattle.toga_read.specs.Evictions.{evictions_of, pages_in}
 use Rattle.toga_read.specs.Operands.{programs_of}
 use Rattle.toga_read.specs.Outcome.{each}
 use Rattle.toga_read.specs.Spaces.{space_of, space_with, workload_with}
@@ -112,3 +114,30 @@ unsliced-made draft spaces is e =
       turns = w.turns;
       slice = omega arith;
     }
+
+-- what a call is given is what is made first
+pub same-space : (space : SpaceDraftView) (programs : List (List Instr)) (priority mutexes cells : ℕ) (sems absent : List ℕ)
+    → priority ≡ value_or space.priority 0 → mutexes ≡ length space.mutexes → sems ≡ space.starts → cells ≡ length space.cells
+    → absent ≡ pages_in space.absent
+    → (let v : SpaceView = record {
+      priority = priority;
+      mutexes = mutexes;
+      sems = sems;
+      cells = cells;
+      absent = absent;
+      programs = programs;
+      patience = 1;
+    } in v) ≡ record (space_with space programs) { patience = 1 }
+same-space space programs priority mutexes cells sems absent p m s c a = cc
+
+pub same-workload : (draft : DraftView) (spaces : List SpaceView) (processors fetch : ℕ) (evictions : List Evict) (turns : List ProcNo)
+    → processors ≡ value_or draft.processors 2 → fetch ≡ value_or draft.fetch 10 → evictions ≡ evictions_of draft.spaces → turns ≡ draft.turns
+    → (let v : WorkloadView = record {
+      processors = processors;
+      fetch = fetch;
+      spaces = spaces;
+      evictions = evictions;
+      turns = turns;
+      slice = 0;
+    } in v) ≡ record (workload_with draft spaces) { slice = 0 }
+same-workload draft spaces processors fetch evictions turns p f e t = cc

@@ -77,7 +77,7 @@ fn workload_with(
     spaces: Vec<SpaceDef>,
 ) -> Result<Workload, AllocError>
     requires whole { IsDraft draft.now }
-    requires count { length spaces.items ≡ length draft.now.spaces }
+    requires spaces { each space_of draft.now.spaces ≡ Ok spaces.items }
     ensures { IfOk result (λ workload. workload ≡ workload_with draft.now spaces.items) }
 {
     let made = Workload::new(

@@ -1,5 +1,8 @@
-use Rattle.std.proofs.Common.{◌∙◌, ap, sym}
+use Rattle.std.proofs.Common.{◌∙◌, ap, subst, sym}
 use Rattle.toga_read.specs.Operands.{instr_in}
+use Rattle.sa_lemmas.proofs.Results.{err_along}
+use Rattle.toga_draft.specs.Reading.{Fails}
+use Rattle.toga_read.specs.Outcome.{each}
 use Rattle.toga_read.proofs.Each.{each-all, each-failing, each-more}
 use Rattle.toga_read.proofs.operands.instrs_of.Goals as goal
 
@@ -10,3 +13,10 @@ loop-draft-preserved c =
 
 pub returns-clause-ok : goal.returns-clause-ok
 returns-clause-ok c = each-all (instr_in c.args.space.now c.args.program.now) c.args.drafts.now c.loop-draft.draft-index c.loop-draft.instrs.items c.loop-draft-test.false c.loop-draft.invariant
+
+pub returns-in_err-instr_in-clause-err : goal.returns-in_err-instr_in-clause-err
+returns-in_err-instr_in-clause-err c =
+    err_along (λ e. Fails e (each (instr_in c.args.space.now c.args.program.now) c.args.drafts.now)) c.in_err-instr_in.field-0.0 c.from_residual.result
+    (each-failing (instr_in c.args.space.now c.args.program.now) c.args.drafts.now c.loop-draft.draft-index c.draft-item.result c.loop-draft.instrs.items c.in_err-instr_in.field-0.0
+    c.loop-draft-test.true c.loop-draft.invariant (subst (λ x. Fails c.in_err-instr_in.field-0.0 ((instr_in c.args.space.now c.args.program.now) x)) c.draft-item.is c.in_err-instr_in.ensures.err))
+    c.from_residual.ensures.1
