@@ -24,3 +24,4 @@ state_of r = record {
 pub record IsReady (s : State) : Type 0 where
   pub few_instructions : length s.program.instrs ≤ MAX_INSTRUCTIONS
   pub few_processors : value_or s.processors 2 ≤ MAX_PROCESSORS
+  pub few_evictions : s.evictions ≤ MAX_EVICTIONS

@@ -1,6 +1,6 @@
 // The lines that say something of a space, before its first program.
 ghost use Rattle.std.specs.Prelude.{◌≡◌, ◌<◌, OnOk, IfSome, length};
-ghost use Rattle.toga_draft.specs.Reading.{Gives, Leaves};
+ghost use Rattle.toga_draft.specs.Reading.{Gives, Leaves, in_turn};
 ghost use Rattle.toga_draft.specs.Declarations.{add_cell, add_eviction, add_mutex, add_names, add_page, add_pages, add_semaphore, after_evict, at_in, at_most, declare, is_evicted, name_line, new_eviction, new_name, program_line, set_once, start_in, taken};
 
 use crate::draft::{EvictDraft, NameDraft, ProgramDraft, Setting, SpaceDraft};

@@ -1,5 +1,6 @@
 // What the first word of a line says that the line is, and where such a line may stand.
 ghost use Rattle.std.specs.Prelude.{◌≡◌};
+ghost use Rattle.sa_instr.specs.Operation.{operation_of};
 ghost use Rattle.toga_draft.specs.First.{declaration_misplaced, declaration_of, first_of, instr_misplaced, misplaced, opening_misplaced, other_of, setting_misplaced, setting_of, turns_misplaced};
 
 use sa_instr::Operation;
@@ -39,7 +40,7 @@ pub(crate) enum First {
 }
 
 /// What a line is that begins with the word.
-#[tactic(auto, using(crate::proofs::Operations::operation_lemmas), unfolding(crate::specs::First::first_of))]
+#[tactic(auto, unfolding(crate::specs::First::first_of))]
 pub(crate) fn first_of(word: &[u8]) -> First
     ensures { result ≡ first_of word.now }
 {
@@ -52,10 +53,17 @@ pub(crate) fn first_of(word: &[u8]) -> First
     if let Some(first) = other_of(word) {
         return first;
     }
-    match Operation::of_word(word) {
+    match operation_of(word) {
         Some(operation) => First::Instr(operation),
         None => First::Unknown,
     }
+}
+
+// The operation of the word, if it is one's.
+fn operation_of(word: &[u8]) -> Option<Operation>
+    ensures { result ≡ operation_of word.now }
+{
+    Operation::of_word(word)
 }
 
 // The setting of the word, if it is one's.

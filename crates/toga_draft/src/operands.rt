@@ -1,7 +1,7 @@
 // The words after the first one of a line.
-ghost use Rattle.std.specs.Prelude.{◌≡◌, ◌×◌, ◌≤◌, ◌<◌, ◌++◌, length, replicate, IfOk, OnOk, IfSome};
+ghost use Rattle.std.specs.Prelude.{◌≡◌, ◌≤◌, ◌<◌, ◌++◌, length, replicate, IfOk, OnOk, IfSome};
 ghost use Rattle.toga_draft.specs.Reading.{Gives, Leaves};
-ghost use Rattle.toga_draft.specs.Words.{count_words, some_words};
+ghost use Rattle.toga_draft.specs.Words.{count_words, some_words, too_few};
 ghost use Rattle.toga_draft.specs.Operands.{add_turn, name_in, named_in, next_of, nth_operand, number_in, operand_in, register_of, turn_of};
 
 use crate::draft::{NumberDraft, OperandDraft};

@@ -1,5 +1,6 @@
 // The lines of a program, and its end.
 ghost use Rattle.std.specs.Prelude.{◌≡◌, ◌≤◌, ◌==◌, find, length};
+ghost use Rattle.std.specs.Option.{option_map};
 ghost use Rattle.sa_instr.specs.declared.limits.TheConstants.{MAX_INSTRUCTIONS};
 ghost use Rattle.toga_draft.specs.Reading.{Gives, Leaves};
 ghost use Rattle.toga_draft.specs.Words.{fault_at, without_colon};
@@ -139,10 +140,17 @@ pub(crate) fn whole_program(alloc: Global, program: &ProgramDraft) -> Result<(),
 fn no_label_alone(labels: &[LabelDraft], place: usize) -> Result<(), Unread>
     ensures { Gives (λ _. tt) result (unless_alone (find (λ l. l.place == place) labels.now)) }
 {
-    match labels.iter().find(|l| l.place as usize == place) {
+    match alone_label(labels, place) {
         Some(label) => Err(fault_of(label.line, &label.name, Cause::About(About::LabelAlone))),
         None => Ok(()),
     }
+}
+
+// The first label at the place.
+fn alone_label(labels: &[LabelDraft], place: usize) -> Option<&LabelDraft>
+    ensures { option_map (λ l. l.now) result ≡ find (λ l. l.place == place) labels.now }
+{
+    labels.iter().find(|l| l.place as usize == place)
 }
 
 // Checks that the last instruction is `end`.

@@ -1,14 +1,14 @@
 // The lines of a source, one after another.
-ghost use Rattle.std.specs.Prelude.{◌≡◌, ◌≤◌, ◌-◌, IfOk, length};
+ghost use Rattle.std.specs.Prelude.{◌≡◌, ◌≤◌, ◌-◌, IfOk, length, ◌<◌};
 ghost use Rattle.sa_instr.specs.declared.limits.TheConstants.{MAX_INSTRUCTIONS};
-ghost use Rattle.sa_text.specs.Line.{IsWithin};
+ghost use Rattle.sa_text.specs.Line.{IsWithin, lines_of};
 ghost use Rattle.toga_diagnostic.specs.Text.{is_label};
 ghost use Rattle.toga_draft.specs.Draft.{value_or};
 ghost use Rattle.toga_draft.specs.Reading.{Gives, Leaves, in_turn};
 ghost use Rattle.toga_draft.specs.Operands.{add_turn};
 ghost use Rattle.toga_draft.specs.State.{start};
 ghost use Rattle.toga_draft.specs.Reader.{IsReady, state_of};
-ghost use Rattle.toga_draft.specs.Lines.{draft_of, end_of_lines, end_program, end_space, is_beyond, new_program, new_space, opened, read_after_label, read_by, read_declaration, read_first, read_instr, read_label, read_line, read_line_of, read_program, read_setting, read_space, read_turns, read_words, space_line, too_long, unless_space};
+ghost use Rattle.toga_draft.specs.Lines.{draft_of, end_of_lines, end_program, end_space, is_beyond, new_program, new_space, opened, read_after_label, read_by, read_declaration, read_first, read_instr, read_label, read_line, read_line_of, read_program, read_setting, read_space, read_turns, read_words, space_line, too_long, unless_space, empty, no_program};
 
 use crate::declarations::{at_most, declare, new_name, set_once};
 use crate::draft::{Draft, ProgramDraft, Setting, SpaceDraft};

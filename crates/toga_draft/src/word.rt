@@ -25,11 +25,15 @@ pub(crate) struct LineWord<'a> {
 }
 
 impl<'a> Model for LineWord<'a> {
+    ghost use Rattle.std.specs.Prelude.{◌+◌, ◌^◌, ◌≤◌, length};
     ghost use Rattle.toga_draft.specs.declared.word.Word.{Word};
 
     ghost Value = { Word };
 
     ghost view = { λ w. record { text = w.text.now; column = w.column } };
+
+    // A line has fewer bytes than that.
+    ghost invariant = { λ w. w.column + length w.text.now ≤ 2 ^ 63 };
 }
 
 impl<'a> LineWord<'a> {
@@ -71,6 +75,7 @@ impl<'a> LineWord<'a> {
 }
 
 /// The words of the content of a line, or the error of its first byte that is neither a printed ASCII character nor a tab.
+#[tactic(auto, unfolding(crate::specs::Words::words_in))]
 pub(crate) fn words_in<'a>(
     alloc: Global,
     line: u64,
@@ -78,18 +83,16 @@ pub(crate) fn words_in<'a>(
 ) -> Result<Vec<LineWord<'a>>, Unread>
     ensures { Gives (λ words. words.items) result (words_in line content.now) }
 {
-    match first_unprinted(content) {
-        Some(at) => Err(Unread::Wrong(Fault {
+    if let Some(at) = first_unprinted(content) {
+        return Err(Unread::Wrong(Fault {
             line,
             column: at + 1,
             width: 1,
             cause: Cause::Part(Part::BadByte(content[at])),
-        })),
-        None => match words_of(alloc, content) {
-            Ok(words) => Ok(words),
-            Err(_) => Err(Unread::OutOfMemory),
-        },
+        }));
     }
+    let words = words_of(alloc, content)?;
+    Ok(words)
 }
 
 // The words of the content of a line.

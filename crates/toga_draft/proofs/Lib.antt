@@ -1,0 +1,4 @@
+pub mod Loops
+pub mod Operations
+pub mod Places
+pub mod Ready
