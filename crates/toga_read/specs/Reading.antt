@@ -1,8 +1,10 @@
 -- What a text is read as.
-use Rattle.std.specs.Prelude.{◌≡◌, ℕ, if◌then◌else◌, List, [], ◌∷◌, codes, nat_eq, slice_index_or, slice_range, Result, Ok, Err, ⊤}
+use Rattle.std.specs.Prelude.{◌≡◌, ℕ, Bool, false, if◌then◌else◌, List, [], ◌∷◌, codes, nat_eq, slice_get, slice_range, Option, None, Some, Result, Ok, Err, ⊤}
 use Rattle.std.specs.List.{flat_map, starts_with}
 use Rattle.std.specs.Option.{is_some}
 use Rattle.sa_base.specs.declared.refusal.Bad.{Bad}
+use Rattle.sa_base.specs.declared.refusal.Unread.{Unread as NoWorkload}
+use Rattle.sa_base.specs.declared.refusal.Unread.TheVariants as no_workload
 use Rattle.sa_instr.specs.Operation.{operation_of}
 use Rattle.sa_spaces.specs.Workload.{WorkloadView}
 use Rattle.sa_text.specs.declared.line_reader.Line.{Line}
@@ -20,10 +22,15 @@ use Rattle.toga_read.specs.declared.unread.Unread.TheVariants.{Wrong, Workload, 
 use Rattle.toga_read.specs.Source.{source_of}
 use Rattle.toga_read.specs.SourceFields.{SourceView}
 
+-- the first word of a line is that of an instruction
+abbrev pub is_instr_word : Option (List ℕ) → Bool
+is_instr_word (Some word) = is_some (operation_of word)
+is_instr_word None = false
+
 -- the number of a line of a text, where it begins with the word of an instruction
 abbrev pub instr_line : List ℕ → Line → List ℕ
 instr_line text line =
-    if is_some (operation_of (slice_index_or (pieces_of (slice_range text line.start line.end)) 0 [])) then line.number ∷ [] else []
+    if is_instr_word (slice_get (pieces_of (slice_range text line.start line.end)) 0) then line.number ∷ [] else []
 
 -- the lines of the instructions of a workload text
 abbrev pub instr_lines : List ℕ → List ℕ
@@ -57,6 +64,11 @@ read text = if starts_with nat_eq text (codes "workload") then plain_of text els
 abbrev pub Refuses : {A : Type 0} → Unread → Result A Unread → Type 0
 Refuses OutOfMemory outcome = ⊤
 Refuses unread outcome = outcome ≡ Err unread
+
+-- why there is no source where there is no workload
+abbrev pub refusal : NoWorkload → Unread
+refusal (no_workload.Bad bad) = Workload bad
+refusal no_workload.OutOfMemory = OutOfMemory
 
 -- why there is no source where there is no draft, or no source of it
 abbrev pub unread_by : NoDraft → Unread

@@ -1,9 +1,7 @@
 // Workload texts as sources.
-ghost use Rattle.std.specs.Prelude.{◌≡◌, ◌++◌, [], IfOk, IfErr, OnOk, Ok, slice_index_or};
-ghost use Rattle.std.specs.Option.{is_some};
-ghost use Rattle.sa_instr.specs.Operation.{operation_of};
+ghost use Rattle.std.specs.Prelude.{◌≡◌, ◌++◌, IfOk, IfErr, OnOk, Ok, slice_get};
 ghost use Rattle.sa_text.specs.Line.{IsWithin};
-ghost use Rattle.toga_read.specs.Reading.{Refuses, instr_line, instr_lines, plain_of, plain_source};
+ghost use Rattle.toga_read.specs.Reading.{Refuses, is_instr_word, instr_line, instr_lines, plain_of, plain_source, refusal};
 
 use crate::source::Source;
 use crate::unread::Unread;
@@ -22,8 +20,17 @@ pub(crate) fn read_plain(alloc: Global, text: &[u8]) -> Result<Source, Unread>
 {
     match sa_workload::read(alloc, text) {
         Ok(workload) => Ok(plain_source(alloc, text, workload)?),
-        Err(NoWorkload::Bad(bad)) => Err(Unread::Workload(bad)),
-        Err(NoWorkload::OutOfMemory) => Err(Unread::OutOfMemory),
+        Err(unread) => Err(refusal(unread)),
+    }
+}
+
+// Why there is no source where there is no workload.
+fn refusal(unread: NoWorkload) -> Unread
+    ensures { result ≡ refusal unread }
+{
+    match unread {
+        NoWorkload::Bad(bad) => Unread::Workload(bad),
+        NoWorkload::OutOfMemory => Unread::OutOfMemory,
     }
 }
 
@@ -62,7 +69,7 @@ fn push_instr_line(numbers: &mut Vec<u64>, text: &[u8], line: Line) -> Result<()
 
 // Whether the first of the words is that of an instruction.
 fn is_instr(words: &mut Pieces) -> bool
-    ensures { result ≡ is_some (operation_of (slice_index_or words.old 0 [])) }
+    ensures { result ≡ is_instr_word (slice_get words.old 0) }
 {
     match words.next() {
         Some(word) => Operation::of_word(word).is_some(),

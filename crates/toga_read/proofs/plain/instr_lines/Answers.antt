@@ -5,7 +5,11 @@ use Rattle.toga_read.specs.Reading.{instr_line}
 use Rattle.toga_read.proofs.plain.instr_lines.Goals as goal
 
 pub loop-line-init : goal.loop-line-init
-loop-line-init c = (c.new-lines.ensures.text, ap (flat_map (instr_line c.args.text.now)) c.new-lines.ensures.lines)
+loop-line-init c = (
+  c.new-lines.ensures.text,
+  ap (λ (zs : List ℕ). zs ++ flat_map (instr_line c.args.text.now) c.new-lines.result.left) c.new-numbers.ensures.items
+      ∙ ap (flat_map (instr_line c.args.text.now)) c.new-lines.ensures.lines,
+)
 
 pub loop-line-preserved : goal.loop-line-preserved
 loop-line-preserved c =

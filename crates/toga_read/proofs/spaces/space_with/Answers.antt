@@ -14,9 +14,11 @@ unwrap-requires c =
         (same-space c.args.space.now c.args.programs.items c.value_or.result c.len.result c.len-2.result c.in_ok-from_slice.field-0.items
         c.in_ok-pages_in.field-0.items
         (c.value_or.ensures ∙ ap (λ (s : SpaceDraftView). value_or s.priority 0) c.space.view_is)
-        (c.len.ensures ∙ ap (λ (s : SpaceDraftView). length s.mutexes) c.space.view_is)
+        ((let n : c.len.result ≡ length c.space.inside.mutexes.items = omega (arith, c.len.ensures, c.space.inside.mutexes.ok.0) in n)
+        ∙ ap (λ (s : SpaceDraftView). length s.mutexes) c.space.view_is)
         (c.in_ok-from_slice.ensures.items ∙ c.deref.ensures.value ∙ ap (λ (s : SpaceDraftView). s.starts) c.space.view_is)
-        (c.len-2.ensures ∙ ap (λ (s : SpaceDraftView). length s.cells) c.space.view_is)
+        ((let n : c.len-2.result ≡ length c.space.inside.cells.items = omega (arith, c.len-2.ensures, c.space.inside.cells.ok.0) in n)
+        ∙ ap (λ (s : SpaceDraftView). length s.cells) c.space.view_is)
         (c.in_ok-pages_in.ensures ∙ ap pages_in (c.deref-2.ensures.value ∙ ap (λ (s : SpaceDraftView). s.absent) c.space.view_is)))
         (patient-made c.args.space.now c.args.programs.items c.requires.whole c.requires.programs) c.new-made.ensures in
     some-there c.new-made.result _ made
@@ -35,9 +37,11 @@ returns c =
         (same-space c.args.space.now c.args.programs.items c.value_or.result c.len.result c.len-2.result c.in_ok-from_slice.field-0.items
         c.in_ok-pages_in.field-0.items
         (c.value_or.ensures ∙ ap (λ (s : SpaceDraftView). value_or s.priority 0) c.space.view_is)
-        (c.len.ensures ∙ ap (λ (s : SpaceDraftView). length s.mutexes) c.space.view_is)
+        ((let n : c.len.result ≡ length c.space.inside.mutexes.items = omega (arith, c.len.ensures, c.space.inside.mutexes.ok.0) in n)
+        ∙ ap (λ (s : SpaceDraftView). length s.mutexes) c.space.view_is)
         (c.in_ok-from_slice.ensures.items ∙ c.deref.ensures.value ∙ ap (λ (s : SpaceDraftView). s.starts) c.space.view_is)
-        (c.len-2.ensures ∙ ap (λ (s : SpaceDraftView). length s.cells) c.space.view_is)
+        ((let n : c.len-2.result ≡ length c.space.inside.cells.items = omega (arith, c.len-2.ensures, c.space.inside.cells.ok.0) in n)
+        ∙ ap (λ (s : SpaceDraftView). length s.cells) c.space.view_is)
         (c.in_ok-pages_in.ensures ∙ ap pages_in (c.deref-2.ensures.value ∙ ap (λ (s : SpaceDraftView). s.absent) c.space.view_is)))
         (patient-made c.args.space.now c.args.programs.items c.requires.whole c.requires.programs) c.new-made.ensures in
     let patience : c.value_or-patience.result ≡ value_or c.args.space.now.patience 1 =
