@@ -1,9 +1,10 @@
 -- A draft that was read to its end is whole: what each line leaves keeps to its limits.
 use Rattle.std.proofs.Common.{◌≡◌, ◌≢◌, ℕ, ◌+◌, ◌-◌, ◌<◌, ◌≤◌, ◌^◌, zero, suc, Bool, true, false, cond, List, [], ◌∷◌, ◌++◌, length, find, Option, Some, None, Result, Ok, Err, slice_get, get_or, ◌⊎◌, inl, inr, refl, sym, ap, subst, ◌∙◌, arith, length-append}
-use Rattle.std.specs.Prelude.{IfSome, nat_lt, nat_eq, ◌||◌, sum_by}
+use Rattle.std.specs.Prelude.{IfSome, codes, nat_lt, nat_eq, ◌||◌, sum_by}
 use Rattle.std.specs.List.{All, list_any, replicate}
 use Rattle.std.specs.Option.{option_map}
-use Rattle.std.proofs.lemmas.Bool.{cases_lt, eqb-false}
+use Rattle.std.proofs.lemmas.Bool.{cases_lt, eqb-false, ltb-false}
+use Rattle.std.proofs.lemmas.List.{length-replicate}
 use Rattle.std.proofs.lemmas.List.Elements.{All-append, All-cons, All-push, All-replicate, All-tail}
 use Rattle.std.proofs.lemmas.List.Sums.{sum_by-append, sum_by-cons}
 use Rattle.sa_base.specs.declared.limits.TheConstants.{FIRST_THREAD_PAGE, MAX_EVENTS, MAX_PROCESSORS, MAX_SPACES}
@@ -24,6 +25,7 @@ use Rattle.toga_lines.specs.Content.{content_of}
 use Rattle.toga_lines.specs.Names.{is_name}
 use Rattle.toga_diagnostic.specs.declared.cause.About.TheVariants as about_word
 use Rattle.toga_diagnostic.specs.declared.cause.Cause.{Cause}
+use Rattle.toga_diagnostic.specs.declared.cause.Cause.TheVariants as cause
 use Rattle.toga_diagnostic.specs.declared.cause.Fault.{Fault}
 use Rattle.toga_diagnostic.specs.declared.cause.Kind.{Kind}
 use Rattle.toga_diagnostic.specs.declared.cause.Kind.TheVariants as kind
@@ -50,7 +52,7 @@ use Rattle.toga_draft.specs.declared.reader.TheConstants.{FETCH, PROCESSORS, SLI
 use Rattle.toga_draft.specs.declared.word.Word.{Word}
 use Rattle.toga_draft.specs.Declarations.{add_cell, add_eviction, add_mutex, add_names, add_page, add_pages, add_semaphore, after_evict, at_in, at_most, declare, new_eviction, new_name, new_page, set_once, start_in}
 use Rattle.toga_draft.specs.Draft.{DraftView, ProgramDraftView, SpaceDraftView, value_or}
-use Rattle.toga_draft.specs.First.{first_of, misplaced}
+use Rattle.toga_draft.specs.First.{first_of, misplaced, setting_misplaced, turns_misplaced}
 use Rattle.toga_draft.specs.Lines.{after_label_by, draft_from, draft_of, empty, end_of_lines, end_program, end_program_at, end_space, end_space_at, is_beyond, label_at, new_program, new_space, one_more, opened, opened_at, read_after_label, read_by, read_declaration, read_first, read_instr, read_label, read_line, read_line_of, read_program, read_setting, read_space, read_turns, read_words, too_long, unless_empty, unless_misplaced, with_program, with_space}
 use Rattle.toga_draft.specs.Operands.{add_turn, named_in, nth_operand, number_in, number_unless, numbered_unless, operand_if, operand_in, register_of, register_unless, turn_of, turns_unless}
 use Rattle.toga_draft.specs.Programs.{add_instr, add_label, ends, instr_in, is_end, label_line, label_unless, next_after, unless_alone, unless_end, whole_program}
@@ -711,3 +713,514 @@ space-end_at stage.AfterTurns s t h e =
 space-end : (at : Stage) (s t : State) → IsEnded at s → end_space s ≡ Ok t → IsSpaceEnded at t
 unfolding end_space
 space-end at s t h e = space-end_at at s t h (subst (λ (x : Stage). end_space_at x s ≡ Ok t) h.stage_is e)
+
+-- a setting, which stands before the first space
+with-machine : (s t : State) → IsKept s → t.stage ≡ s.stage → t.spaces ≡ s.spaces → t.space ≡ s.space → t.program ≡ s.program
+    → t.evictions ≡ s.evictions → t.turns ≡ s.turns → 1 ≤ value_or t.processors 2 → value_or t.processors 2 ≤ MAX_PROCESSORS
+    → 1 ≤ value_or t.fetch 10 → value_or t.fetch 10 ≤ MAX_FETCH → value_or t.slice 0 ≤ MAX_SLICE
+    → All (λ proc. proc.0 < value_or t.processors 2) t.turns → NothingSaid t.stage t → IsKept t
+with-machine s t k at spaces space program evictions turns a b c d f all nothing = record {
+  some_processor = a;
+  few_processors = b;
+  some_fetch = c;
+  short_fetch = d;
+  slice = f;
+  spaces = subst (All IsSpaceDraft) (sym spaces) k.spaces;
+  space = subst IsOpenSpace (sym space) k.space;
+  program = subst IsOpenProgram (sym program) k.program;
+  evicted =
+      ap (λ (xs : List SpaceDraftView). sum_by (λ (x : SpaceDraftView). length x.evictions) xs + length t.space.evictions) spaces
+      ∙ ap (λ (x : SpaceDraftView). sum_by (λ (y : SpaceDraftView). length y.evictions) s.spaces + length x.evictions) space ∙ k.evicted ∙ sym evictions;
+  few_evictions = omega (arith, evictions, k.few_evictions);
+  few_turns = omega (arith, ap length turns, k.few_turns);
+  turns = all;
+  nothing = nothing;
+}
+
+setting-sound : (line : ℕ) (word : Word) (operands : List Word) (w : SettingWord) (s t : State) → s.stage ≡ stage.Top → IsSound s
+    → read_setting line word operands w s ≡ Ok t → IsSound t
+unfolding read_setting NothingSaid
+setting-sound line word operands setting.Processors s t at h e =
+    after (set_once line word operands PROCESSORS s.processors) _ t _ e (λ o set e1.
+    let within = in-limits 1 MAX_PROCESSORS 2 o (set-within line word operands PROCESSORS s.processors o set) (omega arith) (omega arith) in
+    let k = h.kept in
+    let nothing : (s.turns ≡ []) × (s.space.evictions ≡ []) = subst (λ (x : Stage). NothingSaid x s) at k.nothing in
+    let u : State = record s { processors = o } in
+    subst IsSound (same-ok _ _ e1) (record {
+      kept = with-machine s u k refl refl refl refl refl refl within.0 within.1 k.some_fetch k.short_fetch k.slice
+          (subst (All (λ (proc : ProcNo). proc.0 < value_or o 2)) (sym nothing.0) (none-all (λ (proc : ProcNo). proc.0 < value_or o 2)))
+          (subst (λ (x : Stage). NothingSaid x u) (sym at) nothing);
+      spaces = h.spaces;
+      programs = h.programs;
+    }))
+setting-sound line word operands setting.Fetch s t at h e =
+    after (set_once line word operands FETCH s.fetch) _ t _ e (λ o set e1.
+    let within = in-limits 1 MAX_FETCH 10 o (set-within line word operands FETCH s.fetch o set) (omega arith) (omega arith) in
+    let k = h.kept in
+    let nothing : (s.turns ≡ []) × (s.space.evictions ≡ []) = subst (λ (x : Stage). NothingSaid x s) at k.nothing in
+    let u : State = record s { fetch = o } in
+    subst IsSound (same-ok _ _ e1) (record {
+      kept = with-machine s u k refl refl refl refl refl refl k.some_processor k.few_processors within.0 within.1 k.slice k.turns
+          (subst (λ (x : Stage). NothingSaid x u) (sym at) nothing);
+      spaces = h.spaces;
+      programs = h.programs;
+    }))
+setting-sound line word operands setting.Slice s t at h e =
+    after (set_once line word operands SLICE s.slice) _ t _ e (λ o set e1.
+    let within = in-limits 0 MAX_SLICE 0 o (set-within line word operands SLICE s.slice o set) (omega arith) (omega arith) in
+    let k = h.kept in
+    let nothing : (s.turns ≡ []) × (s.space.evictions ≡ []) = subst (λ (x : Stage). NothingSaid x s) at k.nothing in
+    let u : State = record s { slice = o } in
+    subst IsSound (same-ok _ _ e1) (record {
+      kept = with-machine s u k refl refl refl refl refl refl k.some_processor k.few_processors k.some_fetch k.short_fetch within.1 k.turns
+          (subst (λ (x : Stage). NothingSaid x u) (sym at) nothing);
+      spaces = h.spaces;
+      programs = h.programs;
+    }))
+
+-- what goes on in a space and a program, at a stage behind the top
+record GoesOn (s t : State) : Type 0 where
+  processors : t.processors ≡ s.processors
+  fetch : t.fetch ≡ s.fetch
+  slice : t.slice ≡ s.slice
+  turns : t.turns ≡ s.turns
+  spaces : t.spaces ≡ s.spaces
+  later : t.stage ≢ stage.Top
+
+nothing-later : (at : Stage) (u : State) → at ≢ stage.Top → NothingSaid at u
+unfolding NothingSaid
+nothing-later stage.Top u later = absurd (later refl)
+nothing-later stage.Declaring u later = tt
+nothing-later stage.InProgram u later = tt
+nothing-later stage.AfterTurns u later = tt
+
+gone-on : (s t : State) → IsKept s → GoesOn s t → IsOpenSpace t.space → IsOpenProgram t.program
+    → sum_by (λ (x : SpaceDraftView). length x.evictions) s.spaces + length t.space.evictions ≡ t.evictions → t.evictions ≤ MAX_EVICTIONS → IsKept t
+gone-on s t k g space program evicted few = record {
+  some_processor = subst (λ (o : Option Setting). 1 ≤ value_or o 2) (sym g.processors) k.some_processor;
+  few_processors = subst (λ (o : Option Setting). value_or o 2 ≤ MAX_PROCESSORS) (sym g.processors) k.few_processors;
+  some_fetch = subst (λ (o : Option Setting). 1 ≤ value_or o 10) (sym g.fetch) k.some_fetch;
+  short_fetch = subst (λ (o : Option Setting). value_or o 10 ≤ MAX_FETCH) (sym g.fetch) k.short_fetch;
+  slice = subst (λ (o : Option Setting). value_or o 0 ≤ MAX_SLICE) (sym g.slice) k.slice;
+  spaces = subst (All IsSpaceDraft) (sym g.spaces) k.spaces;
+  space = space;
+  program = program;
+  evicted = ap (λ (xs : List SpaceDraftView). sum_by (λ (x : SpaceDraftView). length x.evictions) xs + length t.space.evictions) g.spaces ∙ evicted;
+  few_evictions = few;
+  few_turns = omega (arith, ap length g.turns, k.few_turns);
+  turns = subst (λ (xs : List ProcNo). All (λ proc. proc.0 < value_or t.processors 2) xs) (sym g.turns)
+      (subst (λ (o : Option Setting). All (λ proc. proc.0 < value_or o 2) s.turns) (sym g.processors) k.turns);
+  nothing = nothing-later t.stage t g.later;
+}
+
+-- the unnamed space begins
+record IsOpened (s t : State) : Type 0 where
+  goes : GoesOn s t
+  space : IsOpenSpace t.space
+  same : t.space.programs ≡ s.space.programs
+  evictions : t.space.evictions ≡ s.space.evictions
+  program : t.program ≡ s.program
+  count : t.evictions ≡ s.evictions
+  room : (n : ℕ) → HasRoom s.stage n → HasRoom t.stage n
+
+opened-sound_at : (at : Stage) (line : ℕ) (s : State) → s.stage ≡ at → IsKept s → IsOpened s (opened_at at line s)
+unfolding HasRoom
+opened-sound_at stage.Top line s at k = record {
+  goes = record { processors = refl; fetch = refl; slice = refl; turns = refl; spaces = refl; later = λ is. cc };
+  space = with-line s.space line k.space;
+  same = refl;
+  evictions = refl;
+  program = refl;
+  count = refl;
+  room = λ n r. subst (λ (x : Stage). HasRoom x n) at r;
+}
+opened-sound_at stage.Declaring line s at k = unmoved s (λ is. let clash = sym is ∙ at in cc) k
+opened-sound_at stage.InProgram line s at k = unmoved s (λ is. let clash = sym is ∙ at in cc) k
+opened-sound_at stage.AfterTurns line s at k = unmoved s (λ is. let clash = sym is ∙ at in cc) k
+
+unmoved : (s : State) → s.stage ≢ stage.Top → IsKept s → IsOpened s s
+unmoved s later k = record {
+  goes = record { processors = refl; fetch = refl; slice = refl; turns = refl; spaces = refl; later = later };
+  space = k.space;
+  same = refl;
+  evictions = refl;
+  program = refl;
+  count = refl;
+  room = λ n r. r;
+}
+
+opened-sound : (line : ℕ) (s : State) → IsKept s → IsOpened s (opened line s)
+unfolding opened
+opened-sound line s k = opened-sound_at s.stage line s refl k
+
+-- a declaration
+more-evicted : (d : Declaration) (total n count : ℕ) → total + n ≡ count → total + one_more d n ≡ one_more d count
+more-evicted declaration.Evict total n count e = omega (arith, e)
+more-evicted declaration.Priority total n count e = e
+more-evicted declaration.Patience total n count e = e
+more-evicted declaration.Mutexes total n count e = e
+more-evicted declaration.Cells total n count e = e
+more-evicted declaration.Semaphore total n count e = e
+more-evicted declaration.Absent total n count e = e
+
+declaration-sound : (line : ℕ) (word : Word) (operands : List Word) (d : Declaration) (s t : State) → IsSound s
+    → read_declaration line word operands d s ≡ Ok t → IsSound t
+unfolding read_declaration
+declaration-sound line word operands d s t h e =
+    after (declare line word operands s.evictions d (opened line s).space) _ t _ e (λ space declared e1.
+    let o = opened-sound line s h.kept in
+    let a = declared-after line word operands s.evictions d (opened line s).space space o.space declared in
+    let u : State = record (opened line s) { space = space; evictions = one_more d s.evictions } in
+    let g : GoesOn s u = record {
+      processors = o.goes.processors;
+      fetch = o.goes.fetch;
+      slice = o.goes.slice;
+      turns = o.goes.turns;
+      spaces = o.goes.spaces;
+      later = o.goes.later;
+    } in
+    let before : length (opened line s).space.evictions ≡ length s.space.evictions = ap length o.evictions in
+    let size : length space.evictions ≡ one_more d (length s.space.evictions) = a.declared.evicted ∙ ap (one_more d) before in
+    let total = more-evicted d (sum_by (λ (x : SpaceDraftView). length x.evictions) s.spaces) (length s.space.evictions) s.evictions h.kept.evicted in
+    subst IsSound (same-ok _ _ e1) (record {
+      kept = gone-on s u h.kept g a.declared.open_space (subst IsOpenProgram (sym o.program) h.kept.program)
+          (ap (λ (n : ℕ). sum_by (λ (x : SpaceDraftView). length x.evictions) s.spaces + n) size ∙ total) (a.few h.kept.few_evictions);
+      spaces = subst (λ (xs : List SpaceDraftView). length xs + 1 ≤ MAX_SPACES) (sym o.goes.spaces) h.spaces;
+      programs = subst (λ (ps : List ProgramDraftView). HasRoom (opened line s).stage (length ps)) (sym (a.declared.same ∙ o.same))
+          (o.room (length s.space.programs) h.programs);
+    }))
+
+-- a space begins
+space-sound : (line : ℕ) (word : Word) (operands : List Word) (s t : State) → IsSound s → read_space line word operands s ≡ Ok t → IsSound t
+unfolding read_space new_space HasRoom NothingSaid
+space-sound line word operands s t h e =
+    after (end_program s) _ t _ e (λ before e1 more1.
+    after (end_space before) _ t _ more1 (λ ended e2 more2.
+    after (new_space line word operands ended.spaces) _ t _ more2 (λ name e3 more3.
+    after (at_most line word kind.Space MAX_SPACES (length ended.spaces)) _ name _ e3 (λ v room _.
+    let r = space-end s.stage before ended (program-end s before h e1) e2 in
+    let k = r.kept in
+    subst IsSound (same-ok _ _ more3) (record {
+      kept = record {
+        some_processor = k.some_processor;
+        few_processors = k.few_processors;
+        some_fetch = k.some_fetch;
+        short_fetch = k.short_fetch;
+        slice = k.slice;
+        spaces = k.spaces;
+        space = fresh name.text line;
+        program = k.program;
+        evicted = omega (arith, r.evicted);
+        few_evictions = k.few_evictions;
+        few_turns = k.few_turns;
+        turns = k.turns;
+        nothing = tt;
+      };
+      spaces = omega (arith, at-most-room line word kind.Space MAX_SPACES (length ended.spaces) v room);
+      programs = omega arith;
+    })))))
+
+-- a program begins
+program-sound : (line : ℕ) (word : Word) (operands : List Word) (s t : State) → IsSound s → read_program line word operands s ≡ Ok t → IsSound t
+unfolding read_program new_program HasRoom
+program-sound line word operands s t h e =
+    after (end_program s) _ t _ e (λ ended e1 more1.
+    after (new_program line word operands (opened line ended).space) _ t _ more1 (λ name e2 more2.
+    after (at_most line word kind.Program MAX_PROGRAMS (length (opened line ended).space.programs)) _ name _ e2 (λ v room _.
+    let r = program-end s ended h e1 in
+    let o = opened-sound line ended r.kept in
+    let u : State = record (opened line ended) { stage = stage.InProgram; program = program_from name line } in
+    let g : GoesOn ended u = record {
+      processors = o.goes.processors;
+      fetch = o.goes.fetch;
+      slice = o.goes.slice;
+      turns = o.goes.turns;
+      spaces = o.goes.spaces;
+      later = λ is. cc;
+    } in
+    let few = at-most-room line word kind.Program MAX_PROGRAMS (length (opened line ended).space.programs) v room in
+    subst IsSound (same-ok _ _ more2) (record {
+      kept = gone-on ended u r.kept g o.space (begun name line)
+          (ap (λ (es : List EvictDraft). sum_by (λ (x : SpaceDraftView). length x.evictions) ended.spaces + length es) o.evictions ∙ r.kept.evicted ∙ sym o.count)
+          (omega (arith, o.count, r.kept.few_evictions));
+      spaces = subst (λ (xs : List SpaceDraftView). length xs + 1 ≤ MAX_SPACES) (sym o.goes.spaces) r.spaces;
+      programs = omega (arith, few);
+    }))))
+
+-- the program that is read goes on
+with-open : (s : State) (p : ProgramDraftView) → IsSound s → IsOpenProgram p → IsSound (record s { program = p })
+with-open s p h open_program =
+    let k = h.kept in
+    record {
+      kept = record {
+        some_processor = k.some_processor;
+        few_processors = k.few_processors;
+        some_fetch = k.some_fetch;
+        short_fetch = k.short_fetch;
+        slice = k.slice;
+        spaces = k.spaces;
+        space = k.space;
+        program = open_program;
+        evicted = k.evicted;
+        few_evictions = k.few_evictions;
+        few_turns = k.few_turns;
+        turns = k.turns;
+        nothing = said s.stage k.nothing;
+      };
+      spaces = h.spaces;
+      programs = h.programs;
+    }
+  where
+    said : (at : Stage) → NothingSaid at s → NothingSaid at (record s { program = p })
+    unfolding NothingSaid
+    said stage.Top n = n
+    said stage.Declaring n = tt
+    said stage.InProgram n = tt
+    said stage.AfterTurns n = tt
+
+instr-sound : (line : ℕ) (o : Operation) (word : Word) (operands : List Word) (s t : State) → IsSound s → read_instr line o word operands s ≡ Ok t → IsSound t
+unfolding read_instr
+instr-sound line o word operands s t h e =
+    after (add_instr line o word operands s.program) _ t _ e (λ p added more.
+    subst IsSound (same-ok _ _ more) (with-open s p h (instr-added line o word operands s.program p h.kept.program added)))
+
+label-sound_at : (at : Stage) (line : ℕ) (word : Word) (s t : State) → IsSound s → label_at at line word s ≡ Ok t → IsSound t
+label-sound_at stage.InProgram line word s t h e =
+    after (add_label line word s.program) _ t _ e (λ p added more.
+    subst IsSound (same-ok _ _ more) (with-open s p h (label-added line word s.program p h.kept.program added)))
+label-sound_at stage.Top line word s t h e = absurd cc
+label-sound_at stage.Declaring line word s t h e = absurd cc
+label-sound_at stage.AfterTurns line word s t h e = absurd cc
+
+label-sound : (line : ℕ) (word : Word) (s t : State) → IsSound s → read_label line word s ≡ Ok t → IsSound t
+unfolding read_label
+label-sound line word s t h e = label-sound_at s.stage line word s t h e
+
+-- turns
+record AreTurns (processors : ℕ) (turns : List ProcNo) : Type 0 where
+  few : length turns ≤ MAX_TURNS
+  all : All (λ proc. proc.0 < processors) turns
+
+passed : {A : Type 0} (b : Bool) (d : Fault) (r : Result A Fault) (y : A) → cond b (Err d) r ≡ Ok y → (b ≡ false) × (r ≡ Ok y)
+passed true d r y e = absurd cc
+passed false d r y e = (refl, e)
+
+turn-added : (processors line last : ℕ) (word : Word) (turns later : List ProcNo) → last + 1 ≤ processors → AreTurns processors turns
+    → add_turn line last word turns ≡ Ok later → AreTurns processors later
+unfolding add_turn
+turn-added processors line last word turns later below h e = by_turn (turn_of word.text) e
+  where
+    by_turn : (o : Option (ℕ × ℕ)) → turns_unless line word last turns o ≡ Ok later → AreTurns processors later
+    by_turn None e = absurd cc
+    by_turn (Some turn) e =
+        let a = passed (nat_lt last turn.0) _ _ later e in
+        let b = passed (nat_lt turn.1 1 || nat_lt MAX_TURNS turn.1) _ _ later a.1 in
+        let c = passed (nat_lt (MAX_TURNS - length turns) turn.1) _ _ later b.1 in
+        let proc : ProcNo = record { 0 = turn.0 } in
+        let low = ltb-false last turn.0 a.0 in
+        let room = ltb-false (MAX_TURNS - length turns) turn.1 c.0 in
+        subst (AreTurns processors) (same-ok _ _ c.1) (record {
+          few = omega (arith, length-append turns (replicate turn.1 proc), length-replicate turn.1 proc, room, h.few);
+          all = All-append (λ (x : ProcNo). x.0 < processors) turns (replicate turn.1 proc) h.all
+              (All-replicate (λ (x : ProcNo). x.0 < processors) turn.1 proc (omega (arith, low, below)));
+        })
+
+-- turns stand after the programs of a space
+turns-sound : (line : ℕ) (word : Word) (operands : List Word) (s t : State) → (s.stage ≡ stage.InProgram) ⊎ (s.stage ≡ stage.AfterTurns) → IsSound s
+    → read_turns line word operands s ≡ Ok t → IsSound t
+unfolding read_turns HasRoom NothingSaid
+turns-sound line word operands s t at h e =
+    after (end_program s) _ t _ e (λ ended e1 more1.
+    after (some_words line word operands next.Turn) _ t _ more1 (λ _ _ more2.
+    after (in_turn (add_turn line (value_or ended.processors 2 - 1)) operands ended.turns) _ t _ more2 (λ turns added more3.
+    let r = program-end s ended h e1 in
+    let k = r.kept in
+    let a : AreTurns (value_or ended.processors 2) turns =
+        steps-keep (AreTurns (value_or ended.processors 2)) (add_turn line (value_or ended.processors 2 - 1))
+        (λ x b c g step. turn-added (value_or ended.processors 2) line (value_or ended.processors 2 - 1) x b c (omega (arith, k.some_processor)) g step)
+        operands ended.turns turns (record { few = k.few_turns; all = k.turns }) added in
+    subst IsSound (same-ok _ _ more3) (record {
+      kept = record {
+        some_processor = k.some_processor;
+        few_processors = k.few_processors;
+        some_fetch = k.some_fetch;
+        short_fetch = k.short_fetch;
+        slice = k.slice;
+        spaces = k.spaces;
+        space = k.space;
+        program = k.program;
+        evicted = k.evicted;
+        few_evictions = k.few_evictions;
+        few_turns = a.few;
+        turns = a.all;
+        nothing = tt;
+      };
+      spaces = r.spaces;
+      programs = by_stage at r.programs;
+    }))))
+  where
+    by_stage : (s.stage ≡ stage.InProgram) ⊎ (s.stage ≡ stage.AfterTurns) → {n : ℕ} → Ended s.stage n → (1 ≤ n) × (n ≤ MAX_PROGRAMS)
+    unfolding Ended
+    by_stage (inl is) {n} has = subst (λ (x : Stage). Ended x n) is has
+    by_stage (inr is) {n} has = subst (λ (x : Stage). Ended x n) is has
+
+-- where lines may stand
+top-if : (at : Stage) → option_map cause.About (setting_misplaced at) ≡ None → at ≡ stage.Top
+top-if stage.Top e = refl
+top-if stage.Declaring e = absurd cc
+top-if stage.InProgram e = absurd cc
+top-if stage.AfterTurns e = absurd cc
+
+behind-if : (at : Stage) → option_map cause.About (turns_misplaced at) ≡ None → (at ≡ stage.InProgram) ⊎ (at ≡ stage.AfterTurns)
+behind-if stage.Top e = absurd cc
+behind-if stage.Declaring e = absurd cc
+behind-if stage.InProgram e = inl refl
+behind-if stage.AfterTurns e = inr refl
+
+by-sound : (line : ℕ) (word : Word) (operands : List Word) (f : First) (s t : State) → misplaced f s.stage ≡ None → IsSound s
+    → read_by line word operands f s ≡ Ok t → IsSound t
+unfolding read_by
+by-sound line word operands (first.Setting w) s t fine h e = setting-sound line word operands w s t (top-if s.stage fine) h e
+by-sound line word operands (first.Declaration d) s t fine h e = declaration-sound line word operands d s t h e
+by-sound line word operands first.Space s t fine h e = space-sound line word operands s t h e
+by-sound line word operands first.Program s t fine h e = program-sound line word operands s t h e
+by-sound line word operands first.Turns s t fine h e = turns-sound line word operands s t (behind-if s.stage fine) h e
+by-sound line word operands (first.Instr o) s t fine h e = instr-sound line o word operands s t h e
+by-sound line word operands first.Workload s t fine h e = subst IsSound (same-ok _ _ e) h
+by-sound line word operands first.Unknown s t fine h e = subst IsSound (same-ok _ _ e) h
+
+unless-none : (line : ℕ) (word : Word) (o : Option Cause) (u : Unit {0}) → unless_misplaced line word o ≡ Ok u → o ≡ None
+unless-none line word None u e = refl
+unless-none line word (Some c) u e = absurd cc
+
+first-sound : (line : ℕ) (word : Word) (operands : List Word) (f : First) (s t : State) → IsSound s → read_first line word operands f s ≡ Ok t → IsSound t
+unfolding read_first
+first-sound line word operands f s t h e =
+    after (unless_misplaced line word (misplaced f s.stage)) _ t _ e (λ u fine more.
+    by-sound line word operands f s t (unless-none line word (misplaced f s.stage) u fine) h more)
+
+after_label_by-sound : (line : ℕ) (word : Word) (operands : List Word) (f : First) (s t : State) → IsSound s → after_label_by line word operands f s ≡ Ok t → IsSound t
+after_label_by-sound line word operands (first.Instr o) s t h e = instr-sound line o word operands s t h e
+after_label_by-sound line word operands (first.Setting w) s t h e = absurd cc
+after_label_by-sound line word operands (first.Declaration d) s t h e = absurd cc
+after_label_by-sound line word operands first.Space s t h e = absurd cc
+after_label_by-sound line word operands first.Program s t h e = absurd cc
+after_label_by-sound line word operands first.Turns s t h e = absurd cc
+after_label_by-sound line word operands first.Workload s t h e = absurd cc
+after_label_by-sound line word operands first.Unknown s t h e = absurd cc
+
+after_label-sound : (line : ℕ) (words : List Word) (s t : State) → IsSound s → read_after_label line words s ≡ Ok t → IsSound t
+unfolding read_after_label
+after_label-sound line [] s t h e = subst IsSound (same-ok _ _ e) h
+after_label-sound line (word ∷ operands) s t h e = after_label_by-sound line word operands (first_of word.text) s t h e
+
+words-sound : (line : ℕ) (words : List Word) (s t : State) → IsSound s → read_words line words s ≡ Ok t → IsSound t
+unfolding read_words
+words-sound line [] s t h e = subst IsSound (same-ok _ _ e) h
+words-sound line (word ∷ words) s t h e = by_test (is_label word.text) e
+  where
+    by_test : (b : Bool)
+        → cond b (read_label line word s >>= read_after_label line words) (read_first line word words (first_of word.text) s) ≡ Ok t → IsSound t
+    by_test true e =
+        after (read_label line word s) (read_after_label line words) t _ e (λ u labelled more.
+        after_label-sound line words u t (label-sound line word s u h labelled) more)
+    by_test false e = first-sound line word words (first_of word.text) s t h e
+
+line-sound : (line : ℕ) (content : List ℕ) (s t : State) → IsSound s → read_line line content s ≡ Ok t → IsSound t
+unfolding read_line
+line-sound line content s t h e = after (words_in line content) _ t _ e (λ words _ more. words-sound line words s t h more)
+
+with-last : (s : State) (last : ℕ) → IsSound s → IsSound (record s { last = last })
+with-last s last h =
+    let k = h.kept in
+    record {
+      kept = record {
+        some_processor = k.some_processor;
+        few_processors = k.few_processors;
+        some_fetch = k.some_fetch;
+        short_fetch = k.short_fetch;
+        slice = k.slice;
+        spaces = k.spaces;
+        space = k.space;
+        program = k.program;
+        evicted = k.evicted;
+        few_evictions = k.few_evictions;
+        few_turns = k.few_turns;
+        turns = k.turns;
+        nothing = said s.stage k.nothing;
+      };
+      spaces = h.spaces;
+      programs = h.programs;
+    }
+  where
+    said : (at : Stage) → NothingSaid at s → NothingSaid at (record s { last = last })
+    unfolding NothingSaid
+    said stage.Top n = n
+    said stage.Declaring n = tt
+    said stage.InProgram n = tt
+    said stage.AfterTurns n = tt
+
+line_of-sound : (text : List ℕ) (line : Line) (s t : State) → IsSound s → read_line_of text line s ≡ Ok t → IsSound t
+unfolding read_line_of
+line_of-sound text line s t h e =
+    let p = passed (is_beyond line) (too_long line) (read_line line.number (content_of (text_of_line text line).bytes) (record s { last = line.number })) t e in
+    line-sound line.number (content_of (text_of_line text line).bytes) (record s { last = line.number }) t (with-last s line.number h) p.1
+
+start-sound : IsSound start
+unfolding NothingSaid HasRoom
+start-sound = record {
+  kept = record {
+    some_processor = omega arith;
+    few_processors = omega arith;
+    some_fetch = omega arith;
+    short_fetch = omega arith;
+    slice = omega arith;
+    spaces = none-all IsSpaceDraft;
+    space = fresh (codes "main") 0;
+    program = begun no_word 0;
+    evicted = refl;
+    few_evictions = omega arith;
+    few_turns = omega arith;
+    turns = none-all (λ (proc : ProcNo). proc.0 < 2);
+    nothing = (refl, refl);
+  };
+  spaces = omega arith;
+  programs = omega arith;
+}
+
+-- the draft of what was read to its end
+not-empty : (at : Stage) (last : ℕ) (u : Unit {0}) → unless_empty at last ≡ Ok u → at ≢ stage.Top
+not-empty stage.Top last u e = absurd cc
+not-empty stage.Declaring last u e = λ is. cc
+not-empty stage.InProgram last u e = λ is. cc
+not-empty stage.AfterTurns last u e = λ is. cc
+
+end-whole : (s : State) (d : DraftView) → IsSound s → end_of_lines s ≡ Ok d → IsDraft d
+unfolding end_of_lines
+end-whole s d h e =
+    after (end_program s) _ d _ e (λ before e1 more1.
+    after (unless_empty before.stage before.last) _ d _ more1 (λ u some more2.
+    after (end_space before) _ d _ more2 (λ ended e2 more3.
+    let p = program-end s before h e1 in
+    let r = space-end s.stage before ended p e2 in
+    let k = r.kept in
+    let later = not-empty before.stage before.last u some in
+    subst IsDraft (same-ok _ _ more3) (record {
+      some_processor = k.some_processor;
+      few_processors = k.few_processors;
+      some_fetch = k.some_fetch;
+      short_fetch = k.short_fetch;
+      slice = k.slice;
+      some_space = r.some (λ is. later (p.stage_is ∙ is));
+      few_spaces = r.spaces;
+      spaces = k.spaces;
+      few_evictions = omega (arith, r.evicted, k.few_evictions);
+      few_turns = k.few_turns;
+      turns = k.turns;
+    }))))
+
+pub draft-is : (text : List ℕ) (d : DraftView) → draft_of text ≡ Ok d → IsDraft d
+unfolding draft_of
+draft-is text d e =
+    after (in_turn (read_line_of text) (lines_of text) start) _ d _ e (λ s read more.
+    end-whole s d (steps-keep IsSound (read_line_of text) (λ x b c k g. line_of-sound text x b c k g) (lines_of text) start s start-sound read) more)
