@@ -34,12 +34,12 @@ use Rattle.toga_draft.specs.declared.word.Word.{Word}
 use Rattle.toga_draft.specs.Declarations.{after_evict, add_eviction, at_in, at_most, declare, new_eviction, set_once, set_unless}
 use Rattle.toga_draft.specs.Draft.{ProgramDraftView, SpaceDraftView, value_or}
 use Rattle.toga_draft.specs.First.{first_of, misplaced}
-use Rattle.toga_draft.specs.Lines.{after_label_by, end_program, end_program_at, end_space, end_space_at, is_beyond, label_at, new_program, new_space, one_more, opened, opened_at, read_after_label, read_by, read_declaration, read_first, read_instr, read_label, read_line, read_line_of, read_program, read_setting, read_space, read_turns, read_words, too_long, unless_misplaced, with_program, with_space}
+use Rattle.toga_draft.specs.Lines.{after_label_by, declare_in, end_program, end_program_at, end_space, end_space_at, is_beyond, label_at, new_program, new_space, one_more, opened, opened_at, read_after_label, read_by, read_declaration, read_first, read_instr, read_label, read_line, read_line_of, read_program, read_setting, read_space, read_turns, read_words, too_long, unless_misplaced, with_program, with_space}
 use Rattle.toga_draft.specs.Operands.{add_turn, number_in, number_unless}
 use Rattle.toga_draft.specs.Programs.{add_instr, add_label, instr_in, label_line, label_unless, whole_program}
 use Rattle.toga_draft.specs.Reader.{IsReady}
 use Rattle.toga_draft.specs.Reading.{◌>>=◌, in_turn}
-use Rattle.toga_draft.specs.State.{State, program_from, space_from}
+use Rattle.toga_draft.specs.State.{State, program_from, space_from, start}
 use Rattle.toga_draft.specs.Words.{about, count_words, fault_at, nth, some_words, without_colon, words_in}
 
 -- a step that succeeds, and what follows it
@@ -154,7 +154,7 @@ ready-opened_at stage.Declaring line s h = h
 ready-opened_at stage.InProgram line s h = h
 ready-opened_at stage.AfterTurns line s h = h
 
-ready-opened : (line : ℕ) (s : State) → IsReady s → IsReady (opened line s)
+pub ready-opened : (line : ℕ) (s : State) → IsReady s → IsReady (opened line s)
 unfolding opened
 ready-opened line s h = ready-opened_at s.stage line s h
 
@@ -185,19 +185,23 @@ ready-setting line word operands setting.Slice s t h e =
     subst IsReady (same-ok _ _ e1)
     (record { few_instructions = h.few_instructions; few_processors = h.few_processors; few_evictions = h.few_evictions }))
 
+ready-declare_in :
+    (line : ℕ) (word : Word) (operands : List Word) (d : Declaration) (s t : State) → IsReady s → declare_in line word operands d s ≡ Ok t → IsReady t
+unfolding declare_in
+ready-declare_in line word operands d s t h e =
+    after (declare line word operands s.evictions d s.space) _ t _ e (λ space declared e1.
+    subst IsReady (same-ok _ _ e1)
+    (record {
+      few_instructions = h.few_instructions;
+      few_processors = h.few_processors;
+      few_evictions = few-evictions line word operands s.evictions d s.space space declared h.few_evictions;
+    }))
+
 ready-declaration :
     (line : ℕ) (word : Word) (operands : List Word) (d : Declaration) (s t : State) → IsReady s → read_declaration line word operands d s ≡ Ok t
     → IsReady t
 unfolding read_declaration
-ready-declaration line word operands d s t h e =
-    after (declare line word operands s.evictions d (opened line s).space) _ t _ e (λ space declared e1.
-    let o = ready-opened line s h in
-    subst IsReady (same-ok _ _ e1)
-    (record {
-      few_instructions = o.few_instructions;
-      few_processors = o.few_processors;
-      few_evictions = few-evictions line word operands s.evictions d (opened line s).space space declared h.few_evictions;
-    }))
+ready-declaration line word operands d s t h e = ready-declare_in line word operands d (opened line s) t (ready-opened line s h) e
 
 ready-space : (line : ℕ) (word : Word) (operands : List Word) (s t : State) → IsReady s → read_space line word operands s ≡ Ok t → IsReady t
 unfolding read_space
@@ -242,7 +246,7 @@ unfolding read_turns
 ready-turns line word operands s t h e =
     after (end_program s) _ t _ e (λ ended e1 more1.
     after (some_words line word operands next.Turn) _ t _ more1 (λ _ _ more2.
-    after (in_turn (add_turn line (value_or ended.processors 2 - 1)) operands ended.turns) _ t _ more2 (λ turns _ more3.
+    after (in_turn (add_turn line (value_or s.processors 2 - 1)) operands ended.turns) _ t _ more2 (λ turns _ more3.
     let r = ready-end_program s ended h e1 in
     subst IsReady (same-ok _ _ more3)
     (record { few_instructions = r.few_instructions; few_processors = r.few_processors; few_evictions = r.few_evictions }))))
@@ -337,3 +341,6 @@ ready-line_of text line s t h e = by_test (is_beyond line) e
     by_test false e =
         ready-line line.number (content_of (text_of_line text line).bytes) (record s { last = line.number }) t
         (record { few_instructions = h.few_instructions; few_processors = h.few_processors; few_evictions = h.few_evictions }) e
+
+pub start-ready : IsReady start
+start-ready = record { few_instructions = omega arith; few_processors = omega arith; few_evictions = omega arith }

@@ -108,10 +108,13 @@ abbrev pub one_more : Declaration → ℕ → ℕ
 one_more declaration.Evict n = n + 1
 one_more _ n = n
 
+unfoldable pub declare_in : ℕ → Word → List Word → Declaration → State → Result State Fault
+declare_in line word operands d s = do
+  space ← declare line word operands s.evictions d s.space
+  Ok (record s { space = space; evictions = one_more d s.evictions })
+
 unfoldable pub read_declaration : ℕ → Word → List Word → Declaration → State → Result State Fault
-read_declaration line word operands d s = do
-  space ← declare line word operands s.evictions d (opened line s).space
-  Ok (record (opened line s) { space = space; evictions = one_more d s.evictions })
+read_declaration line word operands d s = declare_in line word operands d (opened line s)
 
 -- a program begins
 unfoldable pub new_program : ℕ → Word → List Word → SpaceDraftView → Result Word Fault
@@ -136,7 +139,7 @@ unfoldable pub read_turns : ℕ → Word → List Word → State → Result Stat
 read_turns line word operands s = do
   ended ← end_program s
   _ ← some_words line word operands next.Turn
-  turns ← in_turn (add_turn line (value_or ended.processors 2 - 1)) operands ended.turns
+  turns ← in_turn (add_turn line (value_or s.processors 2 - 1)) operands ended.turns
   Ok (record ended { stage = stage.AfterTurns; turns = turns })
 
 -- a line, by what its first word says that it is

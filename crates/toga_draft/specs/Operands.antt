@@ -95,7 +95,8 @@ nth_operand line operands ks n = operand_if line (nth operands n) (slice_get ks 
 -- a turn: a processor, or a processor, `*` and how many turns
 abbrev pub both : Option ℕ → Option ℕ → Option (ℕ × ℕ)
 both (Some processor) (Some times) = Some (processor, times)
-both _ _ = None
+both (Some processor) None = None
+both None times = None
 
 abbrev pub turn_at : List ℕ → Option ℕ → Option (ℕ × ℕ)
 turn_at word None = both (number_of word) (Some 1)

@@ -1,5 +1,7 @@
 // The lines that say something of a space, before its first program.
-ghost use Rattle.std.specs.Prelude.{◌≡◌, ◌<◌, OnOk, IfSome, length};
+ghost use Rattle.std.specs.Prelude.{◌≡◌, ◌<◌, ◌==◌, OnOk};
+ghost use Rattle.std.specs.List.{list_any};
+ghost use Rattle.sa_instr.specs.declared.limits.TheConstants.{MAX_EVICTIONS};
 ghost use Rattle.toga_draft.specs.Reading.{Gives, Leaves, in_turn};
 ghost use Rattle.toga_draft.specs.Declarations.{add_cell, add_eviction, add_mutex, add_names, add_page, add_pages, add_semaphore, after_evict, at_in, at_most, declare, is_evicted, name_line, new_eviction, new_name, program_line, set_once, start_in, taken};
 
@@ -314,11 +316,18 @@ fn add_page(line: u64, word: &LineWord, absent: &mut Vec<u16>) -> Result<(), Unr
     ensures { Leaves absent.new.items result (add_page line word.now absent.old.items) }
 {
     let page = number_in(line, word, PAGE)? as u16;
-    if absent.iter().any(|p| *p == page) {
+    if is_absent(absent.as_slice(), page) {
         return Err(word.fault(line, Cause::Twice(Twice::Page(u64::from(page)))));
     }
     absent.push(page)?;
     Ok(())
+}
+
+// Whether the page is absent already.
+fn is_absent(absent: &[u16], page: u16) -> bool
+    ensures { result ≡ list_any (λ p. p == page) absent.now }
+{
+    absent.iter().any(|p| *p == page)
 }
 
 // Declares an eviction, after so many in all.
@@ -376,8 +385,15 @@ fn new_eviction(
 ) -> Result<(), Unread>
     ensures { Gives (λ _. tt) result (new_eviction line word.now page event evictions.now) }
 {
-    if evictions.iter().any(|e| e.page == page && e.event == event) {
+    if is_evicted(page, event, evictions) {
         return Err(word.fault(line, Cause::Twice(Twice::Event(u64::from(page), event))));
     }
     Ok(())
+}
+
+// Whether the page goes away at the event already.
+fn is_evicted(page: u16, event: u64, evictions: &[EvictDraft]) -> bool
+    ensures { result ≡ is_evicted page event evictions.now }
+{
+    evictions.iter().any(|e| e.page == page && e.event == event)
 }

@@ -1,8 +1,8 @@
 // The words after the first one of a line.
-ghost use Rattle.std.specs.Prelude.{◌≡◌, ◌≤◌, ◌<◌, ◌++◌, length, replicate, IfOk, OnOk, IfSome};
+ghost use Rattle.std.specs.Prelude.{◌≡◌, ◌≤◌, ◌<◌, ◌==◌, ◌++◌, length, position, replicate, IfOk, OnOk};
 ghost use Rattle.toga_draft.specs.Reading.{Gives, Leaves};
 ghost use Rattle.toga_draft.specs.Words.{count_words, some_words, too_few};
-ghost use Rattle.toga_draft.specs.Operands.{add_turn, name_in, named_in, next_of, nth_operand, number_in, operand_in, register_of, turn_of};
+ghost use Rattle.toga_draft.specs.Operands.{add_turn, both, name_in, named_in, next_of, nth_operand, number_in, operand_in, register_of, turn_of};
 
 use crate::draft::{NumberDraft, OperandDraft};
 use crate::unread::Unread;
@@ -262,15 +262,28 @@ fn push_turns(turns: &mut Vec<ProcNo>, processor: ProcNo, times: u64) -> Result<
 fn turn_of(word: &[u8]) -> Option<(u64, u64)>
     ensures { result ≡ turn_of word.now }
 {
-    match word.iter().position(|b| *b == b'*') {
-        Some(star) => {
-            let processor = read_number(&word[..star])?;
-            let times = read_number(&word[star + 1..])?;
-            Some((processor, times))
-        }
-        None => {
-            let processor = read_number(word)?;
-            Some((processor, 1))
-        }
+    match star_of(word) {
+        Some(star) => both(read_number(&word[..star]), read_number(&word[star + 1..])),
+        None => both(read_number(word), Some(1)),
+    }
+}
+
+// The number of the first `*` of a word, from 0.
+fn star_of(word: &[u8]) -> Option<usize>
+    ensures { result ≡ position (λ b. b == 42) word.now }
+{
+    word.iter().position(|b| *b == b'*')
+}
+
+// The two numbers, where there are both.
+fn both(processor: Option<u64>, times: Option<u64>) -> Option<(u64, u64)>
+    ensures { result ≡ both processor times }
+{
+    match processor {
+        Some(processor) => match times {
+            Some(times) => Some((processor, times)),
+            None => None,
+        },
+        None => None,
     }
 }

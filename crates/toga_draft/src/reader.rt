@@ -1,6 +1,6 @@
 // The lines of a source, one after another.
 ghost use Rattle.std.specs.Prelude.{◌≡◌, ◌≤◌, ◌-◌, IfOk, length, ◌<◌};
-ghost use Rattle.sa_instr.specs.declared.limits.TheConstants.{MAX_INSTRUCTIONS};
+ghost use Rattle.sa_instr.specs.declared.limits.TheConstants.{MAX_EVICTIONS};
 ghost use Rattle.sa_text.specs.Line.{IsWithin, lines_of};
 ghost use Rattle.toga_diagnostic.specs.Text.{is_label};
 ghost use Rattle.toga_draft.specs.Draft.{value_or};
@@ -8,7 +8,7 @@ ghost use Rattle.toga_draft.specs.Reading.{Gives, Leaves, in_turn};
 ghost use Rattle.toga_draft.specs.Operands.{add_turn};
 ghost use Rattle.toga_draft.specs.State.{start};
 ghost use Rattle.toga_draft.specs.Reader.{IsReady, state_of};
-ghost use Rattle.toga_draft.specs.Lines.{draft_of, end_of_lines, end_program, end_space, is_beyond, new_program, new_space, opened, read_after_label, read_by, read_declaration, read_first, read_instr, read_label, read_line, read_line_of, read_program, read_setting, read_space, read_turns, read_words, space_line, too_long, unless_space, empty, no_program};
+ghost use Rattle.toga_draft.specs.Lines.{declare_in, draft_of, end_of_lines, end_program, end_space, is_beyond, new_program, new_space, one_more, opened, read_after_label, read_by, read_declaration, read_first, read_instr, read_label, read_line, read_line_of, read_program, read_setting, read_space, read_turns, read_words, space_line, too_long, unless_space, empty, no_program};
 
 use crate::declarations::{at_most, declare, new_name, set_once};
 use crate::draft::{Draft, ProgramDraft, Setting, SpaceDraft};
@@ -416,6 +416,17 @@ impl Reader {
             turns: self.turns,
             last: self.last,
         })
+    }
+}
+
+// How many evictions there are after a declaration.
+fn one_more(declaration: Declaration, evictions: usize) -> usize
+    requires { evictions ≤ MAX_EVICTIONS }
+    ensures { result ≡ one_more declaration evictions }
+{
+    match declaration {
+        Declaration::Evict => evictions + 1,
+        _ => evictions,
     }
 }
 
