@@ -1,4 +1,6 @@
 pub mod Loops
 pub mod Operations
+pub mod Parts
 pub mod Places
 pub mod Ready
+pub mod Wholes

@@ -1,7 +1,7 @@
 -- A draft that was read to its end is whole: what each line leaves keeps to its limits.
 use Rattle.std.proofs.Common.{◌≡◌, ◌≢◌, ℕ, ◌+◌, ◌-◌, ◌<◌, ◌≤◌, ◌^◌, zero, suc, Bool, true, false, cond, List, [], ◌∷◌, ◌++◌, length, find, Option, Some, None, Result, Ok, Err, slice_get, get_or, ◌⊎◌, inl, inr, refl, sym, ap, subst, ◌∙◌, arith, length-append}
-use Rattle.std.specs.Prelude.{IfSome, codes, nat_lt, nat_eq, ◌||◌, sum_by}
-use Rattle.std.specs.List.{All, list_any, replicate}
+use Rattle.std.specs.Prelude.{IfSome, codes, replicate, nat_lt, nat_eq, ◌||◌, sum_by}
+use Rattle.std.specs.List.{All, list_any}
 use Rattle.std.specs.Option.{option_map}
 use Rattle.std.proofs.lemmas.Bool.{cases_lt, eqb-false, ltb-false}
 use Rattle.std.proofs.lemmas.List.{length-replicate}
@@ -823,6 +823,17 @@ record IsOpened (s t : State) : Type 0 where
   count : t.evictions ≡ s.evictions
   room : (n : ℕ) → HasRoom s.stage n → HasRoom t.stage n
 
+unmoved : (s : State) → s.stage ≢ stage.Top → IsKept s → IsOpened s s
+unmoved s later k = record {
+  goes = record { processors = refl; fetch = refl; slice = refl; turns = refl; spaces = refl; later = later };
+  space = k.space;
+  same = refl;
+  evictions = refl;
+  program = refl;
+  count = refl;
+  room = λ n r. r;
+}
+
 opened-sound_at : (at : Stage) (line : ℕ) (s : State) → s.stage ≡ at → IsKept s → IsOpened s (opened_at at line s)
 unfolding HasRoom
 opened-sound_at stage.Top line s at k = record {
@@ -837,17 +848,6 @@ opened-sound_at stage.Top line s at k = record {
 opened-sound_at stage.Declaring line s at k = unmoved s (λ is. let clash = sym is ∙ at in cc) k
 opened-sound_at stage.InProgram line s at k = unmoved s (λ is. let clash = sym is ∙ at in cc) k
 opened-sound_at stage.AfterTurns line s at k = unmoved s (λ is. let clash = sym is ∙ at in cc) k
-
-unmoved : (s : State) → s.stage ≢ stage.Top → IsKept s → IsOpened s s
-unmoved s later k = record {
-  goes = record { processors = refl; fetch = refl; slice = refl; turns = refl; spaces = refl; later = later };
-  space = k.space;
-  same = refl;
-  evictions = refl;
-  program = refl;
-  count = refl;
-  room = λ n r. r;
-}
 
 opened-sound : (line : ℕ) (s : State) → IsKept s → IsOpened s (opened line s)
 unfolding opened
