@@ -53,7 +53,7 @@ use Rattle.toga_draft.specs.declared.word.Word.{Word}
 use Rattle.toga_draft.specs.Declarations.{add_cell, add_eviction, add_mutex, add_names, add_page, add_pages, add_semaphore, after_evict, at_in, at_most, declare, new_eviction, new_name, new_page, set_once, start_in}
 use Rattle.toga_draft.specs.Draft.{DraftView, ProgramDraftView, SpaceDraftView, value_or}
 use Rattle.toga_draft.specs.First.{first_of, misplaced, setting_misplaced, turns_misplaced}
-use Rattle.toga_draft.specs.Lines.{after_label_by, draft_from, draft_of, empty, end_of_lines, end_program, end_program_at, end_space, end_space_at, is_beyond, label_at, new_program, new_space, one_more, opened, opened_at, read_after_label, read_by, read_declaration, read_first, read_instr, read_label, read_line, read_line_of, read_program, read_setting, read_space, read_turns, read_words, too_long, unless_empty, unless_misplaced, with_program, with_space}
+use Rattle.toga_draft.specs.Lines.{after_label_by, declare_in, draft_from, draft_of, empty, end_of_lines, end_program, end_program_at, end_space, end_space_at, is_beyond, label_at, new_program, new_space, one_more, opened, opened_at, read_after_label, read_by, read_declaration, read_first, read_instr, read_label, read_line, read_line_of, read_program, read_setting, read_space, read_turns, read_words, too_long, unless_empty, unless_misplaced, with_program, with_space}
 use Rattle.toga_draft.specs.Operands.{add_turn, named_in, nth_operand, number_in, number_unless, numbered_unless, operand_if, operand_in, register_of, register_unless, turn_of, turns_unless}
 use Rattle.toga_draft.specs.Programs.{add_instr, add_label, ends, instr_in, is_end, label_line, label_unless, next_after, unless_alone, unless_end, whole_program}
 use Rattle.toga_draft.specs.Reading.{◌>>=◌, in_turn}
@@ -658,6 +658,13 @@ space-whole s h some few = record {
   all_programs = h.programs;
 }
 
+nothing-later : (at : Stage) (u : State) → at ≢ stage.Top → NothingSaid at u
+unfolding NothingSaid
+nothing-later stage.Top u later = absurd (later refl)
+nothing-later stage.Declaring u later = tt
+nothing-later stage.InProgram u later = tt
+nothing-later stage.AfterTurns u later = tt
+
 with-space : (at : Stage) (s : State) → s.stage ≢ stage.Top → IsKept s → length s.spaces + 1 ≤ MAX_SPACES → 1 ≤ length s.space.programs
     → length s.space.programs ≤ MAX_PROGRAMS → IsSpaceEnded at (with_space s)
 with-space at s later k room some few =
@@ -678,19 +685,12 @@ with-space at s later k room some few =
         few_evictions = k.few_evictions;
         few_turns = k.few_turns;
         turns = k.turns;
-        nothing = not-top s.stage (with_space s) later;
+        nothing = nothing-later s.stage (with_space s) later;
       };
       spaces = omega (arith, size, room);
       evicted = omega (arith, total, last, k.evicted);
       some = λ _. omega (arith, size);
     }
-  where
-    not-top : (x : Stage) (u : State) → x ≢ stage.Top → NothingSaid x u
-    unfolding NothingSaid
-    not-top stage.Top u later = absurd (later refl)
-    not-top stage.Declaring u later = tt
-    not-top stage.InProgram u later = tt
-    not-top stage.AfterTurns u later = tt
 
 space-end_at : (at : Stage) (s t : State) → IsEnded at s → end_space_at at s ≡ Ok t → IsSpaceEnded at t
 unfolding Ended NothingSaid
@@ -787,13 +787,6 @@ record GoesOn (s t : State) : Type 0 where
   spaces : t.spaces ≡ s.spaces
   later : t.stage ≢ stage.Top
 
-nothing-later : (at : Stage) (u : State) → at ≢ stage.Top → NothingSaid at u
-unfolding NothingSaid
-nothing-later stage.Top u later = absurd (later refl)
-nothing-later stage.Declaring u later = tt
-nothing-later stage.InProgram u later = tt
-nothing-later stage.AfterTurns u later = tt
-
 gone-on : (s t : State) → IsKept s → GoesOn s t → IsOpenSpace t.space → IsOpenProgram t.program
     → sum_by (λ (x : SpaceDraftView). length x.evictions) s.spaces + length t.space.evictions ≡ t.evictions → t.evictions ≤ MAX_EVICTIONS → IsKept t
 gone-on s t k g space program evicted few = record {
@@ -865,12 +858,12 @@ more-evicted declaration.Absent total n count e = e
 
 declaration-sound : (line : ℕ) (word : Word) (operands : List Word) (d : Declaration) (s t : State) → IsSound s
     → read_declaration line word operands d s ≡ Ok t → IsSound t
-unfolding read_declaration
+unfolding read_declaration declare_in
 declaration-sound line word operands d s t h e =
-    after (declare line word operands s.evictions d (opened line s).space) _ t _ e (λ space declared e1.
+    after (declare line word operands (opened line s).evictions d (opened line s).space) _ t _ e (λ space declared e1.
     let o = opened-sound line s h.kept in
-    let a = declared-after line word operands s.evictions d (opened line s).space space o.space declared in
-    let u : State = record (opened line s) { space = space; evictions = one_more d s.evictions } in
+    let a = declared-after line word operands (opened line s).evictions d (opened line s).space space o.space declared in
+    let u : State = record (opened line s) { space = space; evictions = one_more d (opened line s).evictions } in
     let g : GoesOn s u = record {
       processors = o.goes.processors;
       fetch = o.goes.fetch;
@@ -884,7 +877,8 @@ declaration-sound line word operands d s t h e =
     let total = more-evicted d (sum_by (λ (x : SpaceDraftView). length x.evictions) s.spaces) (length s.space.evictions) s.evictions h.kept.evicted in
     subst IsSound (same-ok _ _ e1) (record {
       kept = gone-on s u h.kept g a.declared.open_space (subst IsOpenProgram (sym o.program) h.kept.program)
-          (ap (λ (n : ℕ). sum_by (λ (x : SpaceDraftView). length x.evictions) s.spaces + n) size ∙ total) (a.few h.kept.few_evictions);
+          (ap (λ (n : ℕ). sum_by (λ (x : SpaceDraftView). length x.evictions) s.spaces + n) size ∙ total ∙ ap (one_more d) (sym o.count))
+          (a.few (omega (arith, o.count, h.kept.few_evictions)));
       spaces = subst (λ (xs : List SpaceDraftView). length xs + 1 ≤ MAX_SPACES) (sym o.goes.spaces) h.spaces;
       programs = subst (λ (ps : List ProgramDraftView). HasRoom (opened line s).stage (length ps)) (sym (a.declared.same ∙ o.same))
           (o.room (length s.space.programs) h.programs);
@@ -949,6 +943,7 @@ program-sound line word operands s t h e =
 
 -- the program that is read goes on
 with-open : (s : State) (p : ProgramDraftView) → IsSound s → IsOpenProgram p → IsSound (record s { program = p })
+unfolding NothingSaid
 with-open s p h open_program =
     let k = h.kept in
     record {
@@ -972,7 +967,6 @@ with-open s p h open_program =
     }
   where
     said : (at : Stage) → NothingSaid at s → NothingSaid at (record s { program = p })
-    unfolding NothingSaid
     said stage.Top n = n
     said stage.Declaring n = tt
     said stage.InProgram n = tt
@@ -1025,19 +1019,32 @@ turn-added processors line last word turns later below h e = by_turn (turn_of wo
               (All-replicate (λ (x : ProcNo). x.0 < processors) turn.1 proc (omega (arith, low, below)));
         })
 
+-- the end of a program leaves the processors
+same-processors_at : (at : Stage) (s t : State) → end_program_at at s ≡ Ok t → t.processors ≡ s.processors
+same-processors_at stage.InProgram s t e =
+    after (whole_program s.program) _ t _ e (λ _ _ e1. ap (λ (x : State). x.processors) (sym (same-ok _ _ e1)))
+same-processors_at stage.Top s t e = ap (λ (x : State). x.processors) (sym (same-ok _ _ e))
+same-processors_at stage.Declaring s t e = ap (λ (x : State). x.processors) (sym (same-ok _ _ e))
+same-processors_at stage.AfterTurns s t e = ap (λ (x : State). x.processors) (sym (same-ok _ _ e))
+
+same-processors : (s t : State) → end_program s ≡ Ok t → value_or t.processors 2 ≡ value_or s.processors 2
+unfolding end_program
+same-processors s t e = ap (λ (o : Option Setting). value_or o 2) (same-processors_at s.stage s t e)
+
 -- turns stand after the programs of a space
 turns-sound : (line : ℕ) (word : Word) (operands : List Word) (s t : State) → (s.stage ≡ stage.InProgram) ⊎ (s.stage ≡ stage.AfterTurns) → IsSound s
     → read_turns line word operands s ≡ Ok t → IsSound t
-unfolding read_turns HasRoom NothingSaid
+unfolding read_turns Ended HasRoom NothingSaid
 turns-sound line word operands s t at h e =
     after (end_program s) _ t _ e (λ ended e1 more1.
     after (some_words line word operands next.Turn) _ t _ more1 (λ _ _ more2.
-    after (in_turn (add_turn line (value_or ended.processors 2 - 1)) operands ended.turns) _ t _ more2 (λ turns added more3.
+    after (in_turn (add_turn line (value_or s.processors 2 - 1)) operands ended.turns) _ t _ more2 (λ turns added more3.
     let r = program-end s ended h e1 in
     let k = r.kept in
     let a : AreTurns (value_or ended.processors 2) turns =
-        steps-keep (AreTurns (value_or ended.processors 2)) (add_turn line (value_or ended.processors 2 - 1))
-        (λ x b c g step. turn-added (value_or ended.processors 2) line (value_or ended.processors 2 - 1) x b c (omega (arith, k.some_processor)) g step)
+        steps-keep (AreTurns (value_or ended.processors 2)) (add_turn line (value_or s.processors 2 - 1))
+        (λ x b c g step. turn-added (value_or ended.processors 2) line (value_or s.processors 2 - 1) x b c
+        (omega (arith, k.some_processor, same-processors s ended e1)) g step)
         operands ended.turns turns (record { few = k.few_turns; all = k.turns }) added in
     subst IsSound (same-ok _ _ more3) (record {
       kept = record {
@@ -1060,7 +1067,6 @@ turns-sound line word operands s t at h e =
     }))))
   where
     by_stage : (s.stage ≡ stage.InProgram) ⊎ (s.stage ≡ stage.AfterTurns) → {n : ℕ} → Ended s.stage n → (1 ≤ n) × (n ≤ MAX_PROGRAMS)
-    unfolding Ended
     by_stage (inl is) {n} has = subst (λ (x : Stage). Ended x n) is has
     by_stage (inr is) {n} has = subst (λ (x : Stage). Ended x n) is has
 
@@ -1131,6 +1137,7 @@ unfolding read_line
 line-sound line content s t h e = after (words_in line content) _ t _ e (λ words _ more. words-sound line words s t h more)
 
 with-last : (s : State) (last : ℕ) → IsSound s → IsSound (record s { last = last })
+unfolding NothingSaid
 with-last s last h =
     let k = h.kept in
     record {
@@ -1154,7 +1161,6 @@ with-last s last h =
     }
   where
     said : (at : Stage) → NothingSaid at s → NothingSaid at (record s { last = last })
-    unfolding NothingSaid
     said stage.Top n = n
     said stage.Declaring n = tt
     said stage.InProgram n = tt
