@@ -89,7 +89,7 @@ label-below : (program : ProgramDraftView) (line : ℕ) (word : Word) (n : ℕ) 
 unfolding label_place
 label-below program line word n has e =
     let found = label-in (is_label word.text) program.labels (λ (l : LabelDraft). l.place < length program.instrs) n has.labels
-        (or_fault-ok _ _ n e) in
+    (or_fault-ok _ _ n e) in
     subst (λ (k : ℕ). k < length program.instrs) found.2 found.1
 
 thing-below : (space : SpaceDraftView) (line : ℕ) (kind : Kind) (word : Word) (n : ℕ) → thing_number space line kind word ≡ Ok n → n < kind_count kind space
@@ -169,9 +169,10 @@ fit-number : (space : SpaceDraftView) (program : ProgramDraftView) (kind : Kind)
     → (map kind_of (listed o) ≡ named_kinds kind) × Each (IsGood space program) (listed o)
 fit-number space program kind (Err fault) o good e = absurd (cc)
 fit-number space program kind (Ok n) o good e =
-    let same : Some (operand_by kind n) ≡ o = cc in
-    (ap (λ (p : Option Operand). map kind_of (listed p)) (sym same) ∙ counted-kind kind n,
-    subst (λ (p : Option Operand). Each (IsGood space program) (listed p)) same (good n refl, tt))
+    let same : Some (operand_by kind n) ≡ o = cc in (
+      ap (λ (p : Option Operand). map kind_of (listed p)) (sym same) ∙ counted-kind kind n,
+      subst (λ (p : Option Operand). Each (IsGood space program) (listed p)) same (good n refl, tt),
+    )
 
 pub fit-operand : (space : SpaceDraftView) (program : ProgramDraftView) (line : ℕ) (draft : OperandDraft) (o : Option Operand) → IsSpaceDraft space
     → IsProgramDraft program → IsOperandDraft draft → operand_of space program line draft ≡ Ok o → AreFit space program draft o
@@ -185,11 +186,11 @@ fit-operand space program line (drafted.Known operand) o is has fits e =
     (record { kinds = refl; good = (known-good space program operand fits, tt) })
 fit-operand space program line (drafted.Named kind word) o is has fits e =
     let f = fit-number space program kind (named_number space program line kind word) o
-        (λ n g. counted-good space program kind n is (named-counted space program line kind word n has g)) e in
+    (λ n g. counted-good space program kind n is (named-counted space program line kind word n has g)) e in
     record { kinds = f.0; good = f.1 }
 fit-operand space program line (drafted.Numbered kind number) o is has fits e =
     let f = fit-number space program kind (said_number space program line kind number) o
-        (λ n g. counted-good space program kind n is (said-counted space program line kind number n g)) e in
+    (λ n g. counted-good space program kind n is (said-counted space program line kind number n g)) e in
     record { kinds = f.0; good = f.1 }
 
 -- two operands, or fewer

@@ -39,9 +39,10 @@ pub looked-up : (space : SpaceDraftView) (program : ProgramDraftView) (i : Instr
     → FitTheOperation (parts i.operation (listed a ++ listed b)) × Each (IsGood space program) (listed a ++ listed b)
 looked-up space program i a b is has fits e g =
     let f : AreFit space program i.first a = fit-operand space program i.line i.first a is has fits.first e in
-    let s : AreFit space program i.second b = fit-operand space program i.line i.second b is has fits.second g in
-    (map-append kind_of (listed a) (listed b) ∙ ap (λ os. os ++ map kind_of (listed b)) f.kinds ∙ ap (λ os. kinds_of i.first ++ os) s.kinds ∙ fits.fit,
-    each-listed (IsGood space program) a b f.good s.good)
+    let s : AreFit space program i.second b = fit-operand space program i.line i.second b is has fits.second g in (
+      map-append kind_of (listed a) (listed b) ∙ ap (λ os. os ++ map kind_of (listed b)) f.kinds ∙ ap (λ os. kinds_of i.first ++ os) s.kinds ∙ fits.fit,
+      each-listed (IsGood space program) a b f.good s.good,
+    )
 
 -- an instruction that was made of its draft
 record MadeInstr (space : SpaceDraftView) (program : ProgramDraftView) (i : InstrDraft) (instr : Instr) : Type 0 where
@@ -115,7 +116,7 @@ program-made space program instrs is has e =
     let m = instr-made space program end.last found.0 is has found.1 found.2 in
     let last : found.0 ≡ End = sym m.is ∙ end-made end.last.operation m.operands end.ends m.fit in
     let holds : (Q : Instr → Type 0) → ((i : InstrDraft) (instr : Instr) → MadeInstr space program i instr → Q instr) → All Q instrs =
-        λ Q step. each-holds IsInstrDraft Q (instr_in space program) (λ i instr fits g. step i instr (instr-made space program i instr is has fits g)) program.instrs instrs e has.instrs in
+    λ Q step. each-holds IsInstrDraft Q (instr_in space program) (λ i instr fits g. step i instr (instr-made space program i instr is has fits g)) program.instrs instrs e has.instrs in
     record {
       program = record {
         not_empty = omega (arith, count, end.some);

@@ -92,8 +92,8 @@ workload-made draft spaces is e =
       turns = is.turns;
       slice = is.slice;
     } where
-  space-is_of : (x : SpaceDraftView) (y : SpaceView) → IsSpaceDraft x → space_of x ≡ Ok y → IsSpace y
-  space-is_of x y h g = space-is x y h g
+      space-is_of : (x : SpaceDraftView) (y : SpaceView) → IsSpaceDraft x → space_of x ≡ Ok y → IsSpace y
+      space-is_of x y h g = space-is x y h g
 
 pub unsliced-made : (draft : DraftView) (spaces : List SpaceView) → IsDraft draft → each space_of draft.spaces ≡ Ok spaces
     → IsWorkload (record (workload_with draft spaces) { slice = 0 })

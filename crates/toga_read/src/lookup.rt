@@ -203,12 +203,7 @@ fn no_label(alloc: Global, program: &ProgramDraft) -> Result<Missing, AllocError
 
 // The place that a word of a line names.
 #[tactic(auto, unfolding(crate::specs::Lookup::label_place))]
-fn label_place(
-    alloc: Global,
-    program: &ProgramDraft,
-    line: u64,
-    word: &Word,
-) -> Result<u16, Unread>
+fn label_place(alloc: Global, program: &ProgramDraft, line: u64, word: &Word) -> Result<u16, Unread>
     ensures ok { IfOk result (λ n. label_place program.now line word.now ≡ Ok n) }
     ensures err { IfErr result (λ e. Fails e (label_place program.now line word.now)) }
 {

@@ -32,10 +32,7 @@ fn space_names(alloc: Global, space: &SpaceDraft) -> Result<SpaceNames, AllocErr
 }
 
 // The names of the programs of a space.
-fn programs_names(
-    alloc: Global,
-    programs: &[ProgramDraft],
-) -> Result<Vec<ProgramNames>, AllocError>
+fn programs_names(alloc: Global, programs: &[ProgramDraft]) -> Result<Vec<ProgramNames>, AllocError>
     ensures { IfOk result (λ names. names.items ≡ map program_names programs.now) }
 {
     let mut names = Vec::new(alloc);

@@ -16,6 +16,6 @@ loop-line-preserved c =
     let f : Line → List ℕ = instr_line c.args.text.now in (
       c.in-Some.ensures.text ∙ c.loop-line.invariant.0,
       ap (λ (zs : List ℕ). zs ++ flat_map f c.next.new.self.left) c.in_ok-push_instr_line.ensures
-      ∙ append_assoc c.loop-line.numbers.items (f c.in-Some.line) (flat_map f c.next.new.self.left)
-      ∙ ap (λ (ls : List Line). c.loop-line.numbers.items ++ flat_map f ls) (sym c.in-Some.ensures.first) ∙ c.loop-line.invariant.1,
+          ∙ append_assoc c.loop-line.numbers.items (f c.in-Some.line) (flat_map f c.next.new.self.left)
+          ∙ ap (λ (ls : List Line). c.loop-line.numbers.items ++ flat_map f ls) (sym c.in-Some.ensures.first) ∙ c.loop-line.invariant.1,
     )
