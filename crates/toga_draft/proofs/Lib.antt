@@ -1,3 +1,4 @@
+pub mod Holds
 pub mod Loops
 pub mod Operations
 pub mod Parts

@@ -35,8 +35,9 @@ use Rattle.toga_draft.specs.declared.operands.TheConstants.{ANY, LENGTH, THREAD_
 use Rattle.toga_draft.specs.declared.word.Word.{Word}
 use Rattle.toga_draft.specs.Declarations.{add_cell, add_eviction, add_mutex, add_names, add_page, add_pages, add_semaphore, after_evict, at_in, at_most, declare, named, new_eviction, new_name, new_page, set_once, start_in}
 use Rattle.toga_draft.specs.Draft.{ProgramDraftView, SpaceDraftView, value_or}
+use Rattle.toga_draft.specs.Lines.{one_more}
 use Rattle.toga_draft.specs.Operands.{nth_operand, named_in, number_in, numbered_unless, operand_in, register_of, register_unless}
-use Rattle.toga_draft.specs.Programs.{add_instr, add_label, ends, instr_in, is_end, label_line, label_unless, unless_alone, unless_end, whole_program}
+use Rattle.toga_draft.specs.Programs.{add_instr, add_label, ends, instr_in, is_end, label_line, label_unless, next_after, unless_alone, unless_end, whole_program}
 use Rattle.toga_draft.specs.Reading.{◌>>=◌, in_turn}
 use Rattle.toga_draft.specs.Whole.{kinds_of, named_kinds, IsOperandDraft, IsInstrDraft, IsProgramDraft, IsEvictDraft, IsSpaceDraft}
 use Rattle.toga_draft.specs.Words.{about, count_words, nth, some_words, without_colon}
@@ -62,6 +63,7 @@ named-kind line w k o d same e = by_name (is_name w.text) e
     by_number None e = absurd cc
     by_number (Some n) e =
         subst (IsOf o) (same-ok (draft.Numbered k (record { number = n; column = w.column; width = length w.text })) d e) (same, tt)
+
     by_name : (b : Bool) → cond b (Ok (draft.Named k w)) (numbered_unless line w k (number_of w.text)) ≡ Ok d → IsOf o d
     by_name true e = subst (IsOf o) (same-ok (draft.Named k w) d e) (same, tt)
     by_name false e = by_number (number_of w.text) e
@@ -114,7 +116,8 @@ few-operands _ = omega arith
 instr-stands : (line : ℕ) (o : Operation) (w : Word) (ws : List Word) (i : InstrDraft) → instr_in line o w ws ≡ Ok i → IsInstrDraft i
 unfolding instr_in
 instr-stands line o w ws i e =
-    after _ _ i (IsInstrDraft i) e (λ _ _ more1.
+    after (count_words line w ws (length (form_of o).operands) (length (form_of o).operands) (next_after (form_of o).operands (length ws))) _ i
+    (IsInstrDraft i) e (λ _ _ more1.
     after (nth_operand line ws (form_of o).operands 0) _ i (IsInstrDraft i) more1 (λ a first more2.
     after (nth_operand line ws (form_of o).operands 1) _ i (IsInstrDraft i) more2 (λ b second more3.
     let p = operands-fit line ws (form_of o).operands a b (few-operands o) first second in
@@ -150,6 +153,7 @@ label-added line w p q h e = by_name (is_name (without_colon w).text) e
           labels = All-push (λ (l : LabelDraft). l.place ≤ length p.instrs) p.labels
               (record { name = without_colon w; line = line; place = length p.instrs }) h.labels (omega arith);
         })
+
     by_name : (b : Bool) → cond b (label_unless line (without_colon w) p (label_line p.labels (without_colon w).text)) (about line w about_word.BadLabel) ≡ Ok q
         → IsOpenProgram q
     by_name true e = by_line (label_line p.labels (without_colon w).text) e
@@ -158,16 +162,16 @@ label-added line w p q h e = by_name (is_name (without_colon w).text) e
 -- a program that has ended
 none-alone : (n : ℕ) (ls : List LabelDraft) → find (λ l. l.place == n) ls ≡ None → All (λ l. l.place ≤ n) ls → All (λ l. l.place < n) ls
 none-alone n [] e all = All-nil (λ (l : LabelDraft). l.place < n)
-none-alone n (l ∷ ls) e all = by_test (l.place == n) refl e
+none-alone n (l ∷ ls) e all = by_test (l.place == n) refl e (λ none. none-alone n ls none (All-tail (λ (l : LabelDraft). l.place ≤ n) l ls all))
   where
-    by_test : (b : Bool) → (l.place == n) ≡ b → cond b (Some l) (find (λ l. l.place == n) ls) ≡ None → All (λ l. l.place < n) (l ∷ ls)
-    by_test true t e = absurd cc
-    by_test false t e =
-        All-cons (λ (l : LabelDraft). l.place < n) l ls (below l.place n t (All-head (λ (l : LabelDraft). l.place ≤ n) l ls all))
-        (none-alone n ls e (All-tail (λ (l : LabelDraft). l.place ≤ n) l ls all))
-      where
-        below : (k n : ℕ) → (k == n) ≡ false → k ≤ n → k < n
-        below k n t h = grind arith
+    below : (k : ℕ) → (k == n) ≡ false → k ≤ n → k < n
+    below k t h = grind arith
+
+    by_test : (b : Bool) → (l.place == n) ≡ b → cond b (Some l) (find (λ l. l.place == n) ls) ≡ None
+        → (find (λ (l : LabelDraft). l.place == n) ls ≡ None → All (λ (l : LabelDraft). l.place < n) ls) → All (λ (l : LabelDraft). l.place < n) (l ∷ ls)
+    by_test true t e rest = absurd cc
+    by_test false t e rest =
+        All-cons (λ (l : LabelDraft). l.place < n) l ls (below l.place t (All-head (λ (l : LabelDraft). l.place ≤ n) l ls all)) (rest e)
 
 not-alone : (o : Option LabelDraft) (u : Unit {0}) → unless_alone o ≡ Ok u → o ≡ None
 not-alone (Some l) u e = absurd cc
@@ -276,16 +280,18 @@ semaphore-added line w ws s t h e =
       programs = h.programs;
     })))))
 
-page-added : (line : ℕ) (w : Word) (as bs : List ℕ) → All (λ page. page ≤ LAST_PAGE) as → add_page line w as ≡ Ok bs → All (λ page. page ≤ LAST_PAGE) bs
+page-added : (line : ℕ) (w : Word) (xs ys : List ℕ) → All (λ page. page ≤ LAST_PAGE) xs → add_page line w xs ≡ Ok ys → All (λ page. page ≤ LAST_PAGE) ys
 unfolding add_page
-page-added line w as bs h e =
-    after (number_in line w PAGE) (λ page. new_page line w page as) bs _ e (λ page found more. by_test page found _ more)
+page-added line w xs ys h e =
+    after (number_in line w PAGE) (λ page. new_page line w page xs) ys (All (λ page. page ≤ LAST_PAGE) ys) e (λ page found more.
+    by_test page found (list_any (λ p. p == page) xs) _ more)
   where
-    by_test : (page : ℕ) → number_in line w PAGE ≡ Ok page → (b : Bool) → cond b (Err _) (Ok (as ++ page ∷ [])) ≡ Ok bs → All (λ page. page ≤ LAST_PAGE) bs
-    by_test page found true e = absurd cc
-    by_test page found false e =
-        subst (All (λ page. page ≤ LAST_PAGE)) (same-ok _ bs e)
-        (All-push (λ page. page ≤ LAST_PAGE) as page h (number-within line w PAGE page found).1)
+    by_test : (page : ℕ) → number_in line w PAGE ≡ Ok page → (b : Bool) (d : Fault) → cond b (Err d) (Ok (xs ++ page ∷ [])) ≡ Ok ys
+        → All (λ page. page ≤ LAST_PAGE) ys
+    by_test page found true d e = absurd cc
+    by_test page found false d e =
+        subst (All (λ page. page ≤ LAST_PAGE)) (same-ok (xs ++ page ∷ []) ys e)
+        (All-push (λ page. page ≤ LAST_PAGE) xs page h (number-within line w PAGE page found).1)
 
 eviction-added :
     (line : ℕ) (w : Word) (ws : List Word) (count : ℕ) (es fs : List EvictDraft) → All IsEvictDraft es → add_eviction line w ws count es ≡ Ok fs
@@ -312,11 +318,11 @@ unfolding add_names
 names-added add keeps line w ws s t h e =
     after (some_words line w ws next.Name) _ t (IsOpenSpace t) e (λ _ _ more. turn-keeps (add line) IsOpenSpace (keeps line) ws s t h more)
 
-pages-added : (line : ℕ) (w : Word) (ws : List Word) (as bs : List ℕ) → All (λ page. page ≤ LAST_PAGE) as → add_pages line w ws as ≡ Ok bs
-    → All (λ page. page ≤ LAST_PAGE) bs
+pages-added : (line : ℕ) (w : Word) (ws : List Word) (xs ys : List ℕ) → All (λ page. page ≤ LAST_PAGE) xs → add_pages line w ws xs ≡ Ok ys
+    → All (λ page. page ≤ LAST_PAGE) ys
 unfolding add_pages
-pages-added line w ws as bs h e =
-    after (some_words line w ws next.AnyPage) _ bs _ e (λ _ _ more. turn-keeps (add_page line) (All (λ page. page ≤ LAST_PAGE)) (page-added line) ws as bs h more)
+pages-added line w ws xs ys h e =
+    after (some_words line w ws next.AnyPage) _ ys _ e (λ _ _ more. turn-keeps (add_page line) (All (λ page. page ≤ LAST_PAGE)) (page-added line) ws xs ys h more)
 
 -- a declaration keeps that, its programs, and counts its eviction
 pub declared-space :
@@ -351,13 +357,13 @@ declared-space line w ws count declaration.Mutexes s t h e = names-added add_mut
 declared-space line w ws count declaration.Cells s t h e = names-added add_cell cell-added line w ws s t h e
 declared-space line w ws count declaration.Semaphore s t h e = semaphore-added line w ws s t h e
 declared-space line w ws count declaration.Absent s t h e =
-    after (add_pages line w ws s.absent) _ t (IsOpenSpace t) e (λ as added more.
+    after (add_pages line w ws s.absent) _ t (IsOpenSpace t) e (λ xs added more.
     subst IsOpenSpace (same-ok _ t more) (record {
       numbers = h.numbers;
       mutexes = h.mutexes;
       cells = h.cells;
       semaphores = h.semaphores;
-      absent = pages-added line w ws s.absent as h.absent added;
+      absent = pages-added line w ws s.absent xs h.absent added;
       evictions = h.evictions;
       programs = h.programs;
     }))
@@ -372,6 +378,61 @@ declared-space line w ws count declaration.Evict s t h e =
       evictions = (eviction-added line w ws count s.evictions es h.evictions added).0;
       programs = h.programs;
     }))
+
+-- and keeps its programs, and adds an eviction or none
+abbrev Rest : SpaceDraftView → SpaceDraftView → Type 0
+Rest s t = (t.programs ≡ s.programs) × (t.evictions ≡ s.evictions)
+
+mutex-rest : (line : ℕ) (w : Word) (s t : SpaceDraftView) → add_mutex line w s ≡ Ok t → Rest s t
+unfolding add_mutex
+mutex-rest line w s t e =
+    after (at_most line w kind.Mutex MAX_MUTEXES (length s.mutexes)) _ t (Rest s t) e (λ _ _ more1.
+    after (new_name line w s) _ t (Rest s t) more1 (λ _ _ more2. subst (Rest s) (same-ok _ t more2) (refl, refl)))
+
+cell-rest : (line : ℕ) (w : Word) (s t : SpaceDraftView) → add_cell line w s ≡ Ok t → Rest s t
+unfolding add_cell
+cell-rest line w s t e =
+    after (at_most line w kind.Cell MAX_CELLS (length s.cells)) _ t (Rest s t) e (λ _ _ more1.
+    after (new_name line w s) _ t (Rest s t) more1 (λ _ _ more2. subst (Rest s) (same-ok _ t more2) (refl, refl)))
+
+names-rest :
+    (add : ℕ → Word → SpaceDraftView → Result SpaceDraftView Fault) → ((line : ℕ) (w : Word) (s t : SpaceDraftView) → add line w s ≡ Ok t → Rest s t)
+    → (line : ℕ) (w : Word) (ws : List Word) (s t : SpaceDraftView) → add_names add line w ws s ≡ Ok t → Rest s t
+unfolding add_names
+names-rest add rest line w ws s t e =
+    after (some_words line w ws next.Name) _ t (Rest s t) e (λ _ _ more.
+    turn-keeps (add line) (Rest s) (λ x a b h f. let r = rest line x a b f in (r.0 ∙ h.0, r.1 ∙ h.1)) ws s t (refl, refl) more)
+
+semaphore-rest : (line : ℕ) (w : Word) (ws : List Word) (s t : SpaceDraftView) → add_semaphore line w ws s ≡ Ok t → Rest s t
+unfolding add_semaphore
+semaphore-rest line w ws s t e =
+    after (at_most line w kind.Semaphore MAX_SEMAPHORES (length s.semaphores)) _ t (Rest s t) e (λ _ _ more1.
+    after (count_words line w ws 1 2 next.Name) _ t (Rest s t) more1 (λ _ _ more2.
+    after (new_name line (nth ws 0) s) _ t (Rest s t) more2 (λ _ _ more3.
+    after (start_in line ws) _ t (Rest s t) more3 (λ n _ more4. subst (Rest s) (same-ok _ t more4) (refl, refl)))))
+
+abbrev Counts : Declaration → SpaceDraftView → SpaceDraftView → Type 0
+Counts d s t = (t.programs ≡ s.programs) × (length t.evictions ≡ one_more d (length s.evictions))
+
+pub declared-rest :
+    (line : ℕ) (w : Word) (ws : List Word) (count : ℕ) (d : Declaration) (s t : SpaceDraftView) → All IsEvictDraft s.evictions
+    → declare line w ws count d s ≡ Ok t → Counts d s t
+unfolding declare
+declared-rest line w ws count declaration.Priority s t h e =
+    after (set_once line w ws PRIORITY s.priority) _ t (Counts declaration.Priority s t) e (λ o _ more.
+    subst (Counts declaration.Priority s) (same-ok _ t more) (refl, refl))
+declared-rest line w ws count declaration.Patience s t h e =
+    after (set_once line w ws PATIENCE s.patience) _ t (Counts declaration.Patience s t) e (λ o _ more.
+    subst (Counts declaration.Patience s) (same-ok _ t more) (refl, refl))
+declared-rest line w ws count declaration.Mutexes s t h e = let r = names-rest add_mutex mutex-rest line w ws s t e in (r.0, ap length r.1)
+declared-rest line w ws count declaration.Cells s t h e = let r = names-rest add_cell cell-rest line w ws s t e in (r.0, ap length r.1)
+declared-rest line w ws count declaration.Semaphore s t h e = let r = semaphore-rest line w ws s t e in (r.0, ap length r.1)
+declared-rest line w ws count declaration.Absent s t h e =
+    after (add_pages line w ws s.absent) _ t (Counts declaration.Absent s t) e (λ o _ more.
+    subst (Counts declaration.Absent s) (same-ok _ t more) (refl, refl))
+declared-rest line w ws count declaration.Evict s t h e =
+    after (add_eviction line w ws count s.evictions) _ t (Counts declaration.Evict s t) e (λ es added more.
+    subst (Counts declaration.Evict s) (same-ok _ t more) (refl, (eviction-added line w ws count s.evictions es h added).1))
 
 -- a space that has ended
 pub space-ended : (s : SpaceDraftView) → IsOpenSpace s → 1 ≤ length s.programs → length s.programs ≤ MAX_PROGRAMS → IsSpaceDraft s

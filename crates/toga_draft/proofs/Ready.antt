@@ -56,6 +56,10 @@ pub not-refused : {A : Type 0} (b : Bool) (d : Fault) (x y : A) → cond b (Err 
 not-refused true d x y e = absurd cc
 not-refused false d x y e = (refl, cc)
 
+pub past : {A : Type 0} (b : Bool) (d : Fault) (r : Result A Fault) (y : A) → cond b (Err d) r ≡ Ok y → (b ≡ false) × (r ≡ Ok y)
+past true d r y e = absurd cc
+past false d r y e = (refl, e)
+
 pub is-allowed : {A : Type 0} (b : Bool) (d : Fault) (x y : A) → cond b (Ok x) (Err d) ≡ Ok y → (b ≡ true) × (x ≡ y)
 is-allowed true d x y e = (refl, cc)
 is-allowed false d x y e = absurd cc
@@ -129,7 +133,7 @@ ready-end_program_at stage.Top s t h e = subst IsReady (same-ok _ _ e) h
 ready-end_program_at stage.Declaring s t h e = subst IsReady (same-ok _ _ e) h
 ready-end_program_at stage.AfterTurns s t h e = subst IsReady (same-ok _ _ e) h
 
-ready-end_program : (s t : State) → IsReady s → end_program s ≡ Ok t → IsReady t
+pub ready-end_program : (s t : State) → IsReady s → end_program s ≡ Ok t → IsReady t
 unfolding end_program
 ready-end_program s t h e = ready-end_program_at s.stage s t h e
 

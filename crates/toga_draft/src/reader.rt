@@ -7,6 +7,7 @@ ghost use Rattle.toga_draft.specs.Draft.{value_or};
 ghost use Rattle.toga_draft.specs.Reading.{Gives, Leaves, in_turn};
 ghost use Rattle.toga_draft.specs.Operands.{add_turn};
 ghost use Rattle.toga_draft.specs.State.{start};
+ghost use Rattle.toga_draft.specs.Whole.{IsDraft};
 ghost use Rattle.toga_draft.specs.Reader.{IsReady, state_of};
 ghost use Rattle.toga_draft.specs.Lines.{declare_in, draft_of, end_of_lines, end_program, end_space, is_beyond, new_program, new_space, one_more, opened, read_after_label, read_by, read_declaration, read_first, read_instr, read_label, read_line, read_line_of, read_program, read_setting, read_space, read_turns, read_words, space_line, too_long, unless_space, empty, no_program};
 
@@ -51,8 +52,16 @@ pub(crate) const SLICE: Limit = Limit {
 };
 
 /// The draft of a source, whose lines are read one after another up to the first error of form.
-#[tactic(auto, unfolding(crate::specs::Lines::draft_of))]
 pub fn read_draft(alloc: Global, text: &[u8]) -> Result<Draft, Unread>
+    ensures exact { Gives (λ draft. draft) result (draft_of text.now) }
+    ensures whole { IfOk result IsDraft }
+{
+    read_all(alloc, text)
+}
+
+// The same, without what holds of each draft.
+#[tactic(auto, unfolding(crate::specs::Lines::draft_of))]
+fn read_all(alloc: Global, text: &[u8]) -> Result<Draft, Unread>
     ensures { Gives (λ draft. draft) result (draft_of text.now) }
 {
     let reader = read_lines(alloc, text)?;
@@ -278,18 +287,25 @@ impl Reader {
         ensures { Leaves (state_of self.new) result (read_declaration line word.now operands.now declaration (state_of self.old)) }
     {
         self.open(line);
-        declare(
-            self.alloc,
-            line,
-            word,
-            operands,
-            self.evictions,
-            declaration,
-            &mut self.space,
-        )?;
-        if let Declaration::Evict = declaration {
-            self.evictions += 1;
-        }
+        self.declare_in(line, word, operands, declaration)
+    }
+
+    // Reads a declaration of the space that has begun.
+    #[tactic(auto, unfolding(crate::specs::Lines::declare_in))]
+    fn declare_in(
+        &mut self,
+        line: u64,
+        word: &LineWord,
+        operands: &[LineWord],
+        declaration: Declaration,
+    ) -> Result<(), Unread>
+        requires { IsReady (state_of self.old) }
+        ensures { Leaves (state_of self.new) result (declare_in line word.now operands.now declaration (state_of self.old)) }
+    {
+        let count = self.evictions;
+        let space = &mut self.space;
+        declare(self.alloc, line, word, operands, count, declaration, space)?;
+        self.evictions = one_more(declaration, count);
         Ok(())
     }
 
@@ -355,15 +371,10 @@ impl Reader {
         requires { IsReady (state_of self.old) }
         ensures { Leaves (state_of self.new) result (read_turns line word.now operands.now (state_of self.old)) }
     {
+        let last = Setting::value_or(self.processors, 2).saturating_sub(1);
         self.end_program()?;
         some_words(line, word, operands, Next::Turn)?;
-        let processors = Setting::value_or(self.processors, 2);
-        add_turns(
-            line,
-            processors.saturating_sub(1),
-            operands,
-            &mut self.turns,
-        )?;
+        add_turns(line, last, operands, &mut self.turns)?;
         self.stage = Stage::AfterTurns;
         Ok(())
     }
