@@ -4,4 +4,3 @@ pub mod Operations
 pub mod Parts
 pub mod Places
 pub mod Ready
-pub mod Wholes
