@@ -1,5 +1,5 @@
 -- What is made of the items of a list, one after another, up to the first fault.
-use Rattle.std.proofs.Common.{◌≡◌, ℕ, ◌+◌, ◌<◌, ◌≤◌, zero, suc, List, [], ◌∷◌, ◌++◌, length, take, get_or, Option, Some, slice_get, Result, Ok, Err, refl, sym, ap, subst, ◌∙◌, arith}
+use Rattle.std.proofs.Common.{◌≡◌, ℕ, ◌+◌, ◌<◌, ◌≤◌, zero, suc, List, [], ◌∷◌, ◌++◌, length, map, take, get_or, Option, Some, slice_get, Result, Ok, Err, refl, sym, ap, subst, ◌∙◌, arith}
 use Rattle.std.specs.List.{All}
 use Rattle.std.proofs.lemmas.List.{take_all, take_more}
 use Rattle.std.proofs.lemmas.List.Elements.{All-cons, All-tail}
@@ -7,6 +7,7 @@ use Rattle.toga_diagnostic.specs.declared.cause.Fault.{Fault}
 use Rattle.toga_draft.specs.declared.unread.Unread.{Unread}
 use Rattle.toga_draft.specs.declared.unread.Unread.TheVariants as unread
 use Rattle.toga_draft.specs.Reading.{◌>>=◌, Fails}
+use Rattle.toga_read.specs.Laws.{FitEach}
 use Rattle.toga_read.specs.Outcome.{each}
 
 -- a value and a list that were made after each other
@@ -92,6 +93,17 @@ each-holds {A} {B} P Q f step (x ∷ xs) ys e all =
     let one : P x = all 0 x (omega arith) in
     let rest : All Q b.rest = each-holds P Q f step xs b.rest b.others (All-tail P x xs all) in
     subst (λ (zs : List B). All Q zs) (sym b.all) (All-cons Q b.first b.rest (step x b.first one b.made) rest)
+
+-- what fits each that is made of what has P
+pub each-fits : {A B C : Type 0} (P : A → Type 0) (R : B → C → Type 0) (g : A → C) (f : A → Result B Fault)
+    → ((x : A) (y : B) → P x → f x ≡ Ok y → R y (g x)) → (xs : List A) (ys : List B) → each f xs ≡ Ok ys → All P xs → FitEach R ys (map g xs)
+each-fits {A} {B} {C} P R g f step [] ys e all =
+    let none : [] ≡ ys = cc in subst (λ (zs : List B). FitEach R zs []) none tt
+each-fits {A} {B} {C} P R g f step (x ∷ xs) ys e all =
+    let b = both (f x) (each f xs) ys e in
+    let one : P x = all 0 x (omega arith) in
+    subst (λ (zs : List B). FitEach R zs (map g (x ∷ xs))) (sym b.all)
+    (step x b.first one b.made, each-fits P R g f step xs b.rest b.others (All-tail P x xs all))
 
 -- what is made of the item at a place
 pub each-at : {A B : Type 0} (P : A → Type 0) (f : A → Result B Fault) (xs : List A) (ys : List B) (k : ℕ) (x : A) → All P xs → each f xs ≡ Ok ys

@@ -6,3 +6,4 @@ pub mod Programs
 pub mod Orders
 pub mod Workloads
 pub mod PlainTexts
+pub mod NamesFit

@@ -7,3 +7,4 @@ pub mod Spaces
 pub mod SourceFields
 pub mod Source
 pub mod Reading
+pub mod Laws

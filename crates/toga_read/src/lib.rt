@@ -3,6 +3,7 @@
 #![tactic(auto)]
 
 mod evictions;
+pub mod laws;
 mod lookup;
 mod names;
 mod operands;
