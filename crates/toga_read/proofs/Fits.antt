@@ -4,7 +4,6 @@ use Rattle.std.specs.List.{All}
 use Rattle.std.specs.Option.{option_map}
 use Rattle.std.specs.Str.{bytes_eq}
 use Rattle.std.proofs.lemmas.Bool.{ltb-true}
-use Rattle.std.proofs.lemmas.List.{map-append}
 use Rattle.std.proofs.lemmas.List.Elements.{All-tail}
 use Rattle.std.proofs.lemmas.List.Quantifiers.{position-Some}
 use Rattle.sa_instr.specs.declared.operand.Operand.{Operand}
@@ -20,9 +19,8 @@ use Rattle.toga_draft.specs.declared.draft.OperandDraft.{OperandDraft}
 use Rattle.toga_draft.specs.declared.draft.OperandDraft.TheVariants as drafted
 use Rattle.toga_draft.specs.declared.word.Word.{Word}
 use Rattle.toga_draft.specs.Draft.{ProgramDraftView, SpaceDraftView}
-use Rattle.toga_draft.specs.Reading.{◌>>=◌}
 use Rattle.toga_draft.specs.Whole.{IsKnown, IsOperandDraft, IsProgramDraft, IsSpaceDraft, kinds_of, named_kinds}
-use Rattle.toga_read.specs.Lookup.{count_of, draft_number, is_label, kind_count, label_place, named_number, number_named, or_fault, place_named, program_number, said_number, thing_number}
+use Rattle.toga_read.specs.Lookup.{count_of, draft_number, is_label, kind_count, label_place, named_number, number_named, or_fault, program_number, said_number, thing_number}
 use Rattle.toga_read.specs.Operands.{listed, numbered, operand_by, operand_of}
 
 -- a number that was found is that of the answer

@@ -1,5 +1,5 @@
 -- The names of a source that is read fit its workload.
-use Rattle.std.proofs.Common.{◌≡◌, ℕ, ◌+◌, ◌<◌, ◌≤◌, zero, suc, Bool, true, false, cond, List, [], ◌∷◌, ◌++◌, length, map, nat_eq, nat_le, codes, Result, Ok, Err, refl, sym, ap, subst, ◌∙◌, arith}
+use Rattle.std.proofs.Common.{◌≡◌, ℕ, ◌+◌, ◌<◌, ◌≤◌, zero, suc, Bool, true, false, cond, List, [], ◌∷◌, length, map, nat_eq, nat_le, codes, Result, Ok, Err, refl, sym, ap, subst, ◌∙◌, arith}
 use Rattle.std.specs.List.{All, enumerate_from, flat_map, list_any, range_with_len, starts_with}
 use Rattle.std.proofs.lemmas.List.Elements.{All-append, All-cons, All-tail}
 use Rattle.std.proofs.lemmas.List.FromFn.{length-map-range_with_len}
@@ -11,8 +11,7 @@ use Rattle.sa_workload.specs.Reading.{read_of}
 use Rattle.sa_workload.specs.Text.{text_of}
 use Rattle.toga_diagnostic.specs.declared.cause.Fault.{Fault}
 use Rattle.toga_source.specs.declared.names.Label.{Label}
-use Rattle.toga_source.specs.Names.{NamesView, ProgramView}
-use Rattle.toga_source.specs.Plain.{jumps_to, numbered, plain_label, plain_labels, plain_program, plain_space}
+use Rattle.toga_source.specs.Plain.{jumps_to, numbered, plain_label, plain_program, plain_space}
 use Rattle.toga_draft.specs.declared.draft.LabelDraft.{LabelDraft}
 use Rattle.toga_draft.specs.declared.draft.NameDraft.{NameDraft}
 use Rattle.toga_draft.specs.Draft.{DraftView, ProgramDraftView, SpaceDraftView}
@@ -21,7 +20,6 @@ use Rattle.toga_draft.specs.Reading.{◌>>=◌}
 use Rattle.toga_draft.specs.Whole.{IsDraft, IsProgramDraft, IsSpaceDraft}
 use Rattle.toga_draft.proofs.Holds.{draft-whole}
 use Rattle.toga_read.specs.declared.source.TheConstants.{MAX_TEXT}
-use Rattle.toga_read.specs.declared.unread.Unread.{Unread}
 use Rattle.toga_read.specs.Laws.{FitEach, FitsSpace, LabelsFit, NamesFit}
 use Rattle.toga_read.specs.Names.{label_of, program_names, space_names}
 use Rattle.toga_read.specs.Operands.{instr_in, program_of, programs_of}
@@ -113,9 +111,9 @@ labels-below program a zero m h = λ k d below. absurd (omega (arith, below))
 labels-below program a (suc n) m h =
     All-append (λ (l : Label). l.place < m) (plain_label program a) (flat_map (plain_label program) (range_with_len (a + 1) n))
     (one (list_any (jumps_to a) program)) (labels-below program (a + 1) n m (omega arith)) where
-  one : (b : Bool) → All (λ (l : Label). l.place < m) (cond b (record { place = a; name = numbered (codes "at") a } ∷ []) [])
-  one true = All-cons (λ (l : Label). l.place < m) _ [] (omega (arith, h)) (λ k d below. absurd (omega (arith, below)))
-  one false = λ k d below. absurd (omega (arith, below))
+      one : (b : Bool) → All (λ (l : Label). l.place < m) (cond b (record { place = a; name = numbered (codes "at") a } ∷ []) [])
+      one true = All-cons (λ (l : Label). l.place < m) _ [] (omega (arith, h)) (λ k d below. absurd (omega (arith, below)))
+      one false = λ k d below. absurd (omega (arith, below))
 
 plain-fits : (n : ℕ) (s : SpaceView) → FitsSpace s (plain_space n s)
 plain-fits n s = record {

@@ -1,5 +1,5 @@
 -- A workload text is read as `sa_workload` reads it.
-use Rattle.std.proofs.Common.{◌≡◌, ℕ, List, IfNone, IfSome, Option, None, Some, Result, Ok, Err, MatchResult, refl, sym, ap, subst, ◌∙◌}
+use Rattle.std.proofs.Common.{◌≡◌, ℕ, List, IfNone, IfSome, Option, None, Some, Result, Ok, Err, MatchResult, ap, ◌∙◌}
 use Rattle.sa_base.specs.declared.refusal.Bad.{Bad}
 use Rattle.sa_instr.specs.declared.operation.Operation.{Operation}
 use Rattle.sa_instr.specs.Operation.{IsNoWord, form_of, operation_of}

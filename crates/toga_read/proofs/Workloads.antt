@@ -1,7 +1,8 @@
 -- What is made of the spaces of a draft is spaces, and what is made of the draft is a workload.
-use Rattle.std.proofs.Common.{◌≡◌, ℕ, ◌<◌, ◌≤◌, List, length, Result, Ok, Err, refl, sym, ap, subst, ◌∙◌, arith}
-use Rattle.std.specs.List.{All, sum_by}
+use Rattle.std.proofs.Common.{◌≡◌, ℕ, List, length, Result, Ok, Err, refl, sym, subst, arith}
+use Rattle.std.specs.List.{All}
 use Rattle.sa_instr.specs.declared.instr.Instr.{Instr}
+use Rattle.sa_instr.specs.Instr.{NamesDeclared}
 use Rattle.sa_spaces.specs.Space.{IsSpace, SpaceView}
 use Rattle.sa_spaces.specs.Workload.{IsEviction, IsWorkload, WorkloadView}
 use Rattle.toga_diagnostic.specs.declared.cause.Fault.{Fault}
@@ -23,7 +24,7 @@ pub space-made : (space : SpaceDraftView) (programs : List (List Instr)) → IsS
     → IsSpace (space_with space programs)
 space-made space programs is e =
     let made = programs-made space programs is e in
-    let names = subst (λ (n : ℕ). All (All (Rattle.sa_instr.specs.Instr.NamesDeclared (length space.mutexes) (length space.starts) (length space.cells) n)) programs) (sym made.count) made.names in
+    let names = subst (λ (n : ℕ). All (All (NamesDeclared (length space.mutexes) (length space.starts) (length space.cells) n)) programs) (sym made.count) made.names in
     record {
       priority = is.priority;
       mutexes = is.mutexes;

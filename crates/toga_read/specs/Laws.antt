@@ -1,8 +1,7 @@
 -- What holds of every source that is read.
-use Rattle.std.specs.Prelude.{◌≡◌, ℕ, ◌<◌, List, [], ◌∷◌, length, All, Result, Ok}
+use Rattle.std.specs.Prelude.{◌≡◌, ℕ, ◌<◌, List, [], ◌∷◌, length, All, Ok}
 use Rattle.sa_instr.specs.declared.instr.Instr.{Instr}
 use Rattle.sa_spaces.specs.Space.{SpaceView}
-use Rattle.sa_spaces.specs.Workload.{WorkloadView}
 use Rattle.toga_source.specs.Names.{NamesView, ProgramView}
 use Rattle.toga_read.specs.Reading.{read}
 use Rattle.toga_read.specs.SourceFields.{SourceView}

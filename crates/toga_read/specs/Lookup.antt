@@ -5,7 +5,7 @@ use Rattle.std.specs.Str.{bytes_eq}
 use Rattle.toga_diagnostic.specs.declared.cause.Cause.TheVariants as cause
 use Rattle.toga_diagnostic.specs.declared.cause.Fault.{Fault}
 use Rattle.toga_diagnostic.specs.declared.cause.Kind.{Kind}
-use Rattle.toga_diagnostic.specs.declared.cause.Kind.TheVariants.{Space, Mutex, Semaphore, Cell, Program, Label, Instruction, Eviction}
+use Rattle.toga_diagnostic.specs.declared.cause.Kind.TheVariants.{Mutex, Semaphore, Cell, Program, Label}
 use Rattle.toga_diagnostic.specs.declared.cause.Missing.{Missing}
 use Rattle.toga_diagnostic.specs.declared.cause.Missing.TheVariants as missing
 use Rattle.toga_draft.specs.declared.draft.LabelDraft.{LabelDraft}

@@ -1,5 +1,5 @@
 -- What is made of one thing after another, up to the first fault.
-use Rattle.std.specs.Prelude.{List, [], ◌∷◌, Result, Ok, Err}
+use Rattle.std.specs.Prelude.{List, [], ◌∷◌, Result, Ok}
 use Rattle.toga_diagnostic.specs.declared.cause.Fault.{Fault}
 use Rattle.toga_draft.specs.Reading.{◌>>=◌}
 

@@ -1,5 +1,5 @@
 -- The source of a draft.
-use Rattle.std.specs.Prelude.{ℕ, nat_le, if◌then◌else◌, List, length, map, Result, Ok, Err}
+use Rattle.std.specs.Prelude.{ℕ, nat_le, if◌then◌else◌, length, map, Result, Ok, Err}
 use Rattle.std.specs.List.{flat_map}
 use Rattle.sa_spaces.specs.Workload.{WorkloadView}
 use Rattle.sa_workload.specs.Text.{text_of}

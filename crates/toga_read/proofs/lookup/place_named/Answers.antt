@@ -1,4 +1,4 @@
-use Rattle.std.proofs.Common.{◌≡◌, ℕ, Option, Some, true, false, ◌∙◌, ap, sym}
+use Rattle.std.proofs.Common.{◌≡◌, Option, Some, true, false, ◌∙◌, ap, sym}
 use Rattle.std.specs.Option.{option_map}
 use Rattle.toga_draft.specs.declared.draft.LabelDraft.{LabelDraft}
 use Rattle.toga_read.specs.Lookup.{is_label}

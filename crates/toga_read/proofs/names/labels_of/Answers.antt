@@ -1,4 +1,4 @@
-use Rattle.std.proofs.Common.{◌≡◌, ◌∙◌, ap, List, ℕ}
+use Rattle.std.proofs.Common.{◌∙◌, ap, List, ℕ}
 use Rattle.toga_source.specs.declared.names.Label.{Label}
 use Rattle.toga_read.specs.Names.{label_of}
 use Rattle.toga_read.proofs.Loops.{mapped-more, mapped-all}

@@ -1,4 +1,4 @@
-use Rattle.std.proofs.Common.{◌≡◌, ◌++◌, take}
+use Rattle.std.proofs.Common.{◌≡◌, take}
 use Rattle.std.specs.List.{flat_map}
 use Rattle.toga_read.specs.Names.{space_lines}
 use Rattle.toga_read.proofs.names.lines_of.Given as goal

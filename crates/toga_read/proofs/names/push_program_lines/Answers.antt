@@ -1,4 +1,4 @@
-use Rattle.std.proofs.Common.{◌++◌, ◌∙◌, ap}
+use Rattle.std.proofs.Common.{ap}
 use Rattle.toga_draft.specs.declared.draft.InstrDraft.{InstrDraft}
 use Rattle.toga_read.proofs.Loops.{pushed-more, pushed-all}
 use Rattle.toga_read.proofs.names.push_program_lines.Goals as goal

@@ -1,12 +1,9 @@
-use Rattle.std.proofs.Common.{◌≡◌, List, Result, Ok, sym, ap, ◌∙◌}
-use Rattle.sa_instr.specs.declared.instr.Instr.{Instr}
-use Rattle.toga_draft.specs.declared.draft.InstrDraft.{InstrDraft}
+use Rattle.std.proofs.Common.{◌≡◌, Ok, sym, ap, ◌∙◌}
 use Rattle.toga_draft.specs.Draft.{ProgramDraftView}
-use Rattle.toga_diagnostic.specs.declared.cause.Fault.{Fault}
 use Rattle.toga_read.specs.Operands.{instr_in, program_of}
 use Rattle.toga_read.specs.Outcome.{each}
 use Rattle.toga_read.proofs.Programs.{program-made}
-use Rattle.toga_read.proofs.Somes.{some-if, some-is}
+use Rattle.toga_read.proofs.Somes.{some-if}
 use Rattle.toga_read.proofs.operands.program_of.Goals as goal
 
 pub unwrap-requires : goal.unwrap-requires

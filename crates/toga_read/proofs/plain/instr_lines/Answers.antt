@@ -1,4 +1,4 @@
-use Rattle.std.proofs.Common.{◌≡◌, ◌++◌, List, ℕ, ◌∙◌, ap, append_assoc, sym}
+use Rattle.std.proofs.Common.{◌++◌, List, ℕ, ◌∙◌, ap, append_assoc, sym}
 use Rattle.std.specs.List.{flat_map}
 use Rattle.sa_text.specs.declared.line_reader.Line.{Line}
 use Rattle.toga_read.specs.Reading.{instr_line}

@@ -1,4 +1,4 @@
-use Rattle.std.proofs.Common.{◌≡◌, Result, Ok, Err, subst, sym, ap, ◌∙◌}
+use Rattle.std.proofs.Common.{Result, Ok, subst, sym, ap, ◌∙◌}
 use Rattle.toga_read.specs.SourceFields.{SourceView}
 use Rattle.toga_read.specs.declared.unread.Unread.{Unread}
 use Rattle.toga_read.specs.Reading.{Refuses, plain_by, plain_of}

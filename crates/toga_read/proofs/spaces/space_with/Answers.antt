@@ -1,4 +1,4 @@
-use Rattle.std.proofs.Common.{◌≡◌, ℕ, Some, ap, ◌∙◌, arith, length, subst, sym}
+use Rattle.std.proofs.Common.{◌≡◌, ℕ, Some, ap, ◌∙◌, arith, length, sym}
 use Rattle.sa_spaces.specs.Space.{IsSpace, SpaceView}
 use Rattle.toga_draft.specs.Draft.{SpaceDraftView, value_or}
 use Rattle.toga_read.specs.Evictions.{pages_in}

@@ -1,4 +1,4 @@
-use Rattle.std.proofs.Common.{◌≡◌, ℕ, Some, ap, ◌∙◌, arith, length, subst, sym}
+use Rattle.std.proofs.Common.{◌≡◌, ℕ, Some, ap, ◌∙◌, arith, sym}
 use Rattle.sa_spaces.specs.Workload.{IsWorkload, WorkloadView}
 use Rattle.toga_draft.specs.Draft.{DraftView, value_or}
 use Rattle.toga_read.specs.Evictions.{evictions_of}
