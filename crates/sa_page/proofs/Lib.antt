@@ -5,4 +5,3 @@ mod SaidLemmas
 mod CountLemmas
 mod EndedLemmas
 mod FailingLemmas
-mod CircleLemmas

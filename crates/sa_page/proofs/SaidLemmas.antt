@@ -6,7 +6,7 @@ use Rattle.sa_instr.specs.declared.instr.Instr.{Instr}
 use Rattle.sa_spaces.specs.Workload.{WorkloadView}
 use Rattle.sa_check_lives.specs.View.{LivesView}
 use Rattle.sa_page.specs.Page.{in_copy_on, lives_behind, item_text, items_text}
-use Rattle.sa_page.specs.Programs.{instr_in, programs_by, programs_after}
+use Rattle.sa_programs.specs.Programs.{instr_in, programs_by, programs_after}
 
 -- one item more
 pub said-more :

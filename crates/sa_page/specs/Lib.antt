@@ -6,6 +6,5 @@ pub mod Said
 pub mod Counts
 pub mod Ended
 pub mod Failing
-pub mod Programs
 pub mod Page
 pub mod Laws

@@ -27,7 +27,7 @@ use Rattle.sa_page.specs.Shell.{front, back}
 use Rattle.sa_page.specs.Said.{verdict_said}
 use Rattle.sa_page.specs.Failing.{SaysFailing}
 use Rattle.sa_page.specs.Ended.{SaysEnd}
-use Rattle.sa_page.specs.Programs.{first_programs, instr_in, programs_after}
+use Rattle.sa_programs.specs.Programs.{first_programs, instr_in, programs_after}
 use Rattle.sa_page.specs.Shown.{Shows}
 
 -- the line of an item, and its words

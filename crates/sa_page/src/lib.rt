@@ -8,7 +8,6 @@ mod failing;
 pub mod laws;
 mod lines;
 mod page;
-mod programs;
 mod said;
 mod shell;
 mod shown;

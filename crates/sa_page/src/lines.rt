@@ -3,11 +3,11 @@ ghost use Rattle.std.specs.Prelude.{◌≡◌, ◌++◌, OnOk};
 ghost use Rattle.sa_check_lives.specs.View.{lives_of};
 ghost use Rattle.sa_page.specs.Page.{in_copy_on, item_text, items_text, said};
 
-use crate::programs::Programs;
 use sa_base::{Item, ProcNo};
 use sa_cells::push_words;
 use sa_check_lives::Lives;
 use sa_instr::Instr;
+use sa_programs::Programs;
 use sa_spaces::Workload;
 use sa_trace::append_line;
 use std::alloc::{AllocError, Global};

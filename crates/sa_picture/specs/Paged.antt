@@ -12,7 +12,10 @@ use Rattle.sa_picture.specs.declared.request.Request.{Request}
 use Rattle.sa_picture.specs.declared.status.Status.{Status}
 use Rattle.sa_picture.specs.declared.status.Status.TheVariants.{BadWorkload, BadTrace, TooMuch, OutOfMemory}
 use Rattle.sa_workload.specs.Texts.{second_part}
-use Rattle.sa_picture.specs.Drawn.{IsDrawn, IsNotDrawn}
+use Rattle.sa_drawing.specs.declared.text.Drawing.{Drawing}
+use Rattle.sa_drawing.specs.declared.text.NoDrawing.TheVariants as undrawn
+use Rattle.sa_drawing.specs.Drawn.{IsDrawn, IsNotDrawn}
+use Rattle.sa_picture.specs.Request.{part_of}
 
 -- these bytes are the page of the workload and trace of the input
 pub record IsPaged (rules : RulesName) (input text : List ℕ) : Type 0 where
@@ -33,13 +36,20 @@ IsNotPaged input TooMuch = HasTooMuch input
 IsNotPaged input OutOfMemory = ⊤
 IsNotPaged input other = ⊥
 
+-- why nothing is drawn
+abbrev pub HasNoDrawing : Drawing → Request → List ℕ → Status → Type 0
+HasNoDrawing drawing r input (BadTrace bad) = IsNotDrawn drawing (part_of r) input (undrawn.BadTrace bad)
+HasNoDrawing drawing r input TooMuch = IsNotDrawn drawing (part_of r) input undrawn.TooMuch
+HasNoDrawing drawing r input OutOfMemory = ⊤
+HasNoDrawing drawing r input other = ⊥
+
 -- by the form
 abbrev pub written_by : Form → Request → List ℕ → List ℕ → Type 0
-written_by (Drawn drawing) r input text = IsDrawn drawing r input text
+written_by (Drawn drawing) r input text = IsDrawn drawing (part_of r) input text
 written_by (Page rules) r input text = IsPaged rules input text
 
 abbrev pub not_written_by : Form → Request → List ℕ → Status → Type 0
-not_written_by (Drawn drawing) r input status = IsNotDrawn drawing r input status
+not_written_by (Drawn drawing) r input status = HasNoDrawing drawing r input status
 not_written_by (Page rules) r input status = IsNotPaged input status
 
 abbrev pub IsWritten : Request → List ℕ → List ℕ → Type 0

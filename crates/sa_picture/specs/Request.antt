@@ -11,7 +11,8 @@ use Rattle.sa_picture.specs.declared.request.Form.{Form}
 use Rattle.sa_picture.specs.declared.request.Form.TheVariants as form
 use Rattle.sa_picture.specs.declared.request.FormWord.{FormWord}
 use Rattle.sa_picture.specs.declared.request.FormWord.TheVariants.{Svg, Events, Page}
-use Rattle.sa_picture.specs.declared.request.Drawing.TheVariants as drawing
+use Rattle.sa_drawing.specs.declared.text.Drawing.TheVariants as drawing
+use Rattle.sa_drawing.specs.declared.text.Part.{Part}
 use Rattle.sa_picture.specs.declared.request.Request.{Request}
 use Rattle.sa_picture.specs.declared.request.Settings.{Settings}
 
@@ -91,3 +92,7 @@ request_by s = option_and_then (request_in s) (form_by s)
 abbrev pub request_of : List (List ℕ) → Option Request
 request_of words =
     option_and_then request_by (settings_of (record { form = None; rules = None; from = None; to = None; width = None }) words)
+
+-- the part of the trace that a picture shows
+abbrev pub part_of : Request → Part
+part_of r = record { from = r.from; to = r.to; width = r.width }

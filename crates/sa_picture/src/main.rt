@@ -2,11 +2,9 @@
 //! events; or reads a workload and its trace, and writes a page that shows them event by event, as one HTML file.
 #![tactic(auto)]
 
-mod losses;
 mod paged;
 mod request;
 mod status;
-mod text;
 mod top;
 
 use sa_io::{StdSink, StdSource};

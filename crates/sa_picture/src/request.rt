@@ -1,19 +1,11 @@
 // What the program is asked to draw.
 ghost use Rattle.std.specs.Prelude.{◌≡◌, map, string_bytes};
-ghost use Rattle.sa_picture.specs.Request.{set_once, with_option, settings_of, in_order, request_by, request_of, form_in, with_form, with_package, form_by, picture_form, events_form, page_form, is_whole};
+ghost use Rattle.sa_picture.specs.Request.{set_once, with_option, settings_of, in_order, request_by, request_of, form_in, with_form, with_package, form_by, picture_form, events_form, page_form, is_whole, part_of};
 
 use sa_base::{RulesName, read_rules};
+use sa_drawing::{Drawing, Part};
 use sa_svg::{DEFAULT_WIDTH, MAX_WIDTH, MIN_WIDTH};
 use sa_text::read_number;
-
-/// What is made of a trace alone.
-#[derive(Clone, Copy)]
-pub enum Drawing {
-    /// A picture.
-    Picture,
-    /// Trace events.
-    Events,
-}
 
 /// What is written: what is made of a trace alone, or a page of a workload and its trace, by the rules of this package.
 #[derive(Clone, Copy)]
@@ -38,6 +30,19 @@ pub struct Request {
     pub from: Option<u64>,
     pub to: Option<u64>,
     pub width: u64,
+}
+
+impl Request {
+    /// The part of the trace that a picture shows.
+    pub(crate) fn part(self) -> Part
+        ensures { result ≡ part_of self }
+    {
+        Part {
+            from: self.from,
+            to: self.to,
+            width: self.width,
+        }
+    }
 }
 
 /// What the words set.

@@ -90,10 +90,12 @@ operand_word names labels (Semaphore semaphore) = name_at names.semaphores semap
 operand_word names labels (Length events) = decimal events
 operand_word names labels (Page page) = decimal page
 
--- the line of an instruction
+-- an instruction, and its line
+abbrev pub instr_text : NamesView → List Label → Instr → List ℕ
+instr_text names labels i = (form_of (parts_of i).operation).word ++ flat_map (λ o. codes " " ++ operand_word names labels o) (parts_of i).operands
+
 unfoldable pub instr_line : NamesView → List Label → Instr → List ℕ
-instr_line names labels i =
-    codes "    " ++ (form_of (parts_of i).operation).word ++ flat_map (λ o. codes " " ++ operand_word names labels o) (parts_of i).operands ++ codes "\n"
+instr_line names labels i = codes "    " ++ instr_text names labels i ++ codes "\n"
 
 -- the lines of a place: its labels, and its instruction
 abbrev pub place_text : NamesView → List Label → ℕ → Instr → List ℕ
@@ -121,12 +123,16 @@ abbrev pub run_word : Run → List ℕ
 run_word run =
     if run.to - run.from == 1 then decimal run.processor else decimal run.processor ++ codes "*" ++ decimal (run.to - run.from)
 
--- each run, twelve to a line: what begins a line ends the one before it, or is the empty line before the first
-abbrev pub run_text : ℕ → Run → List ℕ
-run_text number run = (if number % 12 == 0 then codes "\nturns " else codes " ") ++ run_word run
+-- each run, twelve to a line, whose lines begin with these bytes: what begins a line ends the one before it
+abbrev pub run_text : List ℕ → ℕ → Run → List ℕ
+run_text indent number run = (if number % 12 == 0 then codes "\n" ++ indent ++ codes "turns " else codes " ") ++ run_word run
+
+-- the end of a line, and behind it the lines of the turns
+abbrev pub schedule_text : List ℕ → List ProcNo → List ℕ
+schedule_text indent turns = with_numbers (run_text indent) (runs_of turns) ++ codes "\n"
 
 unfoldable pub turns_text : List ProcNo → List ℕ
-turns_text turns = if length turns == 0 then [] else with_numbers run_text (runs_of turns) ++ codes "\n"
+turns_text turns = if length turns == 0 then [] else schedule_text [] turns
 
 -- the text that shows a workload with these names
 unfoldable pub show_text : WorkloadView → List NamesView → List ℕ

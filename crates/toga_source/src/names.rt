@@ -34,7 +34,7 @@ impl Name {
     }
 
     /// The bytes of the name of this number, or none where there is no such name.
-    pub(crate) fn at(names: &[Name], number: usize) -> &[u8]
+    pub fn at(names: &[Name], number: usize) -> &[u8]
         ensures { result.now ≡ name_at names.now number }
     {
         match names.get(number) {
@@ -76,8 +76,8 @@ impl ProgramNames {
         ProgramNames { name, labels }
     }
 
-    // The bytes of the name of the program of this number, or none where there is no such program.
-    pub(crate) fn name_at(programs: &[ProgramNames], number: usize) -> &[u8]
+    /// The bytes of the name of the program of this number, or none where there is no such program.
+    pub fn name_at(programs: &[ProgramNames], number: usize) -> &[u8]
         ensures { result.now ≡ program_name programs.now number }
     {
         match programs.get(number) {

@@ -3,7 +3,7 @@ ghost use Rattle.std.specs.Prelude.{◌≡◌, ◌++◌, OnOk, codes, decimal};
 ghost use Rattle.sa_instr.specs.Instr.{reg_number};
 ghost use Rattle.std.specs.List.{flat_map};
 ghost use Rattle.toga_source.specs.Names.{program_name};
-ghost use Rattle.toga_source.specs.Show.{instr_line, label_line, operand_word, place_text, place_word, program_text, with_numbers};
+ghost use Rattle.toga_source.specs.Show.{instr_line, instr_text, label_line, operand_word, place_text, place_word, program_text, with_numbers};
 
 use crate::names::{Label, Name, ProgramNames, SpaceNames};
 use crate::push::push_name_line;
@@ -87,15 +87,27 @@ fn push_instr(
 ) -> Result<(), AllocError>
     ensures { OnOk result (out.new.items ≡ out.old.items ++ instr_line names.now labels.now instr) }
 {
-    let parts = instr.parts();
     out.extend_from_slice(b"    ")?;
-    out.extend_from_slice(parts.operation().form().word)?;
-    push_operands(out, names, labels, parts.operands())?;
+    push_instr_text(out, names, labels, instr)?;
     out.extend_from_slice(b"\n")
 }
 
+/// Appends an instruction, as its line has it, of a program of these labels, in a space of these names.
+pub fn push_instr_text(
+    out: &mut Vec<u8>,
+    names: &SpaceNames,
+    labels: &[Label],
+    instr: Instr,
+) -> Result<(), AllocError>
+    ensures { OnOk result (out.new.items ≡ out.old.items ++ instr_text names.now labels.now instr) }
+{
+    let parts = instr.parts();
+    out.extend_from_slice(parts.operation().form().word)?;
+    push_operands(out, names, labels, parts.operands())
+}
+
 // Appends each operand after a space.
-fn push_operands(
+pub(crate) fn push_operands(
     out: &mut Vec<u8>,
     names: &SpaceNames,
     labels: &[Label],

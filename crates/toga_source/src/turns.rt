@@ -1,7 +1,7 @@
 // The turns, as runs of turns of one processor.
 ghost use Rattle.std.specs.Prelude.{◌≡◌, ◌++◌, ◌<◌, ◌^◌, IfOk, OnOk};
 ghost use Rattle.toga_source.specs.Runs.{joined, runs_of, with_turn};
-ghost use Rattle.toga_source.specs.Show.{run_text, run_word, turns_text, with_numbers};
+ghost use Rattle.toga_source.specs.Show.{run_text, run_word, schedule_text, turns_text, with_numbers};
 
 use sa_base::ProcNo;
 use sa_text::print_number;
@@ -18,7 +18,7 @@ pub struct Run {
     pub to: usize,
 }
 
-/// Appends the lines of the turns, where there are any, after an empty line.
+/// Appends the lines of the turns, if there are any, after an empty line.
 #[tactic(auto, unfolding(crate::specs::Show::turns_text))]
 pub(crate) fn push_turns(
     out: &mut Vec<u8>,
@@ -30,8 +30,20 @@ pub(crate) fn push_turns(
     if turns.len() == 0 {
         return Ok(());
     }
+    push_schedule(out, alloc, b"", turns)
+}
+
+/// Ends a line, and appends the lines of the turns, each after these bytes. Fails only if memory runs out.
+pub fn push_schedule(
+    out: &mut Vec<u8>,
+    alloc: Global,
+    indent: &[u8],
+    turns: &[ProcNo],
+) -> Result<(), AllocError>
+    ensures { OnOk result (out.new.items ≡ out.old.items ++ schedule_text indent.now turns.now) }
+{
     let runs = runs_of(alloc, turns)?;
-    push_runs(out, &runs)?;
+    push_runs(out, indent, &runs)?;
     out.extend_from_slice(b"\n")
 }
 
@@ -83,21 +95,23 @@ fn push_joined(
 }
 
 // Appends the runs, twelve to a line.
-fn push_runs(out: &mut Vec<u8>, runs: &[Run]) -> Result<(), AllocError>
-    ensures { OnOk result (out.new.items ≡ out.old.items ++ with_numbers run_text runs.now) }
+fn push_runs(out: &mut Vec<u8>, indent: &[u8], runs: &[Run]) -> Result<(), AllocError>
+    ensures { OnOk result (out.new.items ≡ out.old.items ++ with_numbers (run_text indent.now) runs.now) }
 {
     for (number, run) in runs.iter().enumerate() {
-        push_run(out, number, *run)?;
+        push_run(out, indent, number, *run)?;
     }
     Ok(())
 }
 
 // Appends the run of this number, and before it what begins a line or a word.
-fn push_run(out: &mut Vec<u8>, number: usize, run: Run) -> Result<(), AllocError>
-    ensures { OnOk result (out.new.items ≡ out.old.items ++ run_text number run) }
+fn push_run(out: &mut Vec<u8>, indent: &[u8], number: usize, run: Run) -> Result<(), AllocError>
+    ensures { OnOk result (out.new.items ≡ out.old.items ++ run_text indent.now number run) }
 {
     if number % 12 == 0 {
-        out.extend_from_slice(b"\nturns ")?;
+        out.extend_from_slice(b"\n")?;
+        out.extend_from_slice(indent)?;
+        out.extend_from_slice(b"turns ")?;
     } else {
         out.extend_from_slice(b" ")?;
     }

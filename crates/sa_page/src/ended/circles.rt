@@ -1,13 +1,13 @@
 // The circles of threads that wait for one another.
-ghost use Rattle.std.specs.Prelude.{◌≡◌, ◌++◌, find, length, OnOk, IfOk};
+ghost use Rattle.std.specs.Prelude.{◌≡◌, ◌++◌, OnOk};
 ghost use Rattle.std.specs.List.{flat_map};
-ghost use Rattle.std.specs.Option.{option_map};
-ghost use Rattle.sa_page.specs.Ended.{awaited_thread, is_of, awaited_of, next_of, rest_from, spaced, awaiting, circle_line, circle_start, circle_return, circle_words, circle_if, circle_said};
+ghost use Rattle.sa_page.specs.Ended.{spaced, awaiting, circle_line, circle_start, circle_return, circle_words, circle_if, circle_said};
 
 use crate::ended::waits::push_number;
 use sa_base::SpaceNo;
+use sa_circles::circle_of;
 use sa_text::print_number;
-use sa_waits::{Awaited, Wait};
+use sa_waits::Wait;
 use std::alloc::{AllocError, Global};
 
 /// Appends each circle among threads that wait, once.
@@ -33,75 +33,9 @@ fn push_circle(
 ) -> Result<(), AllocError>
     ensures { OnOk result (out.new.items ≡ out.old.items ++ circle_said waits.now wait.now) }
 {
-    match rest_of(alloc, waits, wait.space, wait.thread.0)? {
+    match circle_of(alloc, waits, wait)? {
         None => Ok(()),
         Some(rest) => push_found(out, wait, &rest),
-    }
-}
-
-// The others of the circle of which this thread is the least, in their order.
-fn rest_of(
-    alloc: Global,
-    waits: &[Wait],
-    s: SpaceNo,
-    home: u16,
-) -> Result<Option<Vec<u16>>, AllocError>
-    ensures { IfOk result (λ found. option_map (λ rest. rest.items) found
-        ≡ rest_from (next_of waits.now s) home home (length waits.now)) }
-{
-    let mut rest = Vec::new(alloc);
-    let mut t = home;
-    for _step in 0..waits.len() {
-        let Some(u) = next_of(waits, s, t) else {
-            return Ok(None);
-        };
-        if u == home {
-            return Ok(Some(rest));
-        }
-        if u < home {
-            return Ok(None);
-        }
-        rest.push(u)?;
-        t = u;
-    }
-    Ok(None)
-}
-
-// The thread that this one waits for.
-fn next_of(waits: &[Wait], s: SpaceNo, t: u16) -> Option<u16>
-    ensures { result ≡ next_of waits.now s t }
-{
-    awaited_of(wait_of(waits, s, t))
-}
-
-// What this thread waits for, if it waits.
-fn wait_of(waits: &[Wait], s: SpaceNo, t: u16) -> Option<Wait>
-    ensures { result ≡ find (is_of s t) waits.now }
-{
-    waits.iter().copied().find(|wait| is_of(s, t, wait))
-}
-
-fn is_of(s: SpaceNo, t: u16, wait: &Wait) -> bool
-    ensures { result ≡ is_of s t wait.now }
-{
-    wait.space.0 == s.0 && wait.thread.0 == t
-}
-
-fn awaited_of(wait: Option<Wait>) -> Option<u16>
-    ensures { result ≡ awaited_of wait }
-{
-    match wait {
-        None => None,
-        Some(wait) => awaited_thread(wait.awaits),
-    }
-}
-
-fn awaited_thread(awaits: Awaited) -> Option<u16>
-    ensures { result ≡ awaited_thread awaits }
-{
-    match awaits {
-        Awaited::Mutex(_, t) | Awaited::Thread(t) => Some(t.0),
-        Awaited::Semaphore(_) => None,
     }
 }
 

@@ -1,0 +1,4 @@
+pub mod Tables
+pub mod Topic
+pub mod Explain
+pub mod Laws
