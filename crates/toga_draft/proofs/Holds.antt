@@ -1,13 +1,13 @@
 -- What holds after each line, and so of a whole draft.
 use Rattle.std.proofs.Common.{◌≡◌, ℕ, ◌+◌, ◌-◌, ◌<◌, ◌≤◌, Bool, true, false, cond, List, [], ◌∷◌, ◌++◌, length, Option, Some, None, Result, Ok, Err, replicate, refl, sym, ap, subst, ◌∙◌, arith, length-append}
 use Rattle.std.proofs.lemmas.List.{length-replicate}
-use Rattle.std.specs.Prelude.{IfOk, IfSome, nat_lt, ◌||◌, All, codes, sum_by}
+use Rattle.std.specs.Prelude.{IfOk, nat_lt, ◌||◌, All, codes, sum_by}
 use Rattle.std.specs.Option.{option_map}
 use Rattle.std.proofs.lemmas.List.Elements.{All-append, All-nil, All-push, All-replicate}
 use Rattle.std.proofs.lemmas.List.Sums.{sum_by_push}
-use Rattle.sa_base.specs.declared.limits.TheConstants.{MAX_PROCESSORS, MAX_SPACES}
+use Rattle.sa_base.specs.declared.limits.TheConstants.{MAX_SPACES}
 use Rattle.sa_base.specs.declared.number.ProcNo.{ProcNo}
-use Rattle.sa_instr.specs.declared.limits.TheConstants.{LAST_PAGE, MAX_EVICTIONS, MAX_FETCH, MAX_INSTRUCTIONS, MAX_PROGRAMS, MAX_SLICE, MAX_START, MAX_TURNS}
+use Rattle.sa_instr.specs.declared.limits.TheConstants.{LAST_PAGE, MAX_FETCH, MAX_PROGRAMS, MAX_SLICE, MAX_START, MAX_TURNS}
 use Rattle.sa_instr.specs.declared.operation.Operation.{Operation}
 use Rattle.sa_text.specs.declared.line_reader.Line.{Line}
 use Rattle.sa_text.specs.Line.{lines_of, text_of_line}
@@ -15,14 +15,11 @@ use Rattle.toga_lines.specs.Content.{content_of}
 use Rattle.toga_diagnostic.specs.declared.cause.About.{About}
 use Rattle.toga_diagnostic.specs.declared.cause.Cause.{Cause}
 use Rattle.toga_diagnostic.specs.declared.cause.Cause.TheVariants as cause
-use Rattle.toga_diagnostic.specs.declared.cause.Fault.{Fault}
 use Rattle.toga_diagnostic.specs.declared.cause.Kind.TheVariants as kind
 use Rattle.toga_diagnostic.specs.declared.cause.Next.TheVariants as next
 use Rattle.toga_diagnostic.specs.declared.cause.Stage.{Stage}
 use Rattle.toga_diagnostic.specs.declared.cause.Stage.TheVariants as stage
 use Rattle.toga_diagnostic.specs.Text.{is_label}
-use Rattle.toga_draft.specs.declared.draft.EvictDraft.{EvictDraft}
-use Rattle.toga_draft.specs.declared.draft.InstrDraft.{InstrDraft}
 use Rattle.toga_draft.specs.declared.draft.LabelDraft.{LabelDraft}
 use Rattle.toga_draft.specs.declared.draft.Setting.{Setting}
 use Rattle.toga_draft.specs.declared.first.Declaration.{Declaration}
@@ -34,17 +31,17 @@ use Rattle.toga_draft.specs.declared.first.SettingWord.TheVariants as setting
 use Rattle.toga_draft.specs.declared.reader.TheConstants.{FETCH, PROCESSORS, SLICE}
 use Rattle.toga_draft.specs.declared.unread.Unread.{Unread}
 use Rattle.toga_draft.specs.declared.word.Word.{Word}
-use Rattle.toga_draft.specs.Declarations.{at_most, declare, new_name, set_once}
+use Rattle.toga_draft.specs.Declarations.{at_most, declare, set_once}
 use Rattle.toga_draft.specs.Draft.{DraftView, ProgramDraftView, SpaceDraftView, value_or}
-use Rattle.toga_draft.specs.First.{declaration_misplaced, first_of, instr_misplaced, misplaced, opening_misplaced, setting_misplaced, turns_misplaced}
+use Rattle.toga_draft.specs.First.{declaration_misplaced, first_of, misplaced, opening_misplaced, setting_misplaced, turns_misplaced}
 use Rattle.toga_draft.specs.Lines.{after_label_by, declare_in, draft_from, draft_of, end_of_lines, end_program, end_program_at, end_space, end_space_at, is_beyond, label_at, new_program, new_space, one_more, opened, opened_at, read_after_label, read_by, read_declaration, read_first, read_instr, read_label, read_line, read_line_of, read_program, read_setting, read_space, read_turns, read_words, too_long, unless_empty, unless_misplaced, with_program, with_space}
-use Rattle.toga_draft.specs.Operands.{add_turn, processor_limit, times_limit, turn_of, turns_unless}
+use Rattle.toga_draft.specs.Operands.{add_turn, turn_of, turns_unless}
 use Rattle.toga_draft.specs.Programs.{add_instr, add_label, whole_program}
 use Rattle.toga_draft.specs.Reader.{IsReady}
 use Rattle.toga_draft.specs.Reading.{◌>>=◌, Gives, in_turn}
 use Rattle.toga_draft.specs.State.{State, program_from, space_from, start}
 use Rattle.toga_draft.specs.Whole.{IsDraft, IsEvictDraft, IsInstrDraft, IsProgramDraft, IsSpaceDraft}
-use Rattle.toga_draft.specs.Words.{count_words, nth, no_word, some_words, words_in}
+use Rattle.toga_draft.specs.Words.{no_word, some_words, words_in}
 use Rattle.toga_draft.proofs.Ready.{after, same-ok, past, at-most-room, set-within, ready-end_program, ready-line_of, start-ready}
 use Rattle.toga_draft.proofs.Parts.{turn-keeps, IsOpenProgram, IsOpenSpace, declared-space, declared-rest, instr-added, label-added, program-ended, space-ended, value-within}
 

@@ -1,11 +1,10 @@
 -- What holds of the parts of a draft while its lines are read.
-use Rattle.std.proofs.Common.{◌≡◌, ℕ, ◌+◌, ◌-◌, ◌<◌, ◌≤◌, ◌^◌, Bool, true, false, cond, eqb, List, [], ◌∷◌, ◌++◌, length, Option, Some, None, Result, Ok, Err, find, refl, sym, ap, subst, ◌∙◌, arith, length-append}
+use Rattle.std.proofs.Common.{◌≡◌, ℕ, ◌+◌, ◌-◌, ◌<◌, ◌≤◌, Bool, true, false, cond, List, [], ◌∷◌, ◌++◌, length, Option, Some, None, Result, Ok, Err, find, refl, ap, subst, ◌∙◌, arith, length-append}
 use Rattle.std.specs.Prelude.{IfSome, slice_get, ◌==◌, All}
 use Rattle.std.specs.List.{list_any}
 use Rattle.std.specs.Option.{option_map}
 use Rattle.std.proofs.lemmas.Bool.{false≢true}
 use Rattle.std.proofs.lemmas.List.Elements.{All-cons, All-head, All-nil, All-push, All-tail, All-weaker}
-use Rattle.sa_base.specs.declared.limits.TheConstants.{MAX_EVENTS}
 use Rattle.sa_instr.specs.declared.limits.TheConstants.{LAST_PAGE, MAX_CELLS, MAX_EVICTIONS, MAX_INSTRUCTIONS, MAX_MUTEXES, MAX_PATIENCE, MAX_PRIORITY, MAX_PROGRAMS, MAX_SEMAPHORES, MAX_START}
 use Rattle.sa_instr.specs.declared.instr.Reg.{Reg}
 use Rattle.sa_instr.specs.declared.operand.Operand.TheVariants as operand
@@ -37,8 +36,8 @@ use Rattle.toga_draft.specs.Declarations.{add_cell, add_eviction, add_mutex, add
 use Rattle.toga_draft.specs.Draft.{ProgramDraftView, SpaceDraftView, value_or}
 use Rattle.toga_draft.specs.Lines.{one_more}
 use Rattle.toga_draft.specs.Operands.{nth_operand, named_in, number_in, numbered_unless, operand_in, register_of, register_unless}
-use Rattle.toga_draft.specs.Programs.{add_instr, add_label, ends, instr_in, is_end, label_line, label_unless, next_after, unless_alone, unless_end, whole_program}
-use Rattle.toga_draft.specs.Reading.{◌>>=◌, in_turn}
+use Rattle.toga_draft.specs.Programs.{add_instr, add_label, ends, instr_in, is_end, label_line, label_unless, next_after, unless_alone, whole_program}
+use Rattle.toga_draft.specs.Reading.{in_turn}
 use Rattle.toga_draft.specs.Whole.{kinds_of, named_kinds, IsOperandDraft, IsInstrDraft, IsProgramDraft, IsEvictDraft, IsSpaceDraft}
 use Rattle.toga_draft.specs.Words.{about, count_words, nth, some_words, without_colon}
 use Rattle.toga_draft.proofs.Ready.{after, same-ok, is-allowed, number-within, at-most-room, set-within}

@@ -1,14 +1,11 @@
 -- The places of words lie within their line.
-use Rattle.std.proofs.Common.{◌≡◌, ℕ, ◌+◌, ◌-◌, ◌<◌, ◌≤◌, ◌^◌, Bool, true, false, cond, eqb, leb, List, [], ◌∷◌, ◌++◌, length, get_or, take, map, Option, Some, None, refl, sym, ap, subst, ◌∙◌, arith}
+use Rattle.std.proofs.Common.{◌≡◌, ℕ, ◌+◌, ◌-◌, ◌<◌, ◌≤◌, Bool, true, false, cond, List, [], ◌∷◌, ◌++◌, length, get_or, take, Option, Some, None, refl, sym, subst, arith}
 use Rattle.std.specs.Prelude.{IfSome, slice_get, slice_range, nat_le, ◌==◌, ◌&&◌, zero, suc}
 use Rattle.std.specs.List.{All, fold, enumerate_from}
-use Rattle.std.proofs.lemmas.List.{take_all, take_more, map-append}
 use Rattle.std.proofs.lemmas.List.Edits.{length-between}
-use Rattle.std.proofs.lemmas.List.Elements.{All-append, All-cons, All-nil, All-head, All-tail, All-take, All-weaker, All-get_or}
+use Rattle.std.proofs.lemmas.List.Elements.{All-append, All-cons, All-nil, All-head, All-tail, All-take, All-get_or}
 use Rattle.toga_lines.specs.declared.words.Place.{Place}
 use Rattle.toga_lines.specs.Words.{is_blank, joined, places_of, with_byte, word_at, word_from}
-use Rattle.toga_draft.specs.declared.word.Word.{Word}
-use Rattle.toga_draft.specs.Words.{word_in, words_of}
 
 abbrev Within : ℕ → Place → Type 0
 Within n p = (p.from ≤ n) × (p.to ≤ n)

@@ -1,5 +1,5 @@
 -- Each line leaves a reader ready for the next.
-use Rattle.std.proofs.Common.{◌≡◌, ℕ, ◌+◌, ◌-◌, ◌<◌, ◌≤◌, Bool, true, false, cond, ltb, List, [], ◌∷◌, ◌++◌, length, Option, Some, None, Result, Ok, Err, refl, sym, ap, subst, ◌∙◌, arith, length-append}
+use Rattle.std.proofs.Common.{◌≡◌, ℕ, ◌-◌, ◌<◌, ◌≤◌, Bool, true, false, cond, List, [], ◌∷◌, length, Option, Some, None, Result, Ok, Err, refl, sym, ap, subst, arith, length-append}
 use Rattle.std.specs.Prelude.{IfSome, nat_lt, ◌||◌}
 use Rattle.sa_base.specs.declared.limits.TheConstants.{MAX_PROCESSORS}
 use Rattle.sa_instr.specs.declared.limits.TheConstants.{MAX_EVICTIONS, MAX_INSTRUCTIONS}
@@ -10,7 +10,6 @@ use Rattle.sa_text.specs.Number.{number_of}
 use Rattle.toga_lines.specs.Content.{content_of}
 use Rattle.toga_lines.specs.Names.{is_name}
 use Rattle.toga_diagnostic.specs.declared.cause.About.TheVariants as about_word
-use Rattle.toga_diagnostic.specs.declared.cause.Cause.{Cause}
 use Rattle.toga_diagnostic.specs.declared.cause.Fault.{Fault}
 use Rattle.toga_diagnostic.specs.declared.cause.Kind.{Kind}
 use Rattle.toga_diagnostic.specs.declared.cause.Kind.TheVariants as kind
@@ -31,16 +30,16 @@ use Rattle.toga_draft.specs.declared.first.SettingWord.{SettingWord}
 use Rattle.toga_draft.specs.declared.first.SettingWord.TheVariants as setting
 use Rattle.toga_draft.specs.declared.reader.TheConstants.{FETCH, PROCESSORS, SLICE}
 use Rattle.toga_draft.specs.declared.word.Word.{Word}
-use Rattle.toga_draft.specs.Declarations.{after_evict, add_eviction, at_in, at_most, declare, new_eviction, set_once, set_unless}
+use Rattle.toga_draft.specs.Declarations.{after_evict, add_eviction, at_in, at_most, declare, new_eviction, set_once}
 use Rattle.toga_draft.specs.Draft.{ProgramDraftView, SpaceDraftView, value_or}
 use Rattle.toga_draft.specs.First.{first_of, misplaced}
-use Rattle.toga_draft.specs.Lines.{after_label_by, declare_in, end_program, end_program_at, end_space, end_space_at, is_beyond, label_at, new_program, new_space, one_more, opened, opened_at, read_after_label, read_by, read_declaration, read_first, read_instr, read_label, read_line, read_line_of, read_program, read_setting, read_space, read_turns, read_words, too_long, unless_misplaced, with_program, with_space}
+use Rattle.toga_draft.specs.Lines.{after_label_by, declare_in, end_program, end_program_at, end_space, end_space_at, is_beyond, label_at, new_program, new_space, one_more, opened, opened_at, read_after_label, read_by, read_declaration, read_first, read_instr, read_label, read_line, read_line_of, read_program, read_setting, read_space, read_turns, read_words, too_long, unless_misplaced, with_space}
 use Rattle.toga_draft.specs.Operands.{add_turn, number_in, number_unless}
 use Rattle.toga_draft.specs.Programs.{add_instr, add_label, instr_in, label_line, label_unless, whole_program}
 use Rattle.toga_draft.specs.Reader.{IsReady}
 use Rattle.toga_draft.specs.Reading.{◌>>=◌, in_turn}
-use Rattle.toga_draft.specs.State.{State, program_from, space_from, start}
-use Rattle.toga_draft.specs.Words.{about, count_words, fault_at, nth, some_words, without_colon, words_in}
+use Rattle.toga_draft.specs.State.{State, start}
+use Rattle.toga_draft.specs.Words.{about, count_words, nth, some_words, without_colon, words_in}
 
 -- a step that succeeds, and what follows it
 pub after : {A B : Type 0} (r : Result A Fault) (f : A → Result B Fault) (b : B) (G : Type 0)
@@ -263,8 +262,8 @@ ready-by line word operands first.Space s t h e = ready-space line word operands
 ready-by line word operands first.Program s t h e = ready-program line word operands s t h e
 ready-by line word operands first.Turns s t h e = ready-turns line word operands s t h e
 ready-by line word operands (first.Instr o) s t h e = ready-instr line o word operands s t h e
-ready-by line word operands first.Workload s t h e = subst IsReady (same-ok _ _ e) h
-ready-by line word operands first.Unknown s t h e = subst IsReady (same-ok _ _ e) h
+ready-by line word operands first.Workload s t h e = absurd cc
+ready-by line word operands first.Unknown s t h e = absurd cc
 
 ready-first : (line : ℕ) (word : Word) (operands : List Word) (f : First) (s t : State) → IsReady s → read_first line word operands f s ≡ Ok t → IsReady t
 unfolding read_first

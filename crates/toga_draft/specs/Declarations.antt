@@ -1,10 +1,9 @@
 -- The lines that say something of a space, before its first program.
-use Rattle.std.specs.Prelude.{ℕ, ◌+◌, ◌-◌, Bool, ◌&&◌, ◌==◌, nat_lt, if◌then◌else◌, List, [], ◌∷◌, ◌++◌, codes, length, find, Option, Some, None, Result, Ok, Err}
+use Rattle.std.specs.Prelude.{ℕ, Bool, ◌&&◌, ◌==◌, nat_lt, if◌then◌else◌, List, [], ◌∷◌, ◌++◌, codes, length, find, Option, Some, None, Result, Ok}
 use Rattle.std.specs.List.{list_any}
 use Rattle.std.specs.Option.{option_map}
 use Rattle.std.specs.Str.{bytes_eq}
 use Rattle.sa_instr.specs.declared.limits.TheConstants.{MAX_CELLS, MAX_EVICTIONS, MAX_MUTEXES, MAX_SEMAPHORES}
-use Rattle.toga_lines.specs.Names.{is_name}
 use Rattle.toga_diagnostic.specs.declared.cause.About.TheVariants as about_word
 use Rattle.toga_diagnostic.specs.declared.cause.Cause.TheVariants as cause
 use Rattle.toga_diagnostic.specs.declared.cause.Fault.{Fault}

@@ -11,7 +11,6 @@ use Rattle.toga_diagnostic.specs.declared.cause.Cause.{Cause}
 use Rattle.toga_diagnostic.specs.declared.cause.Cause.TheVariants as cause
 use Rattle.toga_diagnostic.specs.declared.cause.Stage.{Stage}
 use Rattle.toga_diagnostic.specs.declared.cause.Stage.TheVariants as stage
-use Rattle.toga_diagnostic.specs.declared.cause.Wanted.TheVariants as wanted
 use Rattle.toga_draft.specs.declared.first.SettingWord.{SettingWord}
 use Rattle.toga_draft.specs.declared.first.SettingWord.TheVariants as setting
 use Rattle.toga_draft.specs.declared.first.Declaration.{Declaration}
@@ -90,5 +89,5 @@ misplaced first.Space at = option_map cause.About (opening_misplaced at)
 misplaced first.Program at = option_map cause.About (opening_misplaced at)
 misplaced first.Turns at = option_map cause.About (turns_misplaced at)
 misplaced (first.Instr o) at = option_map cause.About (instr_misplaced at)
-misplaced first.Workload at = Some (cause.About about.Plain)
-misplaced first.Unknown at = Some (cause.Wanted (wanted.First at))
+misplaced first.Workload at = None
+misplaced first.Unknown at = None

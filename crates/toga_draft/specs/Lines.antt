@@ -1,5 +1,5 @@
 -- What each line of a source says, after those before it; and the draft of a whole source.
-use Rattle.std.specs.Prelude.{ℕ, ◌+◌, ◌-◌, ◌==◌, Bool, true, false, ◌&&◌, ◌||◌, not, nat_lt, if◌then◌else◌, List, [], ◌∷◌, ◌++◌, length, find, Option, Some, None, Result, Ok, Err}
+use Rattle.std.specs.Prelude.{ℕ, ◌+◌, ◌-◌, ◌==◌, Bool, ◌&&◌, ◌||◌, nat_lt, if◌then◌else◌, List, [], ◌∷◌, ◌++◌, length, find, Option, Some, None, Result, Ok, Err}
 use Rattle.std.specs.Option.{option_map}
 use Rattle.std.specs.Str.{bytes_eq}
 use Rattle.sa_base.specs.declared.limits.TheConstants.{MAX_SPACES}
@@ -18,6 +18,7 @@ use Rattle.toga_diagnostic.specs.declared.cause.Part.TheVariants as part
 use Rattle.toga_diagnostic.specs.declared.cause.Stage.{Stage}
 use Rattle.toga_diagnostic.specs.declared.cause.Stage.TheVariants as stage
 use Rattle.toga_diagnostic.specs.declared.cause.Twice.TheVariants as twice
+use Rattle.toga_diagnostic.specs.declared.cause.Wanted.TheVariants as wanted
 use Rattle.toga_diagnostic.specs.Text.{is_label}
 use Rattle.toga_draft.specs.declared.first.Declaration.{Declaration}
 use Rattle.toga_draft.specs.declared.first.Declaration.TheVariants as declaration
@@ -150,8 +151,8 @@ read_by line word operands first.Space s = read_space line word operands s
 read_by line word operands first.Program s = read_program line word operands s
 read_by line word operands first.Turns s = read_turns line word operands s
 read_by line word operands (first.Instr o) s = read_instr line o word operands s
-read_by line word operands first.Workload s = Ok s
-read_by line word operands first.Unknown s = Ok s
+read_by line word operands first.Workload s = about line word about_word.Plain
+read_by line word operands first.Unknown s = refused line word (cause.Wanted (wanted.First s.stage))
 
 abbrev pub unless_misplaced : ℕ → Word → Option Cause → Result (Unit {0}) Fault
 unless_misplaced line word (Some c) = refused line word c

@@ -1,5 +1,5 @@
 -- The lines of a program, and its end.
-use Rattle.std.specs.Prelude.{ℕ, ◌+◌, ◌-◌, ◌==◌, Bool, true, false, nat_lt, if◌then◌else◌, List, [], ◌∷◌, ◌++◌, length, find, slice_get, Option, Some, None, Result, Ok, Err}
+use Rattle.std.specs.Prelude.{ℕ, ◌-◌, ◌==◌, Bool, true, false, if◌then◌else◌, List, [], ◌∷◌, ◌++◌, length, find, slice_get, Option, Some, None, Result, Ok, Err}
 use Rattle.std.specs.Option.{option_map, unwrap_or}
 use Rattle.std.specs.Str.{bytes_eq}
 use Rattle.sa_instr.specs.declared.limits.TheConstants.{MAX_INSTRUCTIONS}
@@ -23,7 +23,7 @@ use Rattle.toga_draft.specs.Declarations.{at_most}
 use Rattle.toga_draft.specs.Draft.{ProgramDraftView}
 use Rattle.toga_draft.specs.Operands.{next_of, nth_operand}
 use Rattle.toga_draft.specs.Reading.{◌>>=◌}
-use Rattle.toga_draft.specs.Words.{fault_at, refused, about, count_words, without_colon}
+use Rattle.toga_draft.specs.Words.{refused, about, count_words, without_colon}
 
 -- a label, at the place of the next instruction
 abbrev pub label_line : List LabelDraft → List ℕ → Option ℕ

@@ -1,5 +1,5 @@
 -- What a reader has read. Private functions cite this; no public clause does.
-use Rattle.std.specs.Prelude.{ℕ, ◌≤◌, length}
+use Rattle.std.specs.Prelude.{◌≤◌, length}
 use Rattle.sa_base.specs.declared.limits.TheConstants.{MAX_PROCESSORS}
 use Rattle.sa_instr.specs.declared.limits.TheConstants.{MAX_EVICTIONS, MAX_INSTRUCTIONS}
 use Rattle.toga_draft.specs.declared.reader.Reader.{Reader}

@@ -1,5 +1,5 @@
 -- What has been read of a source after some of its lines.
-use Rattle.std.specs.Prelude.{ℕ, ◌+◌, List, [], ◌∷◌, codes, Option, None}
+use Rattle.std.specs.Prelude.{ℕ, List, [], codes, Option, None}
 use Rattle.sa_base.specs.declared.number.ProcNo.{ProcNo}
 use Rattle.toga_diagnostic.specs.declared.cause.Stage.{Stage}
 use Rattle.toga_diagnostic.specs.declared.cause.Stage.TheVariants as stage

@@ -1,5 +1,5 @@
 -- What holds of each draft that was read to its end: its numbers are in their ranges, and its operands fit.
-use Rattle.std.specs.Prelude.{◌≡◌, ℕ, ◌^◌, ◌<◌, ◌≤◌, ◌-◌, List, [], ◌∷◌, ◌++◌, length, slice_get, All, Some, sum_by}
+use Rattle.std.specs.Prelude.{◌≡◌, ◌^◌, ◌<◌, ◌≤◌, ◌-◌, List, [], ◌∷◌, ◌++◌, length, slice_get, All, Some, sum_by}
 use Rattle.std.specs.Option.{option_map}
 use Rattle.sa_base.specs.declared.limits.TheConstants.{FIRST_THREAD_PAGE, MAX_EVENTS, MAX_PROCESSORS, MAX_SPACES}
 use Rattle.sa_instr.specs.declared.limits.TheConstants.{LAST_PAGE, MAX_CELLS, MAX_EVICTIONS, MAX_FETCH, MAX_INSTRUCTIONS, MAX_IO_LENGTH, MAX_MUTEXES, MAX_PATIENCE, MAX_PRIORITY, MAX_PROGRAMS, MAX_SEMAPHORES, MAX_SLICE, MAX_START, MAX_TURNS}
@@ -11,7 +11,7 @@ use Rattle.sa_instr.specs.declared.operation.Operation.TheVariants.{End}
 use Rattle.sa_instr.specs.Operand.{kind_of}
 use Rattle.sa_instr.specs.Operation.{form_of}
 use Rattle.toga_diagnostic.specs.declared.cause.Kind.{Kind}
-use Rattle.toga_diagnostic.specs.declared.cause.Kind.TheVariants.{Space, Mutex, Semaphore, Cell, Program, Label, Instruction, Eviction}
+use Rattle.toga_diagnostic.specs.declared.cause.Kind.TheVariants.{Mutex, Semaphore, Cell, Program, Label}
 use Rattle.toga_draft.specs.declared.draft.OperandDraft.{OperandDraft}
 use Rattle.toga_draft.specs.declared.draft.OperandDraft.TheVariants.{None, Known, Named, Numbered}
 use Rattle.toga_draft.specs.declared.draft.InstrDraft.{InstrDraft}

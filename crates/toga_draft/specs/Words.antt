@@ -1,5 +1,5 @@
 -- The words of a line, and the faults that are about a word.
-use Rattle.std.specs.Prelude.{ℕ, ◌+◌, ◌-◌, Bool, not, nat_lt, if◌then◌else◌, List, [], ◌∷◌, length, map, position, take, slice_index, slice_index_or, Option, Some, None, Result, Ok, Err}
+use Rattle.std.specs.Prelude.{ℕ, ◌+◌, ◌-◌, not, nat_lt, if◌then◌else◌, List, [], ◌∷◌, length, map, position, take, slice_index, slice_index_or, Option, Some, None, Result, Ok, Err}
 use Rattle.toga_lines.specs.declared.words.Place.{Place}
 use Rattle.toga_lines.specs.Content.{is_plain}
 use Rattle.toga_lines.specs.Words.{places_of, word_at}

@@ -4,7 +4,7 @@ ghost use Rattle.sa_instr.specs.Operation.{operation_of};
 ghost use Rattle.toga_draft.specs.First.{declaration_misplaced, declaration_of, first_of, instr_misplaced, misplaced, opening_misplaced, other_of, setting_misplaced, setting_of, turns_misplaced};
 
 use sa_instr::Operation;
-use toga_diagnostic::{About, Cause, Stage, Wanted};
+use toga_diagnostic::{About, Cause, Stage};
 
 /// A number of the machine, which is set once.
 #[derive(Clone, Copy)]
@@ -143,8 +143,7 @@ pub(crate) fn misplaced(first: First, stage: Stage) -> Option<Cause>
         First::Program => opening_misplaced(stage),
         First::Turns => turns_misplaced(stage),
         First::Instr(_) => instr_misplaced(stage),
-        First::Workload => Some(About::Plain),
-        First::Unknown => return Some(Cause::Wanted(Wanted::First(stage))),
+        First::Workload | First::Unknown => None,
     };
     match about {
         Some(about) => Some(Cause::About(about)),

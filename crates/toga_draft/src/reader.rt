@@ -1,15 +1,14 @@
 // The lines of a source, one after another.
-ghost use Rattle.std.specs.Prelude.{◌≡◌, ◌≤◌, ◌-◌, IfOk, length, ◌<◌};
+ghost use Rattle.std.specs.Prelude.{◌≡◌, ◌≤◌, ◌<◌, IfOk};
 ghost use Rattle.sa_instr.specs.declared.limits.TheConstants.{MAX_EVICTIONS};
 ghost use Rattle.sa_text.specs.Line.{IsWithin, lines_of};
 ghost use Rattle.toga_diagnostic.specs.Text.{is_label};
-ghost use Rattle.toga_draft.specs.Draft.{value_or};
-ghost use Rattle.toga_draft.specs.Reading.{Gives, Leaves, in_turn};
+ghost use Rattle.toga_draft.specs.Lines.{declare_in, draft_of, empty, end_of_lines, end_program, end_space, is_beyond, new_program, new_space, no_program, one_more, opened, read_after_label, read_by, read_declaration, read_first, read_instr, read_label, read_line, read_line_of, read_program, read_setting, read_space, read_turns, read_words, space_line, too_long, unless_space};
 ghost use Rattle.toga_draft.specs.Operands.{add_turn};
+ghost use Rattle.toga_draft.specs.Reader.{IsReady, state_of};
+ghost use Rattle.toga_draft.specs.Reading.{Gives, Leaves, in_turn};
 ghost use Rattle.toga_draft.specs.State.{start};
 ghost use Rattle.toga_draft.specs.Whole.{IsDraft};
-ghost use Rattle.toga_draft.specs.Reader.{IsReady, state_of};
-ghost use Rattle.toga_draft.specs.Lines.{declare_in, draft_of, end_of_lines, end_program, end_space, is_beyond, new_program, new_space, one_more, opened, read_after_label, read_by, read_declaration, read_first, read_instr, read_label, read_line, read_line_of, read_program, read_setting, read_space, read_turns, read_words, space_line, too_long, unless_space, empty, no_program};
 
 use crate::declarations::{at_most, declare, new_name, set_once};
 use crate::draft::{Draft, ProgramDraft, Setting, SpaceDraft};
@@ -23,7 +22,7 @@ use sa_instr::{MAX_FETCH, MAX_PROGRAMS, MAX_SLICE, Operation};
 use sa_text::{Line, Lines};
 use std::alloc::{AllocError, Global};
 use std::mem;
-use toga_diagnostic::{About, Cause, Fault, Kind, Limit, Next, Part, Stage, Twice, What};
+use toga_diagnostic::{About, Cause, Fault, Kind, Limit, Next, Part, Stage, Twice, Wanted, What};
 use toga_lines::content_of;
 use toga_source::Name;
 
@@ -231,7 +230,11 @@ impl Reader {
             First::Program => self.read_program(line, word, operands),
             First::Turns => self.read_turns(line, word, operands),
             First::Instr(operation) => self.read_instr(line, operation, word, operands),
-            First::Workload | First::Unknown => Ok(()),
+            First::Workload => Err(word.about(line, About::Plain)),
+            First::Unknown => {
+                let wanted = Wanted::First(self.stage);
+                Err(word.fault(line, Cause::Wanted(wanted)))
+            }
         }
     }
 
