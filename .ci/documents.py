@@ -145,16 +145,16 @@ def unfit(file, crate):
 
 
 def unsaid(file, shown):
-    """Returns why nobody can read what the file gets wrong: the gate's stand in a row of their page, and the others say it in their first line."""
+    """Returns why nobody can read what the file gets wrong: of the gate's wrong-bodies/gate says it, and the others say it in their first line."""
     if file.parent.name == "must-fail":
-        return "" if (file.parent.parent.name, file.stem) in shown else "it has no row in WRONG-BODIES"
+        return "" if (file.parent.parent.name, file.stem) in shown else "wrong-bodies/gate does not say what it gets wrong"
     return "" if re.match(r"says: [A-Z`\"].*\.\n", file.read_text()) else "its first line does not say what it gets wrong"
 
 
 def bodies():
     """Prints the wrong bodies: the file, and why it cannot be laid into its crate or nothing says what it gets wrong, if so; and each folder of them,
     and whether WHEN says another number."""
-    shown = set(quoted_names(pathlib.Path("docs/WRONG-BODIES.md")))
+    shown = set(re.findall(r"^(\w+)/(\w+): [A-Z].*[.]$", pathlib.Path("wrong-bodies/gate").read_text(), re.M))
     said = {}
     entry = r"^(\S+)(?:, by .*:\n)? +\S+ +\S+ +(\d+) tried.*?(?:(\d+) not yet)?$"
     for folder, tried, later in re.findall(entry, pathlib.Path("wrong-bodies/WHEN").read_text(), re.M):
@@ -169,6 +169,8 @@ def bodies():
         folder = place.relative_to("wrong-bodies").as_posix() if place.name != "must-fail" else ""
         if folder:
             print(place, "" if said.pop(folder, "no") == str(len(files)) else f"it has {len(files)}, and WHEN does not say so")
+    for crate, name in shown:
+        print(f"wrong-bodies/gate:{crate}/{name}", body(crate, name))
     for folder in said:
         print(f"wrong-bodies/{folder}", "it has none, and WHEN says so")
 
