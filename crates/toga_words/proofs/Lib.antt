@@ -1,0 +1,4 @@
+mod Simple
+mod Comes
+mod Builders
+mod Named
