@@ -1,0 +1,7 @@
+use Rattle.std.proofs.Common.{◌≡◌, ◌++◌, take}
+use Rattle.std.specs.List.{flat_map}
+use Rattle.toga_say.specs.Table.{cell}
+use Rattle.toga_say.proofs.table.push_cells.Given as goal
+
+abbrev pub invariant-loop-column : goal.invariant-loop-column
+invariant-loop-column l = l.out.items ≡ l.initial.out.items ++ flat_map (cell l.turns l.processors l.fn.p) (take l.column-index l.columns)

@@ -1,0 +1,12 @@
+pub mod Scene
+pub mod Lines
+pub mod Notes
+pub mod Names
+pub mod Thread
+pub mod Threads
+pub mod Circles
+pub mod Table
+pub mod Values
+pub mod Summary
+pub mod Search
+pub mod Given
